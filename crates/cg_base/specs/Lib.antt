@@ -1,0 +1,5 @@
+pub mod Exact
+pub mod Lists
+pub mod Reader
+pub mod Types
+pub mod formers
