@@ -2,7 +2,7 @@
 use Rattle.std.proofs.Common.{◌≡◌, ℕ, ◌<◌, List, [], ◌∷◌, length, get_or, map, refl, sym, ap, ◌∙◌}
 use Rattle.std.proofs.lemmas.List.{get_or-map}
 use Rattle.cg_base.specs.declared.ty.Part.{Part, fold_out-Part}
-use Rattle.cg_base.specs.Types.{layer, piece, type_of, part_of, Tau, Taus, none, more, Parts, end, part, Piece, to_taus, to_parts, tau_list, piece_list}
+use Rattle.cg_base.specs.Types.{layer, piece, type_of, part_of, Tau, Piece, to_taus, to_parts, tau_list, piece_list}
 
 -- a part, field by field
 pub piece_of : (p : Part) → part_of p ≡ record { name = p.name; ty = type_of p.ty; taken = p.taken }

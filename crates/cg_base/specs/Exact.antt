@@ -2,7 +2,7 @@
 -- most, and else stops at the first token that no program has there.
 use Rattle.std.specs.Prelude.{◌≡◌, List, [], ◌∷◌, ◌++◌, Bool, true, false, Option, Some, None, cond}
 use Rattle.std.proofs.Common.{refl, sym, ◌∙◌, ap, append_assoc}
-use Rattle.cg_base.specs.Reader.{Reader, Outcome, Parsed, Fault, run, ended, parsed, Begins, FaultAt, Exact, found, fault, Reads}
+use Rattle.cg_base.specs.Reader.{Reader, Outcome, Parsed, Fault, run, ended, parsed, Begins, Exact, found, fault, Reads}
 
 module _ {State Token Tree : Type 0} (reader : Reader State Token Tree) (Spells : List Token → Tree → Type 0) (laws : Reads reader Spells) where
   -- tokens one after another
@@ -45,7 +45,7 @@ module _ {State Token Tree : Type 0} (reader : Reader State Token Tree) (Spells 
 
   -- tokens that shut the reader somewhere spell nothing
   none_past : (all front rest : List Token) (t : Token) → all ≡ front ++ t ∷ rest → reader.is_open (reader.step (run reader reader.begin front) t) ≡ false
-    → (tree : Tree) → Spells all tree → ⊥
+      → (tree : Tree) → Spells all tree → ⊥
   none_past all front rest t parts closed tree spelled =
       let split : run reader reader.begin all ≡ run reader (reader.step (run reader reader.begin front) t) rest = ap (run reader reader.begin) parts ∙ run-append front (t ∷ rest) reader.begin in
       let no : reader.finish (run reader reader.begin all) ≡ None = ap reader.finish split ∙ laws.no_tree _ (shut_for_ever rest _ closed) in
@@ -76,7 +76,7 @@ module _ {State Token Tree : Type 0} (reader : Reader State Token Tree) (Spells 
         parts = m.1;
         viable = (rest_of.0, rest_of.1, laws.sound (m.0 ++ rest_of.0) rest_of.1 (ap reader.finish (run-append m.0 rest_of.0 reader.begin) ∙ rest_of.2));
         none = none_at ts m.0 rest m.1 m.3;
-        first = first_at m.0 rest m.3
+        first = first_at m.0 rest m.3;
       })
 
   -- the theorem

@@ -60,4 +60,4 @@ pub record Reads {State Token Tree : Type 0} (reader : Reader State Token Tree) 
   pub sound : (tokens : List Token) (tree : Tree) → reader.finish (run reader reader.begin tokens) ≡ Some tree → Spells tokens tree
   -- what is open can be completed
   pub viable : (tokens : List Token) → reader.is_open (run reader reader.begin tokens) ≡ true
-    → (rest : List Token) × (tree : Tree) × (reader.finish (run reader (run reader reader.begin tokens) rest) ≡ Some tree)
+      → (rest : List Token) × (tree : Tree) × (reader.finish (run reader (run reader reader.begin tokens) rest) ≡ Some tree)

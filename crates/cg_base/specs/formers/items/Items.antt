@@ -48,7 +48,7 @@ module _ (Row Other : RattleType) (along : Row.Denot → Other.Denot) where
   pub the_places : Alike Row Other along → Alike (outer.the_row Row) (outer.the_row Other) ((the_former this).map Row.Denot Other.Denot along)
   the_places alike =
       let of_fields = struct_places (inner.the_type Row) (inner.the_type Other) (vectors.mapped along, tt) _ (λ d. refl) refl
-          (laid _ _ _ (vectors.the_places allocator.the_row ghosts Row Other along alike), tt) in
+      (laid _ _ _ (vectors.the_places allocator.the_row ghosts Row Other along alike), tt) in
       view_places stored (list this) view (λ X Y k inside. refl) (λ X inside. refl) Row.Denot Other.Denot along (outer.the_row Row).coded (outer.the_row Other).coded
       (invariant Row.Denot) (invariant Other.Denot) (λ inside p q. refl) (λ inside p q. refl) (λ inside e. tt) (λ inside e. tt)
       (over (inner.the_row Row)) (over (inner.the_row Other)) of_fields

@@ -1,4 +1,4 @@
-use Rattle.std.proofs.Common.{◌≡◌, refl, sym, ap, ◌∙◌, ◌++◌, length, take, drop}
+use Rattle.std.proofs.Common.{refl, ap, ◌∙◌, ◌++◌, length, take, drop}
 use Rattle.cg_base.specs.Lists.{refilled}
 use Rattle.cg_base.proofs.items.Items.as_mut_slice.Goals as goal
 
