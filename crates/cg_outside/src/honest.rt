@@ -9,7 +9,7 @@ use cg_base::Name;
 use std::alloc::Global;
 
 /// Files in memory that never fail: each count is the constant 0. A name that isn't held reads as the empty file.
-/// docs/PRODUCT.md, "The traits of the outside".
+/// docs/LANGUAGE.md, "The outside".
 #[derive(Drop)]
 pub struct HonestFiles {
     alloc: Global,
@@ -58,7 +58,7 @@ impl Files for HonestFiles {
     }
 }
 
-/// An output in memory that never fails: its count is the constant 0. docs/PRODUCT.md, "The traits of the outside".
+/// An output in memory that never fails: its count is the constant 0. docs/LANGUAGE.md, "The outside".
 #[derive(Drop)]
 pub struct HonestSink {
     bytes: Vec<u8>,

@@ -1,5 +1,5 @@
 //! The outside: files and an output, each call with what it leaves held and with a count of its faults, and small ones
-//! in memory. docs/PRODUCT.md, "The traits of the outside", says what each of them does.
+//! in memory. docs/LANGUAGE.md, "The outside", says what each of them does.
 #![tactic(auto)]
 
 mod entries;

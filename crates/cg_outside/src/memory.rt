@@ -13,7 +13,7 @@ use cg_base::Name;
 use std::alloc::Global;
 
 /// Files in memory whose calls, of both kinds and numbered from 1, fail where their number is listed. A read of a name
-/// that isn't held fails too, and a failing write leaves the empty file. docs/PRODUCT.md, "The traits of the outside".
+/// that isn't held fails too, and a failing write leaves the empty file. docs/LANGUAGE.md, "The outside".
 #[derive(Drop)]
 pub struct MemoryFiles {
     alloc: Global,
@@ -119,7 +119,7 @@ impl Files for MemoryFiles {
 }
 
 /// An output in memory whose calls, numbered from 1, fail where their number is listed. A failing call appends nothing.
-/// docs/PRODUCT.md, "The traits of the outside".
+/// docs/LANGUAGE.md, "The outside".
 #[derive(Drop)]
 pub struct MemorySink {
     bytes: Vec<u8>,

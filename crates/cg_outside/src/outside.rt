@@ -9,7 +9,7 @@ ghost use Rattle.cg_outside.specs.Causes.{HasCause, HasRisen};
 use cg_base::Memory as OutOfMemory;
 use std::alloc::{AllocError, AllocFailed, Global};
 
-/// Why a call on files or on an output did not do its work. docs/PRODUCT.md, "The traits of the outside".
+/// Why a call on files or on an output did not do its work. docs/LANGUAGE.md, "The outside".
 #[derive(Clone, Copy, Debug, PartialEq, Eq)]
 pub enum FileFault {
     /// The outside failed, and the count of this call has risen.
@@ -42,7 +42,7 @@ impl<T: Drop> From<AllocFailed<T>> for FileFault {
     }
 }
 
-/// Files by their names, which are compared as texts. docs/PRODUCT.md, "The traits of the outside".
+/// Files by their names, which are compared as texts. docs/LANGUAGE.md, "The outside".
 pub trait Files {
     /// What they hold, where that is told.
     ghost held: { Self → Option Held };
@@ -73,7 +73,7 @@ pub trait Files {
         ensures reads { failed_reads self.new ≡ failed_reads self.old };
 }
 
-/// What takes the printed bytes. docs/PRODUCT.md, "The traits of the outside".
+/// What takes the printed bytes. docs/LANGUAGE.md, "The outside".
 pub trait Sink {
     /// The bytes taken so far, where they are told.
     ghost taken: { Self → Option (List ℕ) };
