@@ -19,6 +19,7 @@ module _ (A B : Type 0) (note : A → B) where
 pub derivation_is : (d : Deriv) → derivation_of d ≡ derivation (out-Deriv d).node (out-Deriv d).marks (to_derivations (map derivation_of (out-Deriv d).parts))
 derivation_is d = fold_out-Deriv Derivation derivation_layer d
 
+-- a list that was made the tree's own comes back
 pub list_trees : {A : Type 0} (ts : List (Tree A)) → tree_list (to_trees ts) ≡ ts
 unfolding to_trees tree_list
 list_trees [] = refl
@@ -34,6 +35,7 @@ unfolding to_derivations derivation_list
 list_derivations [] = refl
 list_derivations (d ∷ ds) = ap (λ l. d ∷ l) (list_derivations ds)
 
+-- so lists are equal where the tree's own are
 pub trees_same : {A : Type 0} (xs ys : List (Tree A)) → to_trees xs ≡ to_trees ys → xs ≡ ys
 trees_same xs ys e = sym (list_trees xs) ∙ ap tree_list e ∙ list_trees ys
 

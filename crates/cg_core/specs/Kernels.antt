@@ -44,13 +44,16 @@ pub record Function : Type 0 where
   pub ty : Arg
   pub body : Option Body
 
+-- what the body of a function stands for
 abbrev pub body_of : KBody → Body
 body_of b = record { param = b.param; term = the_term b.term }
 
+-- the same where there may be none
 abbrev pub maybe_body_of : Option KBody → Option Body
 maybe_body_of None = None
 maybe_body_of (Some b) = Some (body_of b)
 
+-- what a function stands for
 abbrev pub function_of : KFun → Function
 function_of f = record { at = f.at; vars = f.vars; ty = arg_of f.ty; body = maybe_body_of f.body }
 

@@ -124,9 +124,11 @@ module _ (A B : Type 0) (note : A → B) where
   abbrev pub tree_of : Term A → Tree B
   tree_of = fold-Term A (Shape B) (OneField B) (Tree B) shape_layer field_layer term_layer
 
+  -- the form of that tree
   abbrev pub shape_of : Form A → Shape B
   shape_of = fold-Form A (Shape B) (OneField B) (Tree B) shape_layer field_layer term_layer
 
+  -- what a field stands for
   abbrev pub field_of : FieldTerm A → OneField B
   field_of = fold-FieldTerm A (Shape B) (OneField B) (Tree B) shape_layer field_layer term_layer
 

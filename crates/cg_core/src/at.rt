@@ -13,7 +13,7 @@ pub struct At {
 }
 
 impl At {
-    /// An equal name at the same place.
+    /// An equal name at the same place. Want of memory is its one refusal.
     pub fn copy(&self, alloc: Global) -> Result<At, Memory>
         ensures { IfOk result (λ at. at ≡ self.now) }
     {
@@ -32,7 +32,7 @@ pub struct TyArg {
 }
 
 impl TyArg {
-    /// An equal type at the same place.
+    /// An equal type at the same place. Want of memory is its one refusal.
     pub fn copy(&self, alloc: Global) -> Result<TyArg, Memory>
         ensures { IfOk result (λ arg. arg_of arg ≡ arg_of self.now) }
     {

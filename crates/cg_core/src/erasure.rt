@@ -9,7 +9,8 @@ use crate::{FieldTerm, Form, Seen, Term, TyArg, Typed};
 use cg_base::{Items, Memory, Place};
 use std::alloc::Global;
 
-/// The kernel term of a core: the same term with its types off.
+/// The kernel term of a core: the same term with its types off (docs/LANGUAGE.md, "Typing"). Want of memory
+/// is its one refusal.
 #[cycle(erase)]
 pub fn erase(alloc: Global, core: &Term<Typed>) -> Result<Term<Place>, Memory>
     ensures { IfOk result (λ t. the_term t ≡ erased (the_core core.now)) }
