@@ -1,7 +1,7 @@
 // One token after another.
 ghost use Rattle.std.specs.Prelude.{◌≡◌, ◌==◌, length, IfOk};
 ghost use Rattle.cg_parser.specs.Tokens.{placed, placed_all};
-ghost use Rattle.cg_parser.specs.Reading.{Passes, Gives, kind_number, u32_in, name_in, atom_in, sign_at, u32_at, name_at, head_at, atom_at};
+ghost use Rattle.cg_parser.specs.Reading.{Passes, Gives, u32_in, name_in, atom_in, sign_at, u32_at, name_at, head_at, atom_at};
 
 use crate::digits::value;
 use crate::token::{Kind, Token};
@@ -25,16 +25,11 @@ impl<'a> Model for Reader<'a> {
     ghost view = { λ r. placed_all r.rest.now };
 }
 
-fn is_kind(a: Kind, b: Kind) -> bool
-    ensures { result ≡ (kind_number a == kind_number b) }
-{
-    a as u8 == b as u8
-}
-
+/// Whether a token is the type U32.
 fn is_u32(token: &Token<'_>) -> bool
     ensures { result ≡ u32_in (placed token.now).lexeme }
 {
-    is_kind(token.kind, Kind::Upper) && token.text == b"U32".as_slice()
+    token.kind == Kind::Upper && token.text == b"U32".as_slice()
 }
 
 /// The lower name that a token is, if it is one.
@@ -78,7 +73,7 @@ impl<'a> Reader<'a> {
         let Some(token) = self.rest.first() else {
             return false;
         };
-        if token.first || !is_kind(token.kind, kind) {
+        if token.first || token.kind != kind {
             return false;
         }
         self.rest = &self.rest[1..];
