@@ -1,5 +1,5 @@
 -- How far a reader has come that takes one token after another.
-use Rattle.std.proofs.Common.{◌≡◌, ℕ, ◌<◌, ◌≤◌, Bool, true, false, List, [], ◌∷◌, ◌++◌, length, refl, sym, ap, ◌∙◌, subst, arith, append_assoc, length-append, take, drop}
+use Rattle.std.proofs.Common.{◌≡◌, ℕ, Bool, true, false, List, [], ◌∷◌, ◌++◌, length, refl, sym, ap, ◌∙◌, subst, arith, append_assoc, take, drop}
 use Rattle.std.specs.Prelude.{◌==◌}
 use Rattle.std.specs.List.{prefix_len}
 use Rattle.std.proofs.lemmas.List.{append-nil, take-append-drop}
@@ -47,19 +47,10 @@ begins plus text f = (43, [], f, refl)
 token_stops : (bytes : List ℕ) (lexeme : Lexeme) (rest : List ℕ) → Takes bytes lexeme rest → Stops white bytes
 token_stops bytes lexeme rest t = let b = begins lexeme t.text t.fits in rw (t.parts, b.2) b.3
 
-pub token_long : (bytes : List ℕ) (lexeme : Lexeme) (rest : List ℕ) → Takes bytes lexeme rest → length rest < length bytes
-token_long bytes lexeme rest t = let b = begins lexeme t.text t.fits in rw (t.parts, b.2) (omega (arith, length-append b.1 rest))
-
-pub skip_long : (first now : Bool) (bytes rest : List ℕ) → Skips first bytes now rest → length rest ≤ length bytes
-skip_long first now bytes rest s = rw s.parts (omega (arith, length-append s.space rest))
-
 -- these tokens are read, and the rest is left
 pub record Reads (bytes : List ℕ) (out : List Placed) (first : Bool) (rest : List ℕ) : Type 0 where
   pub sound : (ts : List Placed) → Divides first rest ts → Divides true bytes (out ++ ts)
   pub complete : (ts : List Placed) → Divides true bytes ts → (more : List Placed) × (ts ≡ out ++ more) × Divides first rest more
-
-pub reads_start : (bytes : List ℕ) → Reads bytes [] true bytes
-reads_start bytes = record { sound = λ ts d. d; complete = λ ts d. (ts, refl, d) }
 
 no_end : (first now : Bool) (rest after : List ℕ) (b : ℕ) (more : List ℕ) → Skips first rest now after → after ≡ b ∷ more → white b ≡ false → Each white rest → ⊥
 no_end first now rest after b more s e w h = not_all white s.space b more w (subst (Each white) (s.parts ∙ ap (λ x. s.space ++ x) e) h)

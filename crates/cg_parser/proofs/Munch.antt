@@ -109,9 +109,6 @@ found bytes kind n e = subst (IsFound bytes) e (takes bytes)
 stands : (bytes : List ℕ) (lexeme : Lexeme) (rest : List ℕ) → (t : Takes bytes lexeme rest) → (front bytes ≡ Some (kind_of lexeme, length t.text)) × Allowed (kind_of lexeme) t.text
 stands bytes lexeme rest t = let a = again lexeme t.text rest t.fits t.ends in (ap front t.parts ∙ a.0, a.1)
 
-pub missed : (bytes : List ℕ) → front bytes ≡ None → (lexeme : Lexeme) (rest : List ℕ) → Takes bytes lexeme rest → ⊥
-missed bytes e lexeme rest t = let f = (stands bytes lexeme rest t).0 in cc
-
 -- what is found is of the kind of the token, and its text
 found_is : (bytes : List ℕ) (kind : Kind) (n : ℕ) (lexeme : Lexeme) (rest : List ℕ) → front bytes ≡ Some (kind, n) → (t : Takes bytes lexeme rest) → (kind ≡ kind_of lexeme) × (take n bytes ≡ t.text) × (drop n bytes ≡ rest)
 found_is bytes kind n lexeme rest e t =

@@ -31,10 +31,6 @@ one_span p xs r ys q h s k t e =
       sym (drop-append_seam xs r) ∙ ap (λ m. drop m (xs ++ r)) n ∙ ap (drop (length ys)) e ∙ drop-append_seam ys q,
     )
 
-pub Each-append : (p : ℕ → Bool) (xs ys : List ℕ) → Each p xs → Each p ys → Each p (xs ++ ys)
-Each-append p [] ys h k = k
-Each-append p (x ∷ xs) ys h k = (h.0, Each-append p xs ys h.1 k)
-
 -- a front that passes doesn't reach a byte that doesn't pass
 pub not_all : (p : ℕ → Bool) (xs : List ℕ) (b : ℕ) (rest : List ℕ) → p b ≡ false → Each p (xs ++ b ∷ rest) → ⊥
 not_all p [] b rest e h = let t : p b ≡ true = h.0 in cc

@@ -1,11 +1,12 @@
--- What begins at the front of bytes: its kind and its length, with words taken for names; and which texts aren't words.
+-- What begins at the front of bytes, as the parser finds it: its kind and its length, with words taken for names; and
+-- which texts are then no words. That it finds just the tokens of Tokens is proved in proofs/Munch.antt.
 use Rattle.std.specs.Prelude.{ℕ, ◌==◌, List, [], ◌∷◌, Some, None, if◌then◌else◌, ⊤}
 use Rattle.std.specs.declared.option.Option.{Option}
 use Rattle.std.specs.List.{prefix_len}
 use Rattle.cg_parser.specs.declared.token.Kind.{Kind}
 use Rattle.cg_parser.specs.declared.token.Kind.TheVariants.{Lower, Upper, Number, Colon, Arrow, Equals, Plus}
 use Rattle.cg_parser.specs.Bytes.{digit, small, large, word}
-use Rattle.cg_parser.specs.Tokens.{no_lower, no_upper, DiffersFrom}
+use Rattle.cg_parser.specs.Tokens.{lower_words, upper_words, DiffersFrom}
 
 -- a name, a word or a number
 abbrev pub word_front : List ℕ → Option (Kind × ℕ)
@@ -33,8 +34,8 @@ front (b ∷ bytes) =
 
 -- a text of this kind is a token, and no word
 abbrev pub Allowed : Kind → List ℕ → Type 0
-Allowed Lower text = DiffersFrom no_lower text
-Allowed Upper text = DiffersFrom no_upper text
+Allowed Lower text = DiffersFrom lower_words text
+Allowed Upper text = DiffersFrom upper_words text
 Allowed Number text = ⊤
 Allowed Colon text = ⊤
 Allowed Arrow text = ⊤

@@ -14,7 +14,7 @@ head name = record { lexeme = lower name; first = true }
 abbrev pub token : Lexeme → Placed
 token lexeme = record { lexeme = lexeme; first = false }
 
--- the tokens of the type U32
+-- the token of the type U32
 abbrev pub u32 : Placed
 u32 = token (upper (codes "U32"))
 

@@ -1,4 +1,5 @@
--- Reading tokens from left to right, as the parser does.
+-- Reading tokens from left to right, as the parser does. That it reads just the programs of Grammar is proved in
+-- proofs/Laws.antt.
 use Rattle.std.specs.Prelude.{◌≡◌, ℕ, Bool, true, false, ◌==◌, List, [], ◌∷◌, codes, Some, None, Result, Ok, Err, if◌then◌else◌}
 use Rattle.std.specs.declared.option.Option.{Option}
 use Rattle.std.specs.Str.{bytes_eq}

@@ -26,14 +26,14 @@ pub record Placed : Type 0 where
   pub first : Bool
 
 -- the words of the language that begin like a lower name, and `_`
-abbrev pub no_lower : List (List ℕ)
-no_lower =
+abbrev pub lower_words : List (List ℕ)
+lower_words =
     codes "_" ∷ codes "type" ∷ codes "let" ∷ codes "in" ∷ codes "and" ∷ codes "if" ∷ codes "then" ∷ codes "else"
     ∷ codes "take" ∷ codes "all" ∷ codes "not" ∷ codes "complement" ∷ codes "upcast" ∷ []
 
--- those that begin like an upper name
-abbrev pub no_upper : List (List ℕ)
-no_upper = codes "True" ∷ codes "False" ∷ []
+-- the words that begin like an upper name
+abbrev pub upper_words : List (List ℕ)
+upper_words = codes "True" ∷ codes "False" ∷ []
 
 -- a text is none of these words
 abbrev pub DiffersFrom : List (List ℕ) → List ℕ → Type 0
@@ -52,8 +52,8 @@ pub record IsNumber (text : List ℕ) : Type 0 where
 
 -- the texts of a token
 abbrev pub IsTextOf : Lexeme → List ℕ → Type 0
-IsTextOf (lower name) text = (name ≡ text) × IsName small no_lower text
-IsTextOf (upper name) text = (name ≡ text) × IsName large no_upper text
+IsTextOf (lower name) text = (name ≡ text) × IsName small lower_words text
+IsTextOf (upper name) text = (name ≡ text) × IsName large upper_words text
 IsTextOf (number value) text = (value ≡ value_of text) × IsNumber text
 IsTextOf colon text = text ≡ codes ":"
 IsTextOf arrow text = text ≡ codes "->"
@@ -93,7 +93,7 @@ abbrev pub Divides : Bool → List ℕ → List Placed → Type 0
 Divides first bytes [] = Each white bytes
 Divides first bytes (t ∷ ts) = (after rest : List ℕ) × Skips first bytes t.first after × Takes after t.lexeme rest × Divides false rest ts
 
--- what a token of the program stands for
+-- the token that a kind and a text make
 abbrev pub lexeme_of : Kind → List ℕ → Lexeme
 lexeme_of Lower text = lower text
 lexeme_of Upper text = upper text
@@ -103,8 +103,10 @@ lexeme_of Arrow text = arrow
 lexeme_of Equals text = equals
 lexeme_of Plus text = plus
 
+-- what a token of the parser stands for
 abbrev pub placed : Token → Placed
 placed t = record { lexeme = lexeme_of t.kind t.text.now; first = t.first }
 
+-- and what its tokens do
 abbrev pub placed_all : List Token → List Placed
 placed_all ts = map placed ts

@@ -1,13 +1,13 @@
 // The words of the language.
 ghost use Rattle.std.specs.Prelude.{◌↔◌, IsTrue};
 ghost use Rattle.cg_parser.specs.Front.{Allowed};
-ghost use Rattle.cg_parser.specs.Tokens.{no_lower, no_upper, DiffersFrom};
+ghost use Rattle.cg_parser.specs.Tokens.{lower_words, upper_words, DiffersFrom};
 
 use crate::token::Kind;
 
 /// Whether a text that begins like a lower name is one.
 fn is_lower(text: &[u8]) -> bool
-    ensures { IsTrue result ↔ DiffersFrom no_lower text.now }
+    ensures { IsTrue result ↔ DiffersFrom lower_words text.now }
 {
     match text {
         b"_" | b"type" | b"let" | b"in" | b"and" | b"if" | b"then" | b"else" => false,
@@ -18,7 +18,7 @@ fn is_lower(text: &[u8]) -> bool
 
 /// Whether a text that begins like an upper name is one.
 fn is_upper(text: &[u8]) -> bool
-    ensures { IsTrue result ↔ DiffersFrom no_upper text.now }
+    ensures { IsTrue result ↔ DiffersFrom upper_words text.now }
 {
     match text {
         b"True" | b"False" => false,
