@@ -13,6 +13,7 @@ use std::alloc::Global;
 /// Its only error is want of memory. It takes time linear in the number of bytes.
 pub fn parse(alloc: Global, bytes: &[u8]) -> Result<Option<Items<Item>>, Memory>
     ensures found { IfOk result (λ o. IfSome o (λ p. Spells bytes.now p)) }
+    ensures one { IfOk result (λ o. IfSome o (λ p. (q : List Item) → Spells bytes.now q → q ≡ p)) }
     ensures none { IfOk result (λ o. IfNone o ((p : List Item) → Spells bytes.now p → ⊥)) }
 {
     let Some(tokens) = tokens(alloc, bytes)? else {
