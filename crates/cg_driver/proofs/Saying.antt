@@ -89,21 +89,21 @@ done_decides : (source : List ℕ) → length source ≤ source_limit → Accept
 done_decides source short a = record {
   accepted = ((λ e. (short, a)), (λ h. refl));
   refused = ((λ e. absurd (cc)), (λ h. absurd (h.1 a)));
-  too_large = ((λ e. absurd (cc)), (λ long. absurd (omega arith)))
+  too_large = ((λ e. absurd (cc)), (λ long. absurd (omega arith)));
 }
 
 refused_decides : (source : List ℕ) → length source ≤ source_limit → (Accepted source → ⊥) → Decides source Refused
 refused_decides source short never = record {
   accepted = ((λ e. absurd (cc)), (λ h. absurd (never h.1)));
   refused = ((λ e. (short, never)), (λ h. refl));
-  too_large = ((λ e. absurd (cc)), (λ long. absurd (omega arith)))
+  too_large = ((λ e. absurd (cc)), (λ long. absurd (omega arith)));
 }
 
 large_decides : (source : List ℕ) → source_limit < length source → Decides source TooLarge
 large_decides source long = record {
   accepted = ((λ e. absurd (cc)), (λ h. let short : length source ≤ source_limit = h.0 in absurd (omega arith)));
   refused = ((λ e. absurd (cc)), (λ h. let short : length source ≤ source_limit = h.0 in absurd (omega arith)));
-  too_large = ((λ e. long), (λ h. refl))
+  too_large = ((λ e. long), (λ h. refl));
 }
 
 -- where contents are told, a verdict says exactly what the rules say of the file
