@@ -1,0 +1,5 @@
+pub mod BangSteps
+pub mod KindSteps
+pub mod Laws
+pub mod SubstSteps
+pub mod Widths

@@ -1,0 +1,14 @@
+//! Kinds, equality, bang and substitution of types, and their laws. docs/LANGUAGE.md, "Kinds and bang", says what
+//! they mean.
+#![tactic(auto)]
+
+mod change;
+mod equality;
+mod kind;
+pub mod law;
+mod replace;
+
+pub use change::bang;
+pub use equality::same;
+pub use kind::kinds_of;
+pub use replace::subst;

@@ -1,0 +1,68 @@
+// The token at the front of bytes.
+ghost use Rattle.std.specs.Prelude.{◌≡◌};
+ghost use Rattle.std.specs.List.{list_any};
+ghost use Rattle.std.specs.Str.{bytes_eq};
+ghost use Rattle.cg_lexer.specs.Front.{token_length, kind_of};
+ghost use Rattle.cg_lexer.specs.Tokens.{is_word as is_word_text};
+
+use crate::bytes::{digit_len, is_digit, is_large, is_small, name_len};
+use crate::number::literal;
+use crate::token::TokenKind;
+
+/// How many bytes the token at the front has; 0 where none stands there.
+pub(crate) fn token_len(bytes: &[u8]) -> usize
+    ensures { result ≡ token_length bytes.now }
+{
+    match bytes {
+        [first, ..] if is_small(*first) || is_large(*first) => name_len(bytes),
+        [first, ..] if is_digit(*first) => digit_len(bytes),
+        [b'(' | b')' | b':' | b'=' | b'+', ..] => 1,
+        [b'-', b'>', ..] => 2,
+        _ => 0,
+    }
+}
+
+/// The words of the language.
+const WORDS: [&[u8]; 14] = [
+    b"type",
+    b"let",
+    b"in",
+    b"and",
+    b"if",
+    b"then",
+    b"else",
+    b"take",
+    b"all",
+    b"not",
+    b"complement",
+    b"upcast",
+    b"True",
+    b"False",
+];
+
+fn is_among(text: &[u8], texts: &[&[u8]]) -> bool
+    ensures { result ≡ list_any (λ t. bytes_eq text.now t.now) texts.now }
+{
+    texts.iter().any(|other| text == *other)
+}
+
+fn is_word(text: &[u8]) -> bool
+    ensures { result ≡ is_word_text text.now }
+{
+    is_among(text, &WORDS)
+}
+
+/// The kind of a token with this text; the end's where it is empty.
+pub(crate) fn kind(text: &[u8]) -> TokenKind
+    ensures { result ≡ kind_of text.now }
+{
+    match text {
+        [] => TokenKind::End,
+        [first, ..] if is_digit(*first) => TokenKind::Number(literal(text)),
+        _ if is_word(text) => TokenKind::Word,
+        [first, ..] if is_large(*first) => TokenKind::Upper,
+        b"_" => TokenKind::Sign,
+        [first, ..] if is_small(*first) => TokenKind::Lower,
+        _ => TokenKind::Sign,
+    }
+}
