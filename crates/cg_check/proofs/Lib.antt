@@ -1,3 +1,10 @@
-pub mod Programs
-pub mod Sets
-pub mod Steps
+pub mod Basics
+pub mod Complete
+pub mod FlagLists
+pub mod KernelSteps
+pub mod Linear
+pub mod Main
+pub mod OnePass
+pub mod PassSteps
+pub mod SameTypes
+pub mod Sound

@@ -1,2 +1,5 @@
-pub mod Accepted
-pub mod Names
+pub mod Laws
+pub mod NormalForm
+pub mod Pass
+pub mod Uses
+pub mod View

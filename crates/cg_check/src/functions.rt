@@ -1,36 +1,93 @@
-// The names of a program's functions.
-#![tactic(auto, using(std::proofs::lemmas::Grind::common_steps, crate::proofs::Steps::name_steps))]
+// The check of a kernel: its functions in turn.
+#![tactic(auto, using(crate::proofs::KernelSteps::kernel_steps))]
 
-ghost use Rattle.std.specs.Prelude.{◌≡◌, IfOk};
-ghost use Rattle.cg_check.specs.Accepted.{signatures, definitions};
-ghost use Rattle.cg_check.specs.Names.{texts};
+ghost use Rattle.std.specs.Prelude.{◌≡◌, ◌||◌, length, map, IfOk, [], ◌∷◌, Some, Ok};
+ghost use Rattle.cg_base.specs.Types.{type_of};
+ghost use Rattle.cg_core.specs.Kernels.{the_term, function_of, body_of, kernel_of, maybe_body_of};
+ghost use Rattle.cg_faults.specs.declared.rule.Rule.TheVariants.{K3};
+ghost use Rattle.cg_core.specs.Small.{IsSmall, IsSmallBody, IsSmallKernel};
+ghost use Rattle.cg_check.specs.Pass.{need, last as last_of, check_body as body_pass, check_function as function_pass, check_kernel};
+ghost use Rattle.cg_check.specs.View.{bounds_of, unit_of, Agrees, Judges};
 
-use cg_base::Memory;
-use cg_surface::Item;
+use crate::Refusal;
+use crate::flags::no_uses;
+use crate::pass::{Got, Source, check_term};
+use cg_base::{Items, Memory, Place, Ty};
+use cg_core::{KBody, KFun, Kernel};
+use cg_faults::Rule;
+use cg_kinds::kinds_of;
 use std::alloc::Global;
 
-/// The names of the signatures, in order.
-pub fn signature_names<'a>(alloc: Global, items: &'a [Item]) -> Result<Vec<&'a [u8]>, Memory>
-    ensures { IfOk result (λ names. texts names.items ≡ signatures items.now) }
+/// Judges a kernel of small terms (docs/LANGUAGE.md, "Typing"): Ok exactly where it is accepted. `Rule` comes exactly
+/// where some event of it fails, with the rule and the place of the first that does; and `Memory` for want of memory.
+pub fn check(alloc: Global, kernel: &Kernel) -> Result<(), Refusal>
+    requires small { IsSmallKernel (kernel_of kernel.now) }
+    ensures { Judges (kernel_of kernel.now) result }
 {
-    let mut names = Vec::new(alloc);
-    for item in items {
-        if let Item::Signature { name } = item {
-            names.push(name.bytes())?;
-        }
-    }
-    Ok(names)
+    check_functions(alloc, &kernel.funs)
 }
 
-/// The names of the definitions, in order.
-pub fn definition_names<'a>(alloc: Global, items: &'a [Item]) -> Result<Vec<&'a [u8]>, Memory>
-    ensures { IfOk result (λ names. texts names.items ≡ definitions items.now) }
+fn check_functions(alloc: Global, functions: &Items<KFun>) -> Result<(), Refusal>
+    requires small { IsSmallKernel (map function_of functions.now) }
+    ensures { Agrees unit_of result (check_kernel (map function_of functions.now)) }
 {
-    let mut names = Vec::new(alloc);
-    for item in items {
-        if let Item::Define { name, .. } = item {
-            names.push(name.bytes())?;
-        }
+    for fun in functions.as_slice() {
+        check_function(alloc, functions, fun)?;
     }
-    Ok(names)
+    Ok(())
+}
+
+fn check_function(alloc: Global, functions: &Items<KFun>, fun: &KFun) -> Result<(), Refusal>
+    requires small { IsSmallBody (length (map function_of functions.now)) (maybe_body_of fun.now.body) }
+    ensures { Agrees unit_of result (function_pass (map function_of functions.now) (function_of fun.now)) }
+{
+    let Ty::Arrow(argument, gives) = &fun.ty.ty else {
+        return Err(Refusal::Rule(Rule::T4, fun.ty.place));
+    };
+    let Some(body) = &fun.body else {
+        return Ok(());
+    };
+    let source = Source {
+        alloc,
+        functions,
+        vars: &fun.vars,
+    };
+    check_body(&source, argument, gives, body)
+}
+
+// A body, in the context of its argument alone, checked against the result.
+fn check_body(source: &Source, argument: &Ty, gives: &Ty, body: &KBody) -> Result<(), Refusal>
+    requires small { IsSmall (length (map function_of source.now.functions.now)) 1 (the_term body.now.term) }
+    ensures { Agrees unit_of result (body_pass (map function_of source.now.functions.now) (bounds_of source.now.vars.now)
+        (type_of argument.now) (type_of gives.now) (Some (body_of body.now))) }
+{
+    let mut context = alone(source.alloc, argument)?;
+    let before = no_uses(source.alloc, 1)?;
+    let direction = Some(gives.copy(source.alloc)?);
+    let got = check_term(source, &mut context, &before, &direction, &body.term)?;
+    end_body(body.param, kinds_of(argument, source.vars).drop, got)
+}
+
+// The context of an argument alone.
+fn alone(alloc: Global, argument: &Ty) -> Result<Vec<Ty>, Memory>
+    ensures types { IfOk result (λ context. map type_of context.items ≡ type_of argument.now ∷ []) }
+    ensures one { IfOk result (λ context. length context.items ≡ 1) }
+{
+    let mut context = Vec::new(alloc);
+    context.push(argument.copy(alloc)?)?;
+    Ok(context)
+}
+
+// K3 where a body ends.
+fn end_body(binder: Place, drops: bool, got: Got) -> Result<(), Refusal>
+    requires one { length got.uses.items ≡ 1 }
+    ensures { Agrees unit_of result (need K3 binder (drops || last_of got.uses.items) (Ok tt)) }
+{
+    let mut uses = got.uses;
+    let used = uses.pop().unwrap_or(false);
+    if drops || used {
+        Ok(())
+    } else {
+        Err(Refusal::Rule(Rule::K3, binder))
+    }
 }

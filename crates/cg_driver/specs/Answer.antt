@@ -1,12 +1,16 @@
 -- What the program answers and prints, and why.
-use Rattle.std.specs.Prelude.{◌≡◌, ◌↔◌, ℕ, ◌<◌, ◌≤◌, List, ◌++◌, length, take, Some, None, codes, decimal, ◌⊎◌, ⊤}
+use Rattle.std.specs.Prelude.{◌≡◌, ◌↔◌, ℕ, Bool, true, false, ◌<◌, ◌≤◌, List, [], ◌++◌, length, take, Some, None, codes, decimal, if◌then◌else◌, ◌+◌, ◌∷◌, ◌⊎◌, ⊤}
 use Rattle.std.specs.declared.option.Option.{Option}
 use Rattle.std.specs.Io.KnownBytes.{append_known}
+use Rattle.cg_core.specs.Kernels.{Function, Body}
 use Rattle.cg_outside.specs.Held.{Held, IsReadOf}
 use Rattle.cg_outside.specs.Causes.{Rose}
-use Rattle.cg_surface.specs.declared.program.Item.{Item}
-use Rattle.cg_parser.specs.Grammar.{Spells, function_count}
-use Rattle.cg_check.specs.Accepted.{IsAccepted}
+use Rattle.cg_surface.specs.Trees.{Entry, program_depth}
+use Rattle.cg_surface.specs.Desugar.{name_faults, functions_of}
+use Rattle.cg_surface.specs.Circles.{mentions, NoCircle}
+use Rattle.cg_parser.specs.Grammar.{Spells}
+use Rattle.cg_parser.specs.Answers.{depth_limit, NoProgram}
+use Rattle.cg_typing.specs.Accepted.{IsAcceptedKernel}
 use Rattle.cg_driver.specs.declared.status.Status.{Status}
 use Rattle.cg_driver.specs.declared.status.Status.TheVariants.{Done, Refused, Usage, ReadFault, WriteFault, Memory, TooLarge}
 use Rattle.cg_driver.specs.Words.{checked_file}
@@ -15,9 +19,24 @@ use Rattle.cg_driver.specs.Words.{checked_file}
 abbrev pub source_limit : ℕ
 source_limit = 1048576
 
--- the bytes of a source are accepted: they spell a program that the typing rules accept
+-- a program is accepted: no name is at fault, no function mentions itself through bodies, and the typing rules derive each
+-- function of its kernel
+pub record IsAcceptedProgram (p : List Entry) : Type 0 where
+  pub names : name_faults p ≡ []
+  pub circles : NoCircle (mentions p)
+  pub typed : IsAcceptedKernel (functions_of p)
+
+-- the bytes of a source are accepted: they spell a program that is
 abbrev pub Accepted : List ℕ → Type 0
-Accepted source = (p : List Item) × Spells source p × IsAccepted p
+Accepted source = (p : List Entry) × Spells source p × IsAcceptedProgram p
+
+-- how many functions have a definition
+abbrev pub has_body : Function → Bool
+has_body f = elim f.body as (λ _. Bool) [ None ↦ false | Some body ↦ true ]
+
+abbrev pub function_count : List Function → ℕ
+function_count [] = 0
+function_count (f ∷ functions) = if has_body f then 1 + function_count functions else function_count functions
 
 -- the words ask for a file to be checked, and these bytes were read of it
 pub record Reads (words : List (List ℕ)) (held : Option Held) (file source : List ℕ) : Type 0 where
@@ -28,22 +47,48 @@ pub record Reads (words : List (List ℕ)) (held : Option Held) (file source : L
 abbrev pub IsLine : Status → List ℕ → Status → List ℕ → Type 0
 IsLine wanted line status text = (status ≡ wanted) × (text ≡ line)
 
+-- the lines of a source
+abbrev pub ok_line : List Function → List ℕ
+ok_line functions = codes "ok: " ++ decimal (function_count functions) ++ codes " functions\n"
+
+abbrev pub not_built_line : List ℕ → List ℕ
+not_built_line file = file ++ codes ": F1 form not built\n"
+
+abbrev pub not_accepted_line : List ℕ → List ℕ
+not_accepted_line file = file ++ codes ": F2 not accepted\n"
+
+-- What is said of a kernel, and with which status.
+abbrev pub JudgesKernel : List ℕ → List Function → Status → List ℕ → Type 0
+JudgesKernel file functions Done text = IsAcceptedKernel functions × (text ≡ ok_line functions)
+JudgesKernel file functions Refused text = (IsAcceptedKernel functions → ⊥) × (text ≡ not_accepted_line file)
+JudgesKernel file functions _ text = ⊥
+
 -- What is said of a program, and with which status.
-abbrev pub JudgesProgram : List ℕ → List Item → Status → List ℕ → Type 0
-JudgesProgram file p Done text = IsAccepted p × (text ≡ codes "ok: " ++ decimal (function_count p) ++ codes " functions\n")
-JudgesProgram file p Refused text = (IsAccepted p → ⊥) × (text ≡ file ++ codes ": F2 not accepted\n")
+abbrev pub JudgesProgram : List ℕ → List Entry → Status → List ℕ → Type 0
+JudgesProgram file p Done text = IsAcceptedProgram p × (text ≡ ok_line (functions_of p))
+JudgesProgram file p Refused text = (IsAcceptedProgram p → ⊥) × (text ≡ not_accepted_line file)
 JudgesProgram file p _ text = ⊥
 
--- The line of a refusal: the bytes spell no program of the grammar, or they spell one that isn't accepted.
+-- a program within the depth, which the source spells
+pub record SpellsWithin (source : List ℕ) (p : List Entry) : Type 0 where
+  pub spells : Spells source p
+  pub within : program_depth p ≤ depth_limit
+
+-- The line of a refusal: the bytes spell no program of the grammar, or one within the depth that isn't accepted.
 pub data Refuses (file source text : List ℕ) : Type 0 where
-  not_built : ((p : List Item) → Spells source p → ⊥) → text ≡ file ++ codes ": F1 form not built\n" → Refuses file source text
-  not_accepted : (p : List Item) → Spells source p → (Accepted source → ⊥) → text ≡ file ++ codes ": F2 not accepted\n" → Refuses file source text
+  not_built : NoProgram source → text ≡ not_built_line file → Refuses file source text
+  not_accepted : (p : List Entry) → SpellsWithin source p → (Accepted source → ⊥) → text ≡ not_accepted_line file → Refuses file source text
+
+-- The line of a limit: the source is too long, or it spells a program that is too deep.
+pub data Exceeds (source text : List ℕ) : Type 0 where
+  too_long : source_limit < length source → text ≡ codes "limit: source\n" → Exceeds source text
+  too_deep : length source ≤ source_limit → (p : List Entry) → Spells source p → depth_limit < program_depth p → text ≡ codes "limit: nesting\n" → Exceeds source text
 
 -- What is said of a source, and with which status.
 abbrev pub Judges : List ℕ → List ℕ → Status → List ℕ → Type 0
-Judges file source Done text = (p : List Item) × (length source ≤ source_limit) × Spells source p × IsAccepted p × (text ≡ codes "ok: " ++ decimal (function_count p) ++ codes " functions\n")
+Judges file source Done text = (p : List Entry) × (length source ≤ source_limit) × SpellsWithin source p × IsAcceptedProgram p × (text ≡ ok_line (functions_of p))
 Judges file source Refused text = (length source ≤ source_limit) × Refuses file source text
-Judges file source TooLarge text = (source_limit < length source) × (text ≡ codes "limit: source\n")
+Judges file source TooLarge text = Exceeds source text
 Judges file source _ text = ⊥
 
 -- What is said, before it is printed, and why. The counts are those of failed reads, by name.
@@ -73,8 +118,17 @@ IsVerdict WriteFault = ⊥
 IsVerdict Memory = ⊥
 IsVerdict status = ⊤
 
--- which sources a status says what of, both ways
+-- a source that spells a program within the depth
+abbrev pub SpellsSome : List ℕ → Type 0
+SpellsSome source = (p : List Entry) × SpellsWithin source p
+
+-- a source that spells a program beyond the depth
+abbrev pub SpellsDeep : List ℕ → Type 0
+SpellsDeep source = (p : List Entry) × Spells source p × (depth_limit < program_depth p)
+
+-- Which sources a status says what of, both ways: accepted within the limits; none is spelled, or one within the depth that
+-- isn't accepted; too long, or too deep.
 pub record Decides (source : List ℕ) (status : Status) : Type 0 where
-  pub accepted : (status ≡ Done) ↔ ((length source ≤ source_limit) × Accepted source)
-  pub refused : (status ≡ Refused) ↔ ((length source ≤ source_limit) × (Accepted source → ⊥))
-  pub too_large : (status ≡ TooLarge) ↔ (source_limit < length source)
+  pub accepted : (status ≡ Done) ↔ ((length source ≤ source_limit) × SpellsSome source × Accepted source)
+  pub refused : (status ≡ Refused) ↔ ((length source ≤ source_limit) × (NoProgram source ⊎ (SpellsSome source × (Accepted source → ⊥))))
+  pub too_large : (status ≡ TooLarge) ↔ ((source_limit < length source) ⊎ ((length source ≤ source_limit) × SpellsDeep source))

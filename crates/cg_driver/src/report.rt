@@ -1,16 +1,22 @@
 // What is said of a source, before it is printed.
-ghost use Rattle.std.specs.Prelude.{◌≡◌, ◌<◌, ◌^◌, ◌++◌, codes, IfOk, OnOk, string_bytes};
+ghost use Rattle.std.specs.Prelude.{◌≡◌, ◌<◌, ◌^◌, ◌++◌, codes, map, IfOk, OnOk, string_bytes, count_by, if◌then◌else◌};
+ghost use Rattle.std.specs.List.{All};
+ghost use Rattle.cg_core.specs.Kernels.{function_of, kernel_of};
+ghost use Rattle.cg_core.specs.Small.{IsSmallKernel};
 ghost use Rattle.cg_outside.specs.declared.outside.FileFault.{FileFault};
+ghost use Rattle.cg_surface.specs.Trees.{program_of, OnlySumsEntry};
 ghost use Rattle.cg_driver.specs.Words.{texts};
-ghost use Rattle.cg_driver.specs.Answer.{IsLine, JudgesProgram, Judges, Says};
+ghost use Rattle.cg_driver.specs.Answer.{IsLine, ok_line, not_built_line, not_accepted_line, has_body, JudgesKernel, JudgesProgram, Judges, Says};
 
 use crate::Status;
 use crate::words::file_of;
 use cg_base::Memory;
-use cg_check::is_accepted;
+use cg_check::{Refusal, check};
+use cg_core::{KFun, Kernel};
 use cg_outside::{FileFault, Files};
-use cg_parser::{count_functions, parse};
-use cg_surface::Item;
+use cg_parser::{ParseFault, parse};
+use cg_resolve::{Fault, resolve};
+use cg_surface::Program;
 use std::alloc::Global;
 
 /// No source has more bytes.
@@ -23,26 +29,9 @@ pub(crate) struct Report {
     pub text: String,
 }
 
-/// Judges a program that a source spells.
-fn judge_program(alloc: Global, file: &str, program: &[Item]) -> Result<Report, Memory>
-    ensures { IfOk result (λ r. JudgesProgram file.now program.now r.status (string_bytes r.text)) }
-{
-    if !is_accepted(alloc, program)? {
-        return Ok(Report {
-            status: Status::Refused,
-            text: format!(in alloc; "{file}: F2 not accepted\n")?,
-        });
-    }
-    let count = count_functions(program);
-    Ok(Report {
-        status: Status::Done,
-        text: format!(in alloc; "ok: {count} functions\n")?,
-    })
-}
-
 /// The refusal of bytes that spell no program.
 fn not_built(alloc: Global, file: &str) -> Result<Report, Memory>
-    ensures { IfOk result (λ r. IsLine Status.Refused (file.now ++ codes ": F1 form not built\n") r.status (string_bytes r.text)) }
+    ensures { IfOk result (λ r. IsLine Status.Refused (not_built_line file.now) r.status (string_bytes r.text)) }
 {
     Ok(Report {
         status: Status::Refused,
@@ -50,19 +39,92 @@ fn not_built(alloc: Global, file: &str) -> Result<Report, Memory>
     })
 }
 
-/// Judges a source: its size, whether it spells a program, and whether that is accepted.
+/// The refusal of a program that isn't accepted.
+fn not_accepted(alloc: Global, file: &str) -> Result<Report, Memory>
+    ensures { IfOk result (λ r. IsLine Status.Refused (not_accepted_line file.now) r.status (string_bytes r.text)) }
+{
+    Ok(Report {
+        status: Status::Refused,
+        text: format!(in alloc; "{file}: F2 not accepted\n")?,
+    })
+}
+
+/// The line of an accepted kernel.
+fn accepted(alloc: Global, functions: &[KFun]) -> Result<Report, Memory>
+    ensures { IfOk result (λ r. IsLine Status.Done (ok_line (map function_of functions.now)) r.status (string_bytes r.text)) }
+{
+    let count = count_functions(functions);
+    Ok(Report {
+        status: Status::Done,
+        text: format!(in alloc; "ok: {count} functions\n")?,
+    })
+}
+
+/// The line of a limit.
+fn beyond(alloc: Global, limit: &str) -> Result<Report, Memory>
+    ensures { IfOk result (λ r. IsLine Status.TooLarge (codes "limit: " ++ limit.now ++ codes "\n") r.status (string_bytes r.text)) }
+{
+    Ok(Report {
+        status: Status::TooLarge,
+        text: format!(in alloc; "limit: {limit}\n")?,
+    })
+}
+
+/// Whether a function has a definition, as 1 or 0.
+fn definitions_of(function: &KFun) -> usize
+    ensures { result ≡ (if has_body (function_of function.now) then 1 else 0) }
+{
+    usize::from(function.body.is_some())
+}
+
+/// How many functions have a definition.
+fn count_functions(functions: &[KFun]) -> usize
+    ensures { result ≡ count_by (λ f. has_body (function_of f)) functions.now }
+{
+    let mut count = 0;
+    for function in functions {
+        count += definitions_of(function);
+    }
+    count
+}
+
+/// Judges a kernel by the typing rules.
+fn judge_kernel(alloc: Global, file: &str, kernel: &Kernel) -> Result<Report, Memory>
+    requires { IsSmallKernel (kernel_of kernel.now) }
+    ensures { IfOk result (λ r. JudgesKernel file.now (kernel_of kernel.now) r.status (string_bytes r.text)) }
+{
+    match check(alloc, kernel) {
+        Ok(()) => accepted(alloc, kernel.funs.as_slice()),
+        Err(Refusal::Rule(_, _)) => not_accepted(alloc, file),
+        Err(Refusal::Memory) => Err(Memory),
+    }
+}
+
+/// Judges a program: its names, and then its kernel.
+fn judge_program(alloc: Global, file: &str, program: &Program) -> Result<Report, Memory>
+    requires { All OnlySumsEntry (program_of program.now) }
+    ensures { IfOk result (λ r. JudgesProgram file.now (program_of program.now) r.status (string_bytes r.text)) }
+{
+    match resolve(alloc, program) {
+        Ok(kernel) => judge_kernel(alloc, file, &kernel),
+        Err(Fault::Memory) => Err(Memory),
+        Err(_) => not_accepted(alloc, file),
+    }
+}
+
+/// Judges a source: its size, the program that it spells, its depth, and whether that program is accepted.
 fn judge(alloc: Global, file: &str, source: &[u8]) -> Result<Report, Memory>
     ensures { IfOk result (λ r. Judges file.now source.now r.status (string_bytes r.text)) }
 {
     if source.len() > SOURCE_LIMIT {
-        return Ok(Report {
-            status: Status::TooLarge,
-            text: format!(in alloc; "limit: source\n")?,
-        });
+        return beyond(alloc, "source");
     }
-    match parse(alloc, source)? {
-        Some(program) => judge_program(alloc, file, program.as_slice()),
-        None => not_built(alloc, file),
+    match parse(alloc, source) {
+        Ok(program) => judge_program(alloc, file, &program),
+        Err(ParseFault::S1(_)) => not_built(alloc, file),
+        Err(ParseFault::S3(_)) => not_built(alloc, file),
+        Err(ParseFault::Nesting) => beyond(alloc, "nesting"),
+        Err(ParseFault::Memory) => Err(Memory),
     }
 }
 

@@ -3,7 +3,7 @@ ghost use Rattle.std.specs.Prelude.{◌≡◌, ◌⊎◌, ◌<◌, ◌≤◌, �
 ghost use Rattle.cg_outside.specs.Held.{Held, bytes_at};
 ghost use Rattle.cg_outside.specs.Causes.{Rose};
 ghost use Rattle.cg_driver.specs.Words.{texts, checked_file};
-ghost use Rattle.cg_driver.specs.Answer.{Accepted, Says, Answers, Ends, Decides, IsVerdict, source_limit};
+ghost use Rattle.cg_driver.specs.Answer.{Accepted, SpellsSome, Says, Answers, Ends, Decides, IsVerdict, source_limit};
 
 use crate::Status;
 use crate::report::{Report, plan};
@@ -66,7 +66,7 @@ pub fn cogent<F: Files, O: Sink>(
 
     // Where all is in order and no count rose, the source is accepted, unless memory runs out.
     ensures complete { (held : Held) (file : List ℕ) → F.held files.old ≡ Some held → checked_file (texts words.now) ≡ Some file
-        → length (bytes_at held file) ≤ source_limit → Accepted (bytes_at held file) → F.failed_reads files.new file ≡ F.failed_reads files.old file
+        → length (bytes_at held file) ≤ source_limit → SpellsSome (bytes_at held file) → Accepted (bytes_at held file) → F.failed_reads files.new file ≡ F.failed_reads files.old file
         → (Rose (O.faults out.old) (O.faults out.new) → ⊥) → (result ≡ Status.Done) ⊎ (result ≡ Status.Memory) }
 {
     run(alloc, words, files, out)

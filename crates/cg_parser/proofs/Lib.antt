@@ -1,5 +1,8 @@
-pub mod Dividing
-pub mod Laws
-pub mod Munch
-pub mod NumberLaws
-pub mod Spans
+pub mod Complete
+pub mod Lexed
+pub mod Mapped
+pub mod One
+pub mod Says
+pub mod Short
+pub mod Sound
+pub mod Viable

@@ -1,6 +1,10 @@
-pub mod Bytes
-pub mod Front
+pub mod Answers
+pub mod Bounded
 pub mod Grammar
-pub mod Numbers
-pub mod Reading
-pub mod Tokens
+pub mod Laws
+pub mod Machine
+pub mod Plain
+pub mod Stack
+pub mod Stages
+pub mod Symbols
+pub mod Views

@@ -1,15 +1,20 @@
-//! Reads a source: from its bytes to its tokens, and from these to the program that they spell.
-//! docs/LANGUAGE.md, "Tokens" and "Programs", says what the tokens are, and which of them spell a program.
+//! Reads a source: from its bytes to the program that they spell, or to the first place where no program goes on.
+//! This is the small language's part of the grammar in docs/LANGUAGE.md.
 #![tactic(auto)]
 
-mod bytes;
-mod digits;
-mod divide;
-mod front;
-mod grammar;
-mod read;
-mod source;
-mod token;
-mod words;
+mod build;
+mod built;
+mod expression;
+mod fault;
+mod frame;
+mod item;
+mod law;
+mod phase;
+mod program;
+mod stack;
+mod symbol;
+mod types;
 
-pub use source::{count_functions, one_program, parse};
+pub use fault::ParseFault;
+pub use law::one_program;
+pub use program::parse;

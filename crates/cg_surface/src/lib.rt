@@ -1,7 +1,11 @@
-//! Surface programs: what a source spells, before names are resolved. This is the part for the language of
-//! docs/LANGUAGE.md so far: functions on `U32` by sums of names and numbers.
+//! Surface programs: what a source spells, before names are resolved. This is the small language's part: signatures
+//! of plain types, and definitions by names, numbers, `()`, parentheses, calls, sums and `let`.
 #![tactic(auto)]
 
+mod expr;
 mod program;
+mod written;
 
-pub use program::{Atom, Item};
+pub use expr::{SExpr, SForm};
+pub use program::{Item, Program};
+pub use written::{STy, STyForm};

@@ -1,23 +1,17 @@
-// Programs as trees.
-use cg_base::{Items, Name};
+// Programs, as they are written.
+use crate::{SExpr, STy};
+use cg_base::Items;
+use cg_core::At;
 
-/// What is added up: a name, or a number, which is None where it is above 2^64 - 1.
+/// A program: its items in order.
 #[derive(Debug, Drop)]
-pub enum Atom {
-    Name(Name),
-    Number(Option<u64>),
+pub struct Program {
+    pub items: Items<Item>,
 }
 
-/// A signature `name : U32 -> U32`, or a definition `name parameter = first + others`.
+/// A signature `name : type`, or a definition `name parameter = body`.
 #[derive(Debug, Drop)]
 pub enum Item {
-    Signature {
-        name: Name,
-    },
-    Define {
-        name: Name,
-        param: Name,
-        first: Atom,
-        others: Items<Atom>,
-    },
+    Signature { at: At, ty: STy },
+    Define { at: At, param: At, body: SExpr },
 }

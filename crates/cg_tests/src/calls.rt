@@ -1,6 +1,7 @@
 // Each call that takes memory, once, where there is plenty.
 use cg_base::{Items, Kinds, Name, Part, Place, Sigil, Ty, Word};
 use cg_core::{At, Form, Fun, Op, Term, TyArg, Typed, erase};
+use cg_kinds::subst;
 use cg_outside::{
     Failures, FileFault, Files, HonestFiles, HonestSink, MemoryFiles, MemorySink, Sink,
 };
@@ -46,6 +47,17 @@ fn base_calls_succeed(rt: HostRuntime) -> Result<(), Fail> {
     items.as_mut_slice()[0].share = true;
     assert_eq!(rt; items.get(0).map(|kinds| kinds.share), Some(true));
     assert_eq!(rt; items.get(1).map(|kinds| kinds.share), None);
+    Ok(())
+}
+
+#[test]
+#[tactic(auto, unfolding(cg_kinds::specs::Kinds::width))]
+fn kinds_calls_succeed(rt: HostRuntime) -> Result<(), Fail> {
+    let alloc = rt.alloc();
+    let mut args = Items::new(alloc);
+    args.push(Ty::Bool)?;
+    let ty = subst(alloc, &Ty::Unit, &args)?;
+    assert!(rt; matches!(ty, Ty::Unit));
     Ok(())
 }
 

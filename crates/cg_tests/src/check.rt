@@ -41,8 +41,40 @@ fn expect(
     Ok(())
 }
 
+/// Calls `check` on a source, and compares its status and, where given, what it prints.
+fn judged(
+    rt: &impl Abort,
+    alloc: Global,
+    source: &str,
+    code: u8,
+    printed: Option<&str>,
+) -> Result<(), Fail> {
+    let mut files = MemoryFiles::new(alloc, one_file(alloc, source.as_bytes())?, Vec::new(alloc));
+    let mut out = MemorySink::new(alloc, Vec::new(alloc));
+    let status = cogent(
+        alloc,
+        &words_of(alloc, &["check", "a.cg"])?,
+        &mut files,
+        &mut out,
+    );
+    assert_eq!(rt; status.code(), code, "at {source}");
+    if let Some(printed) = printed {
+        assert_eq!(rt; out.bytes(), printed.as_bytes());
+    }
+    Ok(())
+}
+
+/// Some copies of a text.
+fn copies(alloc: Global, text: &str, count: usize) -> Result<String, Fail> {
+    let mut all = String::new(alloc);
+    for _ in 0..count {
+        all.push_str(text)?;
+    }
+    Ok(all)
+}
+
 #[test]
-fn sources_are_judged(rt: HostRuntime) -> Result<(), Fail> {
+fn tokens_and_items_are_read(rt: HostRuntime) -> Result<(), Fail> {
     let alloc = rt.alloc();
     for (source, code, printed) in [
         ("", 0, "ok: 0 functions\n"),
@@ -56,24 +88,8 @@ fn sources_are_judged(rt: HostRuntime) -> Result<(), Fail> {
             "a.cg: F1 form not built\n",
         ),
         ("f:U32->U32\nf\tx\n =\r\n x+\n 1", 0, "ok: 1 functions\n"),
-        ("f : U32 -> U32\nf x = 4294967295\n", 0, "ok: 1 functions\n"),
-        (
-            "f : U32 -> U32\nf x = 4294967296\n",
-            1,
-            "a.cg: F2 not accepted\n",
-        ),
-        (
-            "f : U32 -> U32\nf x = 18446744073709551616\n",
-            1,
-            "a.cg: F2 not accepted\n",
-        ),
-        (
-            "f : U32 -> U32\nf x = 00000000000000000000000001\n",
-            0,
-            "ok: 1 functions\n",
-        ),
         ("f : U8 -> U8\nf x = x\n", 1, "a.cg: F1 form not built\n"),
-        ("f : U32\n", 1, "a.cg: F1 form not built\n"),
+        ("f : U32 -> U32 -> U32\n", 1, "a.cg: F1 form not built\n"),
         (" f : U32 -> U32\n", 1, "a.cg: F1 form not built\n"),
         ("f : U32 -> U32 f x = x\n", 1, "a.cg: F1 form not built\n"),
         (
@@ -89,27 +105,18 @@ fn sources_are_judged(rt: HostRuntime) -> Result<(), Fail> {
         ("f : U32 -> U32\nf _ = 1\n", 1, "a.cg: F1 form not built\n"),
         ("f : U32 -> U32\nf _x' = _x'\n", 0, "ok: 1 functions\n"),
         ("-- f\n", 1, "a.cg: F1 form not built\n"),
-        ("f : U32 -> U32\nf x = y\n", 1, "a.cg: F2 not accepted\n"),
+        ("f : U32 -> U32\nf x = (x\n", 1, "a.cg: F1 form not built\n"),
         (
-            "f : U32 -> U32\nf x = x + f\n",
+            "f : U32 -> U32\nf x = x + let y = 1 in y\n",
             1,
-            "a.cg: F2 not accepted\n",
-        ),
-        ("f : U32 -> U32\nf f = f\n", 0, "ok: 1 functions\n"),
-        ("f x = x\n", 1, "a.cg: F2 not accepted\n"),
-        (
-            "f : U32 -> U32\nf : U32 -> U32\n",
-            1,
-            "a.cg: F2 not accepted\n",
+            "a.cg: F1 form not built\n",
         ),
         (
-            "f : U32 -> U32\nf x = x\nf y = y\n",
-            1,
-            "a.cg: F2 not accepted\n",
+            "f : U32 -> U32\nf x = x + (let y = x in y)\n",
+            0,
+            "ok: 1 functions\n",
         ),
-        ("new : U32 -> U32\n", 1, "a.cg: F2 not accepted\n"),
-        ("seq32_break : U32 -> U32\n", 1, "a.cg: F2 not accepted\n"),
-        ("seq32_broken : U32 -> U32\n", 0, "ok: 0 functions\n"),
+        ("f : U32 -> ( )\nf x = (\n )\n", 0, "ok: 1 functions\n"),
     ] {
         expect(
             &rt,
@@ -120,6 +127,148 @@ fn sources_are_judged(rt: HostRuntime) -> Result<(), Fail> {
             printed,
         )?;
     }
+    Ok(())
+}
+
+#[test]
+fn names_are_judged(rt: HostRuntime) -> Result<(), Fail> {
+    let alloc = rt.alloc();
+    for (source, code) in [
+        ("f : U32 -> U32\nf x = y\n", 1),
+        ("f : U32 -> U32\nf f = f\n", 0),
+        ("f x = x\n", 1),
+        ("f : U32 -> U32\nf : U32 -> U32\n", 1),
+        ("f : U32 -> U32\nf x = x\nf y = y\n", 1),
+        ("new : U32 -> U32\n", 1),
+        ("seq32_broken : U32 -> U32\n", 0),
+        ("f : U32 -> U32\nf x = new x\n", 1),
+        ("f : U32 -> U32\nf x = let y = y in x\n", 1),
+        ("f : U32 -> U32\nf x = f x\n", 1),
+        ("f : U32 -> U32\nf x = g x\ng : U32 -> U32\ng x = x\n", 0),
+        (
+            "f : U32 -> U32\nf x = g x\ng : U32 -> U32\ng x = h x\nh : U32 -> U32\nh x = f x\n",
+            1,
+        ),
+        (
+            "f : U32 -> U32\nf x = let g = x in g\ng : U32 -> U32\ng x = f x\n",
+            0,
+        ),
+    ] {
+        let printed = match code {
+            0 => None,
+            _ => Some("a.cg: F2 not accepted\n"),
+        };
+        judged(&rt, alloc, source, code, printed)?;
+    }
+    Ok(())
+}
+
+#[test]
+fn types_are_judged(rt: HostRuntime) -> Result<(), Fail> {
+    let alloc = rt.alloc();
+    for (source, code) in [
+        ("f : U32 -> U32\nf x = let y = x + 1 in y + x\n", 0),
+        ("f : SysState -> SysState\nf s = let t = s in t\n", 0),
+        ("f : SysState -> ()\nf s = ()\n", 1),
+        ("f : SysState -> SysState\nf s = let t = s in s\n", 1),
+        ("f : U32 -> U32\nf x = let y = 1 in x\n", 1),
+        ("f : U32\n", 1),
+        ("f : U32 -> U32\nf x = 4294967295\n", 0),
+        ("f : U32 -> U32\nf x = 4294967296\n", 1),
+        ("f : U32 -> U32\nf x = 18446744073709551616\n", 1),
+        ("f : U32 -> U32\nf x = 00000000000000000000000001\n", 0),
+        ("f : U32 -> U32\nf x = x + x + x\n", 0),
+        ("f : U32 -> U32\nf x = 1 + 2\n", 0),
+        ("f : U32 -> U32\nf x = let y = x + 1 + x in 2 + y\n", 0),
+        ("f : U32 -> U32\nf x = let y = 1 + 2 in y\n", 1),
+        ("f : U32 -> U32\nf x = x + ()\n", 1),
+        ("f : () -> ()\nf x = x + x\n", 1),
+        ("f : U32 -> ()\nf x = let y = () in let z = y in z\n", 0),
+        (
+            "f : SysState -> SysState\nf s = let t = s in let u = t in u\n",
+            0,
+        ),
+        (
+            "f : SysState -> SysState\nf s = let t = s in let t = t in t\n",
+            0,
+        ),
+        (
+            "e : SysState -> ()\nf : SysState -> ()\nf s = let t = s in e t\n",
+            0,
+        ),
+        (
+            "e : SysState -> ()\nf : SysState -> ()\nf s = let t = e s in e s\n",
+            1,
+        ),
+        (
+            "e : SysState -> ()\nf : SysState -> SysState\nf s = let s = s in let u = e s in s\n",
+            1,
+        ),
+        ("f : U32 -> U32\nf x = 1 x\n", 1),
+        ("f : U32 -> U32\nf x = x 1\n", 1),
+        ("g : U32 -> U32\nf : U32 -> U32\nf x = (g) (g x)\n", 0),
+        (
+            "g : U32 -> U32\nf : U32 -> U32\nf x = let h = g in h (h x)\n",
+            0,
+        ),
+        ("g : U32 -> U32\nf : U32 -> U32\nf x = g\n", 1),
+        ("g : U32 -> ()\nf : U32 -> U32\nf x = let u = g x in x\n", 0),
+        ("g : U32 -> ()\nf : U32 -> U32\nf x = g x\n", 1),
+        ("g : () -> U32\nf : U32 -> U32\nf x = g () + g () + x\n", 0),
+        ("g : () -> U32\nf : U32 -> U32\nf x = g x\n", 1),
+    ] {
+        let printed = match code {
+            0 => None,
+            _ => Some("a.cg: F2 not accepted\n"),
+        };
+        judged(&rt, alloc, source, code, printed)?;
+    }
+    Ok(())
+}
+
+#[test]
+fn depth_is_limited(rt: HostRuntime) -> Result<(), Fail> {
+    let alloc = rt.alloc();
+    let deep = "limit: nesting\n";
+    for (pairs, code, printed) in [
+        (500, 0, "ok: 1 functions\n"),
+        (1_023, 0, "ok: 1 functions\n"),
+        (1_024, 9, deep),
+        (2_000, 9, deep),
+        (100_000, 9, deep),
+    ] {
+        let opened = copies(alloc, "(", pairs)?;
+        let closed = copies(alloc, ")", pairs)?;
+        let source = format!(in alloc; "f : U32 -> U32\nf x = {opened}x{closed}\n")?;
+        expect(
+            &rt,
+            alloc,
+            &["check", "a.cg"],
+            source.as_bytes(),
+            code,
+            printed,
+        )?;
+    }
+    let sums = copies(alloc, " + x", 1_000)?;
+    let source = format!(in alloc; "f : U32 -> U32\nf x = x{sums}\n")?;
+    expect(
+        &rt,
+        alloc,
+        &["check", "a.cg"],
+        source.as_bytes(),
+        0,
+        "ok: 1 functions\n",
+    )?;
+    let lets = copies(alloc, "let x = x in ", 1_000)?;
+    let source = format!(in alloc; "f : SysState -> SysState\nf x = {lets}x\n")?;
+    expect(
+        &rt,
+        alloc,
+        &["check", "a.cg"],
+        source.as_bytes(),
+        0,
+        "ok: 1 functions\n",
+    )?;
     Ok(())
 }
 

@@ -1,0 +1,52 @@
+-- What the check of a kernel goes by.
+use Rattle.std.proofs.Common.{◌≡◌, ℕ, zero, suc, ◌<◌, ◌+◌, List, [], ◌∷◌, length, map, drop, get_or, Option, Some, None, Result, Ok, Err, refl, sym, ◌∙◌, arith, add-one}
+use Rattle.std.specs.List.{All}
+use Rattle.cg_core.specs.declared.kernel.KFun.{KFun}
+use Rattle.cg_core.specs.Kernels.{Function, function_of}
+use Rattle.cg_faults.specs.Faults.{Fault, kernel_events, first_failing}
+use Rattle.cg_check.specs.declared.refusal.Refusal.{Refusal}
+use Rattle.cg_check.specs.declared.refusal.Refusal.TheVariants.{Rule as Broken, Memory}
+use Rattle.cg_check.specs.Pass.{bind, check_function, check_all, check_kernel, verdict}
+use Rattle.cg_core.specs.Small.{IsSmallBody, IsSmallKernel}
+use Rattle.cg_check.specs.View.{unit_of, Agrees, Judges}
+use Rattle.cg_check.proofs.OnePass.{none_fails, all_hold}
+use Rattle.cg_check.proofs.Main.{kernels, first_fault}
+
+no_fault : (o : Option Fault) → verdict o ≡ Ok tt → o ≡ None
+no_fault None h = refl
+no_fault (Some fault) h = absurd (cc)
+
+this_fault : (o : Option Fault) (fault : Fault) → verdict o ≡ Err fault → o ≡ Some fault
+this_fault None fault h = absurd (cc)
+this_fault (Some other) fault h = cc
+
+-- what the pass answers is a judgement
+pub judged : (functions : List Function) → IsSmallKernel functions → (r : Result (Unit {0}) Refusal) → Agrees unit_of r (check_kernel functions) → Judges functions r
+judged functions small (Ok u) h =
+    (kernels functions small).0 (none_fails (kernel_events functions) (no_fault (first_failing (kernel_events functions)) (sym (first_fault functions small) ∙ h)))
+judged functions small (Err (Broken rule place)) h =
+    let first = this_fault (first_failing (kernel_events functions)) (rule, place) (sym (first_fault functions small) ∙ h) in
+    record {
+      first = first;
+      none = λ accepted. let none = all_hold (kernel_events functions) ((kernels functions small).1 accepted) in cc;
+    }
+judged functions small (Err Memory) h = tt
+
+-- the functions from one on
+from_suc : (functions : List Function) (fs : List KFun) (i : ℕ) (d : KFun) → i < length fs
+    → check_all functions (map function_of (drop i fs)) ≡ bind (check_function functions (function_of (get_or fs i d))) (λ u. check_all functions (map function_of (drop (suc i) fs)))
+from_suc functions [] i d h = absurd (omega arith)
+from_suc functions (f ∷ fs) zero d h = refl
+from_suc functions (f ∷ fs) (suc i) d h = from_suc functions fs i d (omega arith)
+
+pub from_here : (functions : List Function) (fs : List KFun) (i : ℕ) (d : KFun) → i < length fs
+    → check_all functions (map function_of (drop i fs)) ≡ bind (check_function functions (function_of (get_or fs i d))) (λ u. check_all functions (map function_of (drop (i + 1) fs)))
+from_here functions fs i d h = rw (add-one i) (from_suc functions fs i d h)
+
+-- each body of a small kernel is small
+pub small_body : (n : ℕ) (fs : List KFun) (i : ℕ) (d : KFun) → i < length fs → All (λ (f : Function). IsSmallBody n f.body) (map function_of fs) → IsSmallBody n (function_of (get_or fs i d)).body
+small_body n [] i d h small = absurd (omega arith)
+small_body n (f ∷ fs) zero d h small = small 0 (function_of f) (omega arith)
+small_body n (f ∷ fs) (suc i) d h small = small_body n fs i d (omega arith) (λ k e lt. small (suc k) e (omega arith))
+
+pub ruleset kernel_steps = (judged, from_here, small_body)

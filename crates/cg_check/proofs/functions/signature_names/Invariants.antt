@@ -1,7 +1,0 @@
-use Rattle.std.proofs.Common.{◌≡◌, take}
-use Rattle.cg_check.specs.Accepted.{signatures}
-use Rattle.cg_check.specs.Names.{texts}
-use Rattle.cg_check.proofs.functions.signature_names.Given as goal
-
-abbrev pub invariant-loop-item : goal.invariant-loop-item
-invariant-loop-item l = texts l.names.items ≡ signatures (take l.item-index l.items)

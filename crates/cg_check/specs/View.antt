@@ -1,0 +1,46 @@
+-- What the checker's values stand for, and that they agree with the pass.
+use Rattle.std.specs.Prelude.{◌≡◌, Option, Some, None, Result, Ok, Err, List, map, ⊤}
+use Rattle.cg_base.specs.declared.kind.Bound.{Bound}
+use Rattle.cg_base.specs.declared.kind.Kinds.{Kinds}
+use Rattle.cg_base.specs.declared.place.Place.{Place}
+use Rattle.cg_base.specs.declared.ty.Ty.{Ty}
+use Rattle.cg_base.specs.Types.{Tau, type_of}
+use Rattle.cg_core.specs.Kernels.{Function}
+use Rattle.cg_typing.specs.Accepted.{IsAcceptedKernel}
+use Rattle.cg_faults.specs.Faults.{kernel_events, first_failing}
+use Rattle.cg_faults.specs.declared.rule.Rule.{Rule}
+use Rattle.cg_check.specs.declared.pass.Got.{Got as Got'}
+use Rattle.cg_check.specs.declared.refusal.Refusal.{Refusal}
+use Rattle.cg_check.specs.declared.refusal.Refusal.TheVariants.{Rule as Broken, Memory}
+use Rattle.cg_check.specs.Pass.{Out, Got}
+
+-- a direction: none to synthesise, or the type that is checked against
+abbrev pub direction_of : Option Ty → Option Tau
+direction_of None = None
+direction_of (Some t) = Some (type_of t)
+
+abbrev pub bounds_of : List Bound → List Kinds
+bounds_of = map (λ (b : Bound). b.kinds)
+
+abbrev pub got_of : Got' → Got
+got_of g = (type_of g.ty, g.uses.items)
+
+abbrev pub unit_of : Unit {0} → Unit {0}
+unit_of u = u
+
+-- the answer is that of the pass, unless memory is wanting
+abbrev pub Agrees : {A B : Type 0} → (A → B) → Result A Refusal → Out B → Type 0
+Agrees view (Ok a) answer = answer ≡ Ok (view a)
+Agrees view (Err (Broken rule place)) answer = answer ≡ Err (rule, place)
+Agrees view (Err Memory) answer = ⊤
+
+-- a kernel is refused by this rule at this place: its first event that fails is of that rule and place, and it isn't accepted
+pub record IsRefused (functions : List Function) (rule : Rule) (place : Place) : Type 0 where
+  pub first : first_failing (kernel_events functions) ≡ Some (rule, place)
+  pub none : IsAcceptedKernel functions → ⊥
+
+-- what the checker's answer says of a kernel: it is accepted, or refused by a rule at a place, unless memory is wanting
+abbrev pub Judges : List Function → Result (Unit {0}) Refusal → Type 0
+Judges functions (Ok u) = IsAcceptedKernel functions
+Judges functions (Err (Broken rule place)) = IsRefused functions rule place
+Judges functions (Err Memory) = ⊤

@@ -1,0 +1,10 @@
+pub mod Answers
+pub mod Behind
+pub mod Circle
+pub mod Defined
+pub mod Edges
+pub mod Entries
+pub mod Names
+pub mod Reached
+pub mod Says
+pub mod Signed

@@ -1,0 +1,4 @@
+pub mod Accepted
+pub mod Contexts
+pub mod Laws
+pub mod Rules

@@ -1,0 +1,8 @@
+//! The typing rules: contexts, splits, derivations. This is the small language's part: the rows of variables, unit,
+//! literals, functions, sums, calls and `let`; a term of another form has no derivation yet. docs/LANGUAGE.md, "Typing",
+//! says the rules in words.
+#![tactic(auto)]
+
+mod law;
+
+pub use law::{linear_goes_one_way, splits_lose_nothing};
