@@ -2,13 +2,11 @@
 -- source without type arguments, and every form is one that has a row.
 use Rattle.std.specs.Prelude.{ℕ, suc, ◌<◌, Option, Some, None, List, [], length, ⊤}
 use Rattle.std.specs.List.{All}
-use Rattle.cg_base.specs.declared.fun.Fun.{Fun}
 use Rattle.cg_base.specs.declared.fun.Fun.TheVariants.{User}
 use Rattle.cg_base.specs.declared.place.Place.{Place}
-use Rattle.cg_core.specs.declared.op.Op.{Op}
 use Rattle.cg_core.specs.declared.op.Op.TheVariants.{Add}
 use Rattle.cg_core.specs.Kernels.{Function, Body}
-use Rattle.cg_core.specs.Terms.{Tree, term, Shape, var, unit, lit, fun, op, app, lets, Trees, none, more}
+use Rattle.cg_core.specs.Terms.{Tree, term, Shape, var, unit, lit, fun, op, app, lets, none, more}
 
 abbrev mutual
   -- a term in a context of this length, among so many functions

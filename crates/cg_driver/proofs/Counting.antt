@@ -1,5 +1,5 @@
 -- Counting the functions of a kernel that have a body.
-use Rattle.std.proofs.Common.{◌≡◌, map, refl, List, [], ◌∷◌}
+use Rattle.std.proofs.Common.{◌≡◌, map, refl, List}
 use Rattle.std.specs.List.{count_by}
 use Rattle.std.proofs.lemmas.List.Recursion.{is_count_by}
 use Rattle.cg_core.specs.declared.kernel.KFun.{KFun}

@@ -10,7 +10,7 @@ use Rattle.cg_outside.specs.Causes.{Rose}
 use Rattle.cg_driver.specs.Words.{checked_file}
 use Rattle.cg_driver.specs.declared.status.Status.{Status}
 use Rattle.cg_driver.specs.declared.status.Status.TheVariants.{Done, Refused, Usage, ReadFault, WriteFault, Memory, StepLimit, HeapRefused, CertRefused, TooLarge}
-use Rattle.cg_driver.specs.Answer.{Accepted, IsAcceptedProgram, Reads, Refuses, not_built, not_accepted, Exceeds, too_long, too_deep, SpellsWithin, SpellsSome, SpellsDeep, Says, Answers, Decides, IsVerdict, source_limit}
+use Rattle.cg_driver.specs.Answer.{Accepted, Reads, Refuses, not_built, not_accepted, Exceeds, too_long, too_deep, SpellsSome, SpellsDeep, Says, Answers, Decides, IsVerdict, source_limit}
 
 some_is : {A : Type 0} (x y : A) → ◌≡◌ {A = Option A} (Some x) (Some y) → x ≡ y
 some_is x y e = cc

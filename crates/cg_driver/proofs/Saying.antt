@@ -1,6 +1,6 @@
 -- From the parts of a call to what is said of a source.
-use Rattle.std.proofs.Common.{◌≡◌, ◌<◌, ◌≤◌, ℕ, List, [], Option, Result, Ok, Err, length, refl, sym, subst}
-use Rattle.std.specs.Prelude.{◌++◌, codes, IfOk, string_bytes}
+use Rattle.std.proofs.Common.{◌≡◌, ◌<◌, ◌≤◌, ℕ, List, [], Option, Result, Ok, Err, length, sym, subst}
+use Rattle.std.specs.Prelude.{codes, IfOk, string_bytes}
 use Rattle.cg_core.specs.Kernels.{Function}
 use Rattle.cg_surface.specs.Trees.{Entry, program_depth}
 use Rattle.cg_surface.specs.Desugar.{name_faults, functions_of}
@@ -12,7 +12,7 @@ use Rattle.cg_outside.specs.Held.{Held}
 use Rattle.cg_driver.specs.declared.report.Report.{Report}
 use Rattle.cg_driver.specs.declared.status.Status.{Status}
 use Rattle.cg_driver.specs.declared.status.Status.TheVariants.{Done, Refused, Usage, ReadFault, WriteFault, Memory, StepLimit, HeapRefused, CertRefused, TooLarge}
-use Rattle.cg_driver.specs.Answer.{Reads, IsLine, IsAcceptedProgram, ok_line, not_built_line, JudgesKernel, JudgesProgram, SpellsWithin, Refuses, not_built, not_accepted, Exceeds, too_long, too_deep, Judges, Says, source_limit}
+use Rattle.cg_driver.specs.Answer.{Reads, IsLine, IsAcceptedProgram, ok_line, not_built_line, JudgesKernel, JudgesProgram, not_built, not_accepted, too_deep, Judges, Says, source_limit}
 
 -- what follows from what a report says
 pub follows : {E : Type 0} (P Q : Status → List ℕ → Type 0) → ((s : Status) (text : List ℕ) → P s text → Q s text) → (r : Result Report E)

@@ -1,11 +1,11 @@
 -- Every operator of a program that is spelled is a sum.
-use Rattle.std.proofs.Common.{◌≡◌, List, [], ◌∷◌}
+use Rattle.std.proofs.Common.{List, [], ◌∷◌}
 use Rattle.std.proofs.Common.{arith}
 use Rattle.std.proofs.lemmas.List.Elements.{All-cons}
 use Rattle.std.specs.List.{All}
 use Rattle.cg_surface.specs.Trees.{Expr, name, number, unit, paren, app, binary, bind, Entry, signature, define, OnlySums, OnlySumsEntry}
 use Rattle.cg_parser.specs.Symbols.{Seen}
-use Rattle.cg_parser.specs.Grammar.{ReadsExpr, ReadsEntry, ReadsProgram, Spells}
+use Rattle.cg_parser.specs.Grammar.{ReadsExpr, ReadsEntry, ReadsProgram}
 
 sums : (e : Expr) (ts rest : List Seen) → ReadsExpr e ts rest → OnlySums e
 sums (name p n) ts rest r = tt

@@ -2,7 +2,7 @@
 use Rattle.std.specs.Prelude.{◌≡◌, ◌↔◌, ℕ, Bool, true, false, ◌<◌, ◌≤◌, List, [], ◌++◌, length, take, Some, None, codes, decimal, if◌then◌else◌, ◌+◌, ◌∷◌, ◌⊎◌, ⊤}
 use Rattle.std.specs.declared.option.Option.{Option}
 use Rattle.std.specs.Io.KnownBytes.{append_known}
-use Rattle.cg_core.specs.Kernels.{Function, Body}
+use Rattle.cg_core.specs.Kernels.{Function}
 use Rattle.cg_outside.specs.Held.{Held, IsReadOf}
 use Rattle.cg_outside.specs.Causes.{Rose}
 use Rattle.cg_surface.specs.Trees.{Entry, program_depth}

@@ -1,5 +1,5 @@
 -- Bytes spell at most one program.
-use Rattle.std.proofs.Common.{◌≡◌, ℕ, List, [], map, Option, Some, sym, ◌∙◌, ap, subst}
+use Rattle.std.proofs.Common.{◌≡◌, ℕ, List, [], map, Some, sym, subst}
 use Rattle.cg_lexer.specs.Tokens.{Lexeme}
 use Rattle.cg_lexer.proofs.Division.{one_division}
 use Rattle.cg_surface.specs.Trees.{Entry}

@@ -1,19 +1,16 @@
 -- From a surface program to its kernel: names become positions and functions. Names are looked up in the lists of
 -- binders, signatures and library functions, with no table.
-use Rattle.std.specs.Prelude.{◌≡◌, ℕ, ◌+◌, Bool, true, false, ◌||◌, not, List, [], ◌∷◌, ◌++◌, length, map, codes, Option, Some, None, if◌then◌else◌}
+use Rattle.std.specs.Prelude.{ℕ, ◌+◌, Bool, ◌||◌, List, [], ◌∷◌, ◌++◌, length, codes, Option, Some, None, if◌then◌else◌}
 use Rattle.std.specs.List.{list_any, filter_map}
 use Rattle.std.specs.Str.{bytes_eq}
-use Rattle.cg_base.specs.declared.fun.Fun.{Fun}
 use Rattle.cg_base.specs.declared.fun.Fun.TheVariants.{User}
 use Rattle.cg_base.specs.declared.kind.Word.TheVariants.{U32}
 use Rattle.cg_base.specs.declared.kind.Sigil.TheVariants.{W}
 use Rattle.cg_base.specs.declared.place.Place.{Place}
 use Rattle.cg_base.specs.Types.{Tau, word, unit as unit_type, arrow as function_type, abs, none as no_types}
-use Rattle.cg_core.specs.declared.at.At.{At}
-use Rattle.cg_core.specs.declared.op.Op.{Op}
 use Rattle.cg_core.specs.Kernels.{Function, Body}
-use Rattle.cg_core.specs.Terms.{Tree, term, var, unit as unit_term, lit, fun, op, app as application, lets, none as no_terms, more, Arg}
-use Rattle.cg_surface.specs.Trees.{Written, named, nothing, arrow, Expr, name, number, unit, paren, app, binary, bind, Entry, signature, define, place_of, written_place}
+use Rattle.cg_core.specs.Terms.{Tree, term, var, unit as unit_term, lit, fun, op, app as application, lets, none as no_terms, more}
+use Rattle.cg_surface.specs.Trees.{Written, named, nothing, arrow, Expr, name, number, unit, paren, app, binary, bind, Entry, signature, define, written_place}
 
 -- the names of the library's functions
 abbrev pub library : List (List ℕ)

@@ -1,11 +1,10 @@
 -- What a split leaves of an entry on each side.
-use Rattle.std.proofs.Common.{◌≡◌, ◌⊎◌, inl, inr, ℕ, zero, suc, ◌<◌, Bool, true, false, IsTrue, Option, Some, None, List, [], ◌∷◌, length, refl, sym, ap, ◌∙◌, subst, arith}
+use Rattle.std.proofs.Common.{◌≡◌, ◌⊎◌, inl, inr, ℕ, zero, suc, Bool, true, false, Some, None, List, [], ◌∷◌, length, refl, subst, arith}
 use Rattle.cg_base.specs.declared.kind.Kinds.{Kinds}
 use Rattle.cg_base.specs.Types.{Tau}
 use Rattle.cg_core.specs.declared.derivation.Mark.{Mark}
 use Rattle.cg_core.specs.declared.derivation.Mark.TheVariants.{Gone, Left, Right, Both, Seen}
-use Rattle.cg_core.specs.declared.term.Seen.{Seen as Observer}
-use Rattle.cg_typing.specs.Contexts.{Context, look, mark_at, first_side, second_side, first, second, among, Fits, Splits, shares}
+use Rattle.cg_typing.specs.Contexts.{Context, look, mark_at, first_side, second_side, first, second, among, Fits, shares}
 use Rattle.cg_typing.specs.Laws.{SplitsLoseNothing, LinearGoesOneWay}
 
 first_at : (m : List Mark) (g : Context) (i : ℕ) → length m ≡ length g → look (first m g) i ≡ first_side (mark_at m i) (look g i)

@@ -1,5 +1,5 @@
 -- Which kernels are accepted: each signature's type is an arrow, and each body has a core with a derivation.
-use Rattle.std.specs.Prelude.{◌≡◌, ℕ, Option, Some, None, List, [], ◌∷◌, map, ⊤}
+use Rattle.std.specs.Prelude.{◌≡◌, Option, Some, None, List, [], ◌∷◌, map, ⊤}
 use Rattle.std.specs.List.{All}
 use Rattle.cg_base.specs.declared.kind.Bound.{Bound}
 use Rattle.cg_base.specs.declared.kind.Kinds.{Kinds}

@@ -1,5 +1,5 @@
 -- The laws of splits.
-use Rattle.std.specs.Prelude.{◌≡◌, ◌⊎◌, ℕ, ◌<◌, false, Option, Some, None, List, [], length}
+use Rattle.std.specs.Prelude.{◌≡◌, ◌⊎◌, ℕ, ◌<◌, false, Some, None, List, [], length}
 use Rattle.cg_base.specs.declared.kind.Kinds.{Kinds}
 use Rattle.cg_base.specs.Types.{Tau}
 use Rattle.cg_core.specs.declared.derivation.Mark.{Mark}

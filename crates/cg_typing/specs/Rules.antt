@@ -1,21 +1,19 @@
 -- The typing rules: which derivations type which cores (the paper's typing rules, section 3, with free splits).
-use Rattle.std.specs.Prelude.{◌≡◌, ℕ, zero, suc, ◌<◌, ◌^◌, Bool, true, false, not, IsTrue, Option, Some, None, List, [], ◌∷◌, map, slice_get}
+use Rattle.std.specs.Prelude.{◌≡◌, ℕ, zero, suc, ◌<◌, ◌^◌, Bool, true, false, not, IsTrue, Option, Some, None, List, [], ◌∷◌, slice_get}
 use Rattle.std.specs.Option.{option_map}
 use Rattle.cg_base.specs.declared.fun.Fun.{Fun}
 use Rattle.cg_base.specs.declared.fun.Fun.TheVariants.{User, Lib}
 use Rattle.cg_base.specs.declared.kind.Kinds.{Kinds}
 use Rattle.cg_base.specs.declared.kind.Word.{Word}
 use Rattle.cg_base.specs.declared.kind.Word.TheVariants.{U8, U16, U32, U64}
-use Rattle.cg_base.specs.declared.place.Place.{Place}
 use Rattle.cg_base.specs.Types.{Tau, word, unit as unit_type, arrow}
 use Rattle.cg_core.specs.declared.derivation.Mark.{Mark}
 use Rattle.cg_core.specs.declared.derivation.Node.{Node}
 use Rattle.cg_core.specs.declared.derivation.Node.TheVariants.{Var, Unit as UnitNode, Lit, Fun as FunNode, Op as OpNode, App, Let}
-use Rattle.cg_core.specs.declared.op.Op.{Op}
 use Rattle.cg_core.specs.declared.op.Op.TheVariants.{Add}
 use Rattle.cg_core.specs.Derivations.{Derivation, derivation, Derivations, done, part}
-use Rattle.cg_core.specs.Kernels.{Function, Body}
-use Rattle.cg_core.specs.Terms.{Tree, term, Shape, var, unit, bool, lit, fun, op, app, lets, let_bang, if_else, con, case_of, esac, struct, member, take_field, put, cast, annot, Trees, none, more, Note, Arg, erased}
+use Rattle.cg_core.specs.Kernels.{Function}
+use Rattle.cg_core.specs.Terms.{Tree, term, Shape, var, unit, lit, fun, op, app, lets, none, more, Note, Arg}
 use Rattle.cg_kinds.specs.Kinds.{is_word}
 use Rattle.cg_typing.specs.Contexts.{Context, look, push, first, second, Splits, Drops, DropsBut}
 

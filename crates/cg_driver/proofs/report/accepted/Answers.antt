@@ -1,4 +1,4 @@
-use Rattle.std.proofs.Common.{refl, ◌∙◌, sym}
+use Rattle.std.proofs.Common.{refl}
 use Rattle.cg_driver.proofs.Counting.{counted}
 use Rattle.cg_driver.proofs.report.accepted.Goals as goal
 

@@ -1,7 +1,7 @@
 use Rattle.std.specs.Prelude.{codes}
 use Rattle.cg_driver.specs.Answer.{IsLine, JudgesProgram, Judges}
 use Rattle.cg_driver.specs.declared.status.Status.TheVariants.{TooLarge}
-use Rattle.cg_driver.proofs.Saying.{follows, of_program, unspelled, deep}
+use Rattle.cg_driver.proofs.Saying.{follows, of_program, deep}
 use Rattle.cg_driver.proofs.Sums.{only_sums}
 use Rattle.cg_driver.proofs.report.judge.Goals as goal
 
