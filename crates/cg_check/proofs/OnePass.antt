@@ -77,10 +77,10 @@ flags_same zero f g h = refl
 flags_same (suc n) f g h = ap (λ b. b ∷ flags n (λ i. f (suc i))) (h 0) ∙ ap (λ us. g 0 ∷ us) (flags_same n (λ i. f (suc i)) (λ i. g (suc i)) (λ i. h (suc i)))
 
 -- equality of numbers as a test
-other_number : (a b : ℕ) → (a ≡ b → ⊥) → nat_eq a b ≡ false
+pub other_number : (a b : ℕ) → (a ≡ b → ⊥) → nat_eq a b ≡ false
 other_number a b ne = ⊎_elim (λ t. absurd (ne (eqb-true a b t))) (λ f. f) (bool_is (nat_eq a b))
 
-next_numbers : (a b : ℕ) → nat_eq a b ≡ nat_eq (suc a) (suc b)
+pub next_numbers : (a b : ℕ) → nat_eq a b ≡ nat_eq (suc a) (suc b)
 next_numbers a b = ⊎_elim
     (λ t. t ∙ sym (eq-eqb (suc a) (suc b) (ap suc (eqb-true a b t))))
     (λ f. f ∙ sym (other_number (suc a) (suc b) (λ e. apart (nat_eq a b) (eq-eqb a b (omega arith)) f)))

@@ -1,4 +1,6 @@
+pub mod Kept
 pub mod Laws
+pub mod Marked
 pub mod NormalForm
 pub mod Pass
 pub mod Uses

@@ -19,6 +19,11 @@ abbrev pub direction_of : Option Ty → Option Tau
 direction_of None = None
 direction_of (Some t) = Some (type_of t)
 
+-- the type that a node notes: the one that is checked against, or else the one that is synthesised
+abbrev pub noted_in : Option Tau → Tau → Tau
+noted_in None t = t
+noted_in (Some wanted) t = wanted
+
 abbrev pub bounds_of : List Bound → List Kinds
 bounds_of = map (λ (b : Bound). b.kinds)
 

@@ -69,7 +69,7 @@ fn check_body(source: &Source, argument: &Ty, gives: &Ty, body: &KBody) -> Resul
 }
 
 // The context of an argument alone.
-fn alone(alloc: Global, argument: &Ty) -> Result<Vec<Ty>, Memory>
+pub fn alone(alloc: Global, argument: &Ty) -> Result<Vec<Ty>, Memory>
     ensures types { IfOk result (λ context. map type_of context.items ≡ type_of argument.now ∷ []) }
     ensures one { IfOk result (λ context. length context.items ≡ 1) }
 {

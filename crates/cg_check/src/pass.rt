@@ -74,7 +74,7 @@ fn may_use(source: &Source, context: &Vec<Ty>, before: &Vec<bool>, at: usize) ->
 }
 
 // The type of a variable.
-fn type_at(source: &Source, context: &Vec<Ty>, at: usize) -> Result<Ty, Memory>
+pub fn type_at(source: &Source, context: &Vec<Ty>, at: usize) -> Result<Ty, Memory>
     requires { at < length context.now.items }
     ensures { IfOk result (λ ty. type_of ty ≡ plain_at (map type_of context.now.items) at) }
 {
@@ -163,7 +163,7 @@ fn check_lit(
 }
 
 // The type of a function of the source.
-fn type_of_function(source: &Source, function: u32) -> Result<Ty, Memory>
+pub fn type_of_function(source: &Source, function: u32) -> Result<Ty, Memory>
     requires { function < length source.now.functions.now }
     ensures { IfOk result (λ ty. type_of ty ≡ mentioned (map function_of source.now.functions.now) (User function) []) }
 {
@@ -188,7 +188,7 @@ fn is_word(ty: &Ty) -> bool
     matches!(ty, Ty::Word(_))
 }
 
-fn is_literal(term: &Term<Place>) -> bool
+pub fn is_literal(term: &Term<Place>) -> bool
     ensures { result ≡ literal_of (the_term term.now) }
 {
     matches!(term.form, Form::Lit(_))
@@ -222,7 +222,7 @@ fn after_binder(alloc: Global, before: &Vec<bool>, uses: &Vec<bool>) -> Result<V
     Ok(all)
 }
 
-fn enter(context: &mut Vec<Ty>, ty: Ty) -> Result<(), Memory>
+pub fn enter(context: &mut Vec<Ty>, ty: Ty) -> Result<(), Memory>
     ensures items { IfOk result (λ u. map type_of context.new.items ≡ push_of (map type_of context.old.items) (type_of ty)) }
     ensures long { IfOk result (λ u. length context.new.items ≡ suc (length context.old.items)) }
 {
@@ -230,7 +230,7 @@ fn enter(context: &mut Vec<Ty>, ty: Ty) -> Result<(), Memory>
     Ok(())
 }
 
-fn leave(context: &mut Vec<Ty>)
+pub fn leave(context: &mut Vec<Ty>)
     requires { 0 < length context.old.items }
     ensures items { (p : List Tau) (t : Tau) → map type_of context.old.items ≡ push_of p t → map type_of context.new.items ≡ p }
     ensures long { suc (length context.new.items) ≡ length context.old.items }
@@ -263,7 +263,7 @@ fn end_let(
 }
 
 // Two operands.
-fn both_of<'a>(operands: &'a Items<Term<Place>>) -> (&'a Term<Place>, &'a Term<Place>)
+pub fn both_of<'a>(operands: &'a Items<Term<Place>>) -> (&'a Term<Place>, &'a Term<Place>)
     requires { length operands.now ≡ 2 }
     ensures { to_trees (map the_term operands.now) ≡ more (the_term result.0.now) (more (the_term result.1.now) none) }
 {
