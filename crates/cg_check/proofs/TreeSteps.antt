@@ -59,8 +59,10 @@ over_one : (bs : List Bool) (j : ℕ) → over bs (λ i. nat_eq i j) ≡ slice_s
 over_one [] j = refl
 over_one (b ∷ bs) zero = cc (or_true b, over_later bs)
 over_one (b ∷ bs) (suc j) =
-    cc (ap (λ q. b || q) (other_number 0 (suc j) (λ e. absurd (omega arith))) ∙ or_nothing b,
-    over_same bs (λ i. nat_eq (suc i) (suc j)) (λ i. nat_eq i j) (λ i. sym (next_numbers i j)) ∙ over_one bs j)
+    cc (
+      ap (λ q. b || q) (other_number 0 (suc j) (λ e. absurd (omega arith))) ∙ or_nothing b,
+      over_same bs (λ i. nat_eq (suc i) (suc j)) (λ i. nat_eq i j) (λ i. sym (next_numbers i j)) ∙ over_one bs j,
+    )
 
 over_both : (bs : List Bool) (f g : ℕ → Bool) → over (over bs f) g ≡ over bs (λ i. f i || g i)
 over_both [] f g = refl

@@ -1,7 +1,7 @@
 // What is kept of a kernel: the cores and the derivations of its bodies.
 #![tactic(auto, using(crate::proofs::KeptSteps::kept_steps))]
 
-ghost use Rattle.std.specs.Prelude.{◌≡◌, length, map, IfOk, Some, [], ◌∷◌};
+ghost use Rattle.std.specs.Prelude.{◌≡◌, length, map, IfOk, Some, [], ◌∷◌, true};
 ghost use Rattle.cg_base.specs.Types.{type_of};
 ghost use Rattle.cg_core.specs.Kernels.{the_term, the_core, function_of, maybe_body_of};
 ghost use Rattle.cg_core.specs.Derivations.{derivation_of};
@@ -9,7 +9,6 @@ ghost use Rattle.cg_core.specs.Small.{IsSmall, IsSmallBody, IsSmallKernel};
 ghost use Rattle.cg_check.specs.NormalForm.{core as core_at};
 ghost use Rattle.cg_check.specs.Marked.{occurrence_tree, HasRows};
 ghost use Rattle.cg_check.specs.Kept.{function_core, function_tree, maybe_core, maybe_tree};
-ghost use Rattle.std.specs.Prelude.{true};
 
 use crate::cores::{core_of, given, taken};
 use crate::functions::alone;
@@ -20,7 +19,12 @@ use cg_core::{Deriv, KBody, KFun, Term, Typed};
 use std::alloc::Global;
 
 // The core of a body, in the context of its argument alone, checked against the result.
-fn body_core(source: &Source, argument: &Ty, gives: &Ty, body: &KBody) -> Result<Term<Typed>, Memory>
+fn body_core(
+    source: &Source,
+    argument: &Ty,
+    gives: &Ty,
+    body: &KBody,
+) -> Result<Term<Typed>, Memory>
     requires small { IsSmall (length (map function_of source.now.functions.now)) 1 (the_term body.now.term) }
     ensures { IfOk result (λ t. the_core t ≡ core_at (map function_of source.now.functions.now)
         (type_of argument.now ∷ []) (Some (type_of gives.now)) (the_term body.now.term)) }
@@ -41,7 +45,11 @@ fn body_tree(alloc: Global, body: &KBody) -> Result<Deriv, Memory>
 }
 
 // The core of a function, where it has a body.
-fn function_core_of(alloc: Global, functions: &Items<KFun>, fun: &KFun) -> Result<Option<Term<Typed>>, Memory>
+fn function_core_of(
+    alloc: Global,
+    functions: &Items<KFun>,
+    fun: &KFun,
+) -> Result<Option<Term<Typed>>, Memory>
     requires small { IsSmallBody (length (map function_of functions.now)) (maybe_body_of fun.now.body) }
     ensures { IfOk result (λ c. maybe_core c ≡ function_core (map function_of functions.now) (function_of fun.now)) }
 {
@@ -59,11 +67,14 @@ fn function_core_of(alloc: Global, functions: &Items<KFun>, fun: &KFun) -> Resul
 }
 
 // The derivation of a function, where it has a body.
-fn function_tree_of(alloc: Global, functions: &Items<KFun>, fun: &KFun) -> Result<Option<Deriv>, Memory>
+fn function_tree_of(
+    alloc: Global,
+    functions: &Items<KFun>,
+    fun: &KFun,
+) -> Result<Option<Deriv>, Memory>
     requires small { IsSmallBody (length (map function_of functions.now)) (maybe_body_of fun.now.body) }
     ensures { IfOk result (λ d. maybe_tree d ≡ function_tree (map function_of functions.now) (function_of fun.now)) }
 {
-    let _count = functions.len();
     let Some(body) = &fun.body else {
         return Ok(None);
     };
@@ -71,7 +82,10 @@ fn function_tree_of(alloc: Global, functions: &Items<KFun>, fun: &KFun) -> Resul
 }
 
 /// The cores of a kernel's functions, one for each: None exactly where it has no body. Want of memory is its one refusal.
-pub fn cores_of(alloc: Global, functions: &Items<KFun>) -> Result<Items<Option<Term<Typed>>>, Memory>
+pub fn cores_of(
+    alloc: Global,
+    functions: &Items<KFun>,
+) -> Result<Items<Option<Term<Typed>>>, Memory>
     requires small { IsSmallKernel (map function_of functions.now) }
     ensures { IfOk result (λ cores. map maybe_core cores ≡ map (function_core (map function_of functions.now)) (map function_of functions.now)) }
 {

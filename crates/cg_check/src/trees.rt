@@ -75,11 +75,19 @@ fn chosen(left: bool, right: bool, present: bool) -> Mark
     }
 }
 
-fn marks_of(alloc: Global, left: &[bool], right: &[bool], present: &[bool]) -> Result<Vec<Mark>, Memory>
+fn marks_of(
+    alloc: Global,
+    left: &[bool],
+    right: &[bool],
+    present: &[bool],
+) -> Result<Vec<Mark>, Memory>
     ensures { IfOk result (λ marks. marks.items ≡ marked left.now right.now present.now) }
 {
     let all = left.iter().zip(right).zip(present);
-    Ok(all.map(|((a, b), there)| chosen(*a, *b, *there)).collect(alloc)?)
+    Ok(
+        all.map(|((a, b), there)| chosen(*a, *b, *there))
+            .collect(alloc)?,
+    )
 }
 
 fn first_of(alloc: Global, left: &[bool], present: &[bool]) -> Result<Vec<bool>, Memory>
@@ -89,11 +97,19 @@ fn first_of(alloc: Global, left: &[bool], present: &[bool]) -> Result<Vec<bool>,
     Ok(both.collect(alloc)?)
 }
 
-fn second_of(alloc: Global, left: &[bool], right: &[bool], present: &[bool]) -> Result<Vec<bool>, Memory>
+fn second_of(
+    alloc: Global,
+    left: &[bool],
+    right: &[bool],
+    present: &[bool],
+) -> Result<Vec<bool>, Memory>
     ensures { IfOk result (λ flags. flags.items ≡ on_second left.now right.now present.now) }
 {
     let all = left.iter().zip(right).zip(present);
-    Ok(all.map(|((a, b), there)| (*b || !*a) && *there).collect(alloc)?)
+    Ok(
+        all.map(|((a, b), there)| (*b || !*a) && *there)
+            .collect(alloc)?,
+    )
 }
 
 fn listed(alloc: Global, marks: &Vec<Mark>) -> Result<Items<Mark>, Memory>
@@ -115,7 +131,12 @@ struct Sides {
 }
 
 // The split between two parts by their occurrences.
-fn split(alloc: Global, present: &Vec<bool>, first: &Term<Place>, second: &Term<Place>) -> Result<Sides, Memory>
+fn split(
+    alloc: Global,
+    present: &Vec<bool>,
+    first: &Term<Place>,
+    second: &Term<Place>,
+) -> Result<Sides, Memory>
     requires first { HasRows (the_term first.now) }
     requires second { HasRows (the_term second.now) }
     ensures marks { IfOk result (λ s. s.marks ≡ marks_at (the_term first.now) (the_term second.now) present.now.items) }
@@ -166,7 +187,13 @@ fn two_derivations(alloc: Global, first: Deriv, second: Deriv) -> Result<Items<D
 }
 
 // A node with two parts.
-fn pair(alloc: Global, node: Node, marks: Items<Mark>, first: Deriv, second: Deriv) -> Result<Deriv, Memory>
+fn pair(
+    alloc: Global,
+    node: Node,
+    marks: Items<Mark>,
+    first: Deriv,
+    second: Deriv,
+) -> Result<Deriv, Memory>
     ensures { IfOk result (λ d. derivation_of d ≡ two node marks (derivation_of first) (derivation_of second)) }
 {
     let splits = one_split(alloc, marks)?;
@@ -210,7 +237,13 @@ pub fn tree_of(alloc: Global, present: &Vec<bool>, term: &Term<Place>) -> Result
 }
 
 #[cycle(tree)]
-fn tree_of_two(alloc: Global, node: Node, present: &Vec<bool>, first: &Term<Place>, second: &Term<Place>) -> Result<Deriv, Memory>
+fn tree_of_two(
+    alloc: Global,
+    node: Node,
+    present: &Vec<bool>,
+    first: &Term<Place>,
+    second: &Term<Place>,
+) -> Result<Deriv, Memory>
     requires first { HasRows (the_term first.now) }
     requires second { HasRows (the_term second.now) }
     ensures { IfOk result (λ d. derivation_of d ≡ two node (marks_at (the_term first.now) (the_term second.now) present.now.items)
@@ -228,14 +261,23 @@ fn tree_of_two(alloc: Global, node: Node, present: &Vec<bool>, first: &Term<Plac
 }
 
 #[cycle(tree)]
-fn tree_of_let(alloc: Global, present: &Vec<bool>, first: &Term<Place>, second: &Term<Place>) -> Result<Deriv, Memory>
+fn tree_of_let(
+    alloc: Global,
+    present: &Vec<bool>,
+    first: &Term<Place>,
+    second: &Term<Place>,
+) -> Result<Deriv, Memory>
     requires first { HasRows (the_term first.now) }
     requires second { HasRows (the_term second.now) }
     ensures { IfOk result (λ d. derivation_of d ≡ two Let' (marks_at (the_term first.now) (the_term second.now) present.now.items)
         (occurrence_tree (first_at (the_term first.now) (the_term second.now) present.now.items) (the_term first.now))
         (occurrence_tree (push_of (second_at (the_term first.now) (the_term second.now) present.now.items) true) (the_term second.now))) }
 {
-    let Sides { marks, first: on_first, second: on_second } = split(alloc, present, first, second)?;
+    let Sides {
+        marks,
+        first: on_first,
+        second: on_second,
+    } = split(alloc, present, first, second)?;
     let left = tree_of(alloc, &on_first, first)?;
     let inner = with_new(on_second)?;
     let right = tree_of(alloc, &inner, second)?;
