@@ -6,7 +6,7 @@ use Rattle.cg_core.specs.declared.at.TyArg.{TyArg}
 use Rattle.cg_core.specs.declared.term.Term.{Term}
 use Rattle.cg_core.specs.declared.term.Typed.{Typed}
 use Rattle.cg_core.specs.Kernels.{Function, the_core}
-use Rattle.cg_core.specs.Terms.{Tree, term, lets, fun, more, none, to_trees, Arg, arg_of}
+use Rattle.cg_core.specs.Terms.{Tree, term, lets, fun, more, none, to_trees, arg_of}
 use Rattle.cg_core.specs.Small.{IsSmallShape}
 use Rattle.cg_base.specs.declared.place.Place.{Place}
 use Rattle.cg_core.specs.declared.term.Form.{the_lemmas}

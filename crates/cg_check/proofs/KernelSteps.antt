@@ -2,15 +2,24 @@
 use Rattle.std.proofs.Common.{◌≡◌, ℕ, zero, suc, ◌<◌, ◌+◌, List, [], ◌∷◌, length, map, drop, get_or, Option, Some, None, Result, Ok, Err, refl, sym, ◌∙◌, arith, add-one}
 use Rattle.std.specs.List.{All}
 use Rattle.cg_core.specs.declared.kernel.KFun.{KFun}
-use Rattle.cg_core.specs.Kernels.{Function, function_of}
+use Rattle.cg_core.specs.declared.kernel.Kernel.{Kernel}
+use Rattle.cg_core.specs.declared.derivation.Deriv.{Deriv}
+use Rattle.cg_core.specs.declared.term.Term.{Term}
+use Rattle.cg_core.specs.declared.term.Typed.{Typed}
+use Rattle.cg_core.specs.Kernels.{Function, function_of, kernel_of}
+use Rattle.cg_typing.specs.declared.checked.Checked.{Checked}
+use Rattle.cg_typing.specs.Accepted.{IsAcceptedKernel}
+use Rattle.cg_typing.specs.Holds.{kernel_in, cores_in, trees_in}
+use Rattle.cg_typing.specs.Kept.{AreKept, maybe_core, maybe_tree}
 use Rattle.cg_faults.specs.Faults.{Fault, kernel_events, first_failing}
 use Rattle.cg_check.specs.declared.refusal.Refusal.{Refusal}
 use Rattle.cg_check.specs.declared.refusal.Refusal.TheVariants.{Rule as Broken, Memory}
 use Rattle.cg_check.specs.Pass.{bind, check_function, check_all, check_kernel, verdict}
 use Rattle.cg_core.specs.Small.{IsSmallBody, IsSmallKernel}
-use Rattle.cg_check.specs.View.{unit_of, Agrees, Judges}
+use Rattle.cg_check.specs.Kept.{function_core, function_tree}
+use Rattle.cg_check.specs.View.{unit_of, Agrees, IsJudged, IsChecked}
 use Rattle.cg_check.proofs.OnePass.{none_fails, all_hold}
-use Rattle.cg_check.proofs.Main.{kernels, first_fault}
+use Rattle.cg_check.proofs.Main.{kernels, kept, first_fault}
 
 no_fault : (o : Option Fault) → verdict o ≡ Ok tt → o ≡ None
 no_fault None h = refl
@@ -21,7 +30,7 @@ this_fault None fault h = absurd (cc)
 this_fault (Some other) fault h = cc
 
 -- what the pass answers is a judgement
-pub judged : (functions : List Function) → IsSmallKernel functions → (r : Result (Unit {0}) Refusal) → Agrees unit_of r (check_kernel functions) → Judges functions r
+pub judged : (functions : List Function) → IsSmallKernel functions → (r : Result (Unit {0}) Refusal) → Agrees unit_of r (check_kernel functions) → IsJudged functions r
 judged functions small (Ok u) h =
     (kernels functions small).0 (none_fails (kernel_events functions) (no_fault (first_failing (kernel_events functions)) (sym (first_fault functions small) ∙ h)))
 judged functions small (Err (Broken rule place)) h =
@@ -49,4 +58,16 @@ small_body n [] i d h small = absurd (omega arith)
 small_body n (f ∷ fs) zero d h small = small 0 (function_of f) (omega arith)
 small_body n (f ∷ fs) (suc i) d h small = small_body n fs i d (omega arith) (λ k e lt. small (suc k) e (omega arith))
 
-pub ruleset kernel_steps = (judged, from_here, small_body)
+-- what is kept of a kernel that is accepted is a core and a derivation for each body
+pub kept_of : (kernel : Kernel) (cores : List (Option (Term Typed))) (trees : List (Option Deriv)) → IsSmallKernel (kernel_of kernel) → IsAcceptedKernel (kernel_of kernel)
+    → map maybe_core cores ≡ map (function_core (kernel_of kernel)) (kernel_of kernel)
+    → map maybe_tree trees ≡ map (function_tree (kernel_of kernel)) (kernel_of kernel)
+    → AreKept (kernel_of kernel) (kernel_of kernel) (map maybe_core cores) (map maybe_tree trees)
+kept_of kernel cores trees small accepted c t = rw c (rw t (kept (kernel_of kernel) small accepted))
+
+pub is_checked : (kernel : Kernel) (checked : Checked) → IsAcceptedKernel (kernel_of kernel) → kernel_in checked ≡ kernel
+    → map maybe_core (cores_in checked) ≡ map (function_core (kernel_of kernel)) (kernel_of kernel)
+    → map maybe_tree (trees_in checked) ≡ map (function_tree (kernel_of kernel)) (kernel_of kernel) → IsChecked kernel checked
+is_checked kernel checked accepted same cores trees = record { accepted = accepted; same = same; cores = cores; trees = trees }
+
+pub ruleset kernel_steps = (judged, kept_of, is_checked, from_here, small_body)

@@ -1,5 +1,5 @@
 -- The laws of the checker.
-use Rattle.std.proofs.Common.{◌≡◌, ℕ, zero, suc, ◌<◌, Bool, true, false, not, ◌||◌, Option, Some, None, Ok, List, [], ◌∷◌, ◌++◌, length, refl, sym, ap, ◌∙◌, subst, arith}
+use Rattle.std.proofs.Common.{◌≡◌, ℕ, zero, suc, ◌<◌, Bool, true, false, not, ◌||◌, Option, Some, None, Ok, List, [], ◌∷◌, ◌++◌, length, map, refl, sym, ap, ◌∙◌, subst, arith}
 use Rattle.std.specs.List.{All, flat_map}
 use Rattle.std.proofs.lemmas.List.Elements.{All-nil, All-cons, All-head, All-tail}
 use Rattle.cg_base.specs.declared.fun.Fun.TheVariants.{User}
@@ -10,15 +10,17 @@ use Rattle.cg_core.specs.declared.op.Op.TheVariants.{Add}
 use Rattle.cg_core.specs.Derivations.{Derivation}
 use Rattle.cg_core.specs.Kernels.{Function, Body}
 use Rattle.cg_core.specs.Terms.{Tree, term, Shape, var, unit, lit, fun, op, app, lets, none, more, Note, erased}
-use Rattle.cg_typing.specs.Accepted.{kinds_of_vars, IsTypedMaybe, IsAcceptedFunction}
+use Rattle.cg_typing.specs.Accepted.{kinds_of_vars, IsTypedMaybe, IsAcceptedFunction, IsAcceptedKernel}
+use Rattle.cg_typing.specs.Kept.{IsKeptMaybe, IsKept, AreKept}
 use Rattle.cg_typing.specs.Contexts.{look, push, drops}
 use Rattle.cg_typing.specs.Rules.{operand, is_literal, Derives}
 use Rattle.cg_faults.specs.declared.rule.Rule.TheVariants.{T4}
 use Rattle.cg_faults.specs.Faults.{is_arrow, taken_by, given_by, plain_at, nothing, plain, plain_in, scope_end, events, body_events, function_events, kernel_events, AllHold}
 use Rattle.cg_faults.specs.Occurrences.{touched}
+use Rattle.cg_check.specs.Kept.{body_core, body_tree, function_core, function_tree}
 use Rattle.cg_check.specs.NormalForm.{core, tree}
 use Rattle.cg_check.specs.Pass.{need, check, check_body, check_function, check_all, flag_at}
-use Rattle.cg_core.specs.Small.{IsSmall, IsSmallBody}
+use Rattle.cg_core.specs.Small.{IsSmall, IsSmallBody, IsSmallKernel}
 use Rattle.cg_check.specs.Laws.{BodiesAreJudgedExactly, KernelsAreJudgedExactly, OccurrenceMarksServe, OneCore, PassAnswersTheFirstFault}
 use Rattle.cg_check.proofs.Basics.{hold_append, hold_left, hold_right, or_else, else_or}
 use Rattle.cg_check.proofs.Sound.{Entry, sound, arrow_is}
@@ -153,6 +155,30 @@ module _ (functions : List Function) where
       (function_complete f (All-head Small f fs small) (All-head (IsAcceptedFunction functions) f fs h))
       (all_complete fs (All-tail Small f fs small) (All-tail (IsAcceptedFunction functions) f fs h))
 
+  -- what is kept of a body, a function and some functions
+  kept_body : (vars : List Kinds) (argument result : Tau) (body : Option Body) → IsSmallBody (length functions) body → AllHold (body_events functions vars argument result body)
+      → IsKeptMaybe functions vars argument result body (body_core functions argument result body) (body_tree functions argument body)
+  kept_body vars argument result None small h = tt
+  kept_body vars argument result (Some body) small h = record {
+    erases = erased_core functions (argument ∷ []) (Some result) body.term (length functions) 1 small;
+    derives = by_events functions vars argument result body.param body.term small h;
+  }
+
+  kept_function : (f : Function) → IsSmallBody (length functions) f.body → AllHold (function_events functions f) → IsKept functions f (function_core functions f) (function_tree functions f)
+  kept_function f small h = record {
+    argument = taken_by f.ty.ty;
+    result = given_by f.ty.ty;
+    is_arrow = arrow_is f.ty.ty h.0;
+    kept = kept_body (kinds_of_vars f) (taken_by f.ty.ty) (given_by f.ty.ty) f.body small h.1;
+  }
+
+  kept_all : (fs : List Function) → All Small fs → AllHold (flat_map (function_events functions) fs) → AreKept functions fs (map (function_core functions) fs) (map (function_tree functions) fs)
+  kept_all [] small h = tt
+  kept_all (f ∷ fs) small h = (
+    kept_function f (All-head Small f fs small) (hold_left (function_events functions f) _ h),
+    kept_all fs (All-tail Small f fs small) (hold_right (function_events functions f) _ h),
+  )
+
   -- the pass over a body, a function and some functions
   starts : (i : ℕ) → i < 1 → flag_at (false ∷ []) i ≡ false
   starts zero lt = refl
@@ -178,6 +204,11 @@ module _ (functions : List Function) where
 
 pub kernels : KernelsAreJudgedExactly
 kernels functions small = (all_sound functions functions small, all_complete functions functions small)
+
+-- of a kernel that is accepted, its cores and its derivations are kept
+pub kept : (functions : List Function) → IsSmallKernel functions → IsAcceptedKernel functions
+    → AreKept functions functions (map (function_core functions) functions) (map (function_tree functions) functions)
+kept functions small h = kept_all functions functions small (all_complete functions functions small h)
 
 pub first_fault : PassAnswersTheFirstFault
 first_fault functions small = run_all functions functions small ∙ run_first (kernel_events functions)

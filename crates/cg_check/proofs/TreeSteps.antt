@@ -1,5 +1,5 @@
 -- What the derivation with the occurrence marks goes by.
-use Rattle.std.proofs.Common.{◌≡◌, ℕ, zero, suc, ◌≤◌, ◌<◌, Bool, true, false, ◌&&◌, ◌||◌, not, Option, Some, None, List, [], ◌∷◌, map, length, replicate, refl, sym, ap, subst, ◌∙◌, arith, nat_eq}
+use Rattle.std.proofs.Common.{◌≡◌, ℕ, zero, suc, ◌<◌, Bool, true, false, ◌&&◌, ◌||◌, not, Option, Some, None, List, [], ◌∷◌, map, length, refl, sym, ap, subst, ◌∙◌, arith, nat_eq}
 use Rattle.std.specs.Prelude.{slice_set}
 use Rattle.cg_base.specs.Types.{Tau}
 use Rattle.cg_base.specs.declared.fun.Fun.{Fun}
@@ -13,7 +13,7 @@ use Rattle.cg_core.specs.declared.op.Op.TheVariants.{Add}
 use Rattle.cg_core.specs.declared.term.Term.{Term, fold_out-Term}
 use Rattle.cg_core.specs.declared.term.Form.{the_lemmas}
 use Rattle.cg_core.specs.declared.term.Form.TheVariants.{Op as OpForm}
-use Rattle.cg_core.specs.Derivations.{Derivation, derivation, part, done, to_derivations, derivation_of}
+use Rattle.cg_core.specs.Derivations.{Derivation, part, done, to_derivations, derivation_of}
 use Rattle.cg_core.specs.Kernels.{Function, the_term, the_form}
 use Rattle.cg_core.specs.Small.{IsSmall, IsSmallShape}
 use Rattle.cg_core.specs.Terms.{Tree, term, Shape, OneField, shape_layer, field_layer, term_layer, var, unit, lit, fun, op, app, lets, Trees, none, more, to_trees, Arg}
@@ -23,7 +23,7 @@ use Rattle.cg_faults.specs.Faults.{plain}
 use Rattle.cg_faults.specs.Occurrences.{touched}
 use Rattle.cg_check.specs.Pass.{no_uses}
 use Rattle.cg_check.specs.NormalForm.{pick, marks, marks_between, tree, tree_shape}
-use Rattle.cg_check.specs.Marked.{over, touching, occurring, chosen, marked, on_first, on_second, marks_at, first_at, second_at, occurrence_tree, occurrence_shape, is_there, HasRows, HasRowsShape}
+use Rattle.cg_check.specs.Marked.{over, touching, chosen, marked, on_first, on_second, occurrence_tree, occurrence_shape, is_there, HasRows, HasRowsShape}
 use Rattle.cg_check.proofs.FlagLists.{push_flag}
 use Rattle.cg_check.proofs.OnePass.{other_number, next_numbers}
 use Rattle.cg_check.proofs.PassSteps.{two_operands}

@@ -2,11 +2,8 @@
 -- occurrence marks.
 use Rattle.std.specs.Prelude.{Option, Some, None, List, [], ◌∷◌}
 use Rattle.cg_base.specs.Types.{Tau}
-use Rattle.cg_core.specs.declared.derivation.Deriv.{Deriv}
-use Rattle.cg_core.specs.declared.term.Term.{Term}
-use Rattle.cg_core.specs.declared.term.Typed.{Typed}
-use Rattle.cg_core.specs.Derivations.{Derivation, derivation_of}
-use Rattle.cg_core.specs.Kernels.{Function, Body, the_core}
+use Rattle.cg_core.specs.Derivations.{Derivation}
+use Rattle.cg_core.specs.Kernels.{Function, Body}
 use Rattle.cg_core.specs.Terms.{Tree, Note}
 use Rattle.cg_faults.specs.Faults.{taken_by, given_by}
 use Rattle.cg_check.specs.NormalForm.{core, tree}
@@ -27,12 +24,3 @@ function_core functions f = body_core functions (taken_by f.ty.ty) (given_by f.t
 
 abbrev pub function_tree : List Function → Function → Option Derivation
 function_tree functions f = body_tree functions (taken_by f.ty.ty) f.body
-
--- what is kept stands for these, where there is something
-abbrev pub maybe_core : Option (Term Typed) → Option (Tree Note)
-maybe_core None = None
-maybe_core (Some t) = Some (the_core t)
-
-abbrev pub maybe_tree : Option Deriv → Option Derivation
-maybe_tree None = None
-maybe_tree (Some d) = Some (derivation_of d)

@@ -7,24 +7,48 @@ ghost use Rattle.cg_core.specs.Kernels.{the_term, function_of, body_of, kernel_o
 ghost use Rattle.cg_faults.specs.declared.rule.Rule.TheVariants.{K3};
 ghost use Rattle.cg_core.specs.Small.{IsSmall, IsSmallBody, IsSmallKernel};
 ghost use Rattle.cg_check.specs.Pass.{need, last as last_of, check_body as body_pass, check_function as function_pass, check_kernel};
-ghost use Rattle.cg_check.specs.View.{bounds_of, unit_of, Agrees, Judges};
+ghost use Rattle.cg_typing.specs.Accepted.{IsAcceptedKernel};
+ghost use Rattle.cg_check.specs.View.{bounds_of, unit_of, Agrees, IsJudged, IsChecked, Judges};
 
 use crate::Refusal;
 use crate::flags::no_uses;
+use crate::kept::{cores_of, trees_of};
 use crate::pass::{Got, Source, check_term};
 use cg_base::{Items, Memory, Place, Ty};
 use cg_core::{KBody, KFun, Kernel};
 use cg_faults::Rule;
 use cg_kinds::kinds_of;
+use cg_typing::Checked;
 use std::alloc::Global;
 
-/// Judges a kernel of small terms (docs/LANGUAGE.md, "Typing"): Ok exactly where it is accepted. `Rule` comes exactly
-/// where some event of it fails, with the rule and the place of the first that does; and `Memory` for want of memory.
-pub fn check(alloc: Global, kernel: &Kernel) -> Result<(), Refusal>
-    requires small { IsSmallKernel (kernel_of kernel.now) }
-    ensures { Judges (kernel_of kernel.now) result }
+/// Judges a kernel of small terms (docs/LANGUAGE.md, "Typing"). Ok exactly where it is accepted: the kernel with the
+/// core of each body and its derivation, which has the occurrence marks. `Rule` comes exactly where some event of it
+/// fails, with the rule and the place of the first that does; and `Memory` for want of memory.
+pub fn check(alloc: Global, kernel: Kernel) -> Result<Checked, Refusal>
+    requires small { IsSmallKernel (kernel_of kernel) }
+    ensures { Judges kernel result }
 {
-    check_functions(alloc, &kernel.funs)
+    judge(alloc, &kernel.funs)?;
+    Ok(kept(alloc, kernel)?)
+}
+
+// Whether a kernel is accepted.
+fn judge(alloc: Global, functions: &Items<KFun>) -> Result<(), Refusal>
+    requires small { IsSmallKernel (map function_of functions.now) }
+    ensures { IsJudged (map function_of functions.now) result }
+{
+    check_functions(alloc, functions)
+}
+
+// What is kept of a kernel that is accepted.
+fn kept(alloc: Global, kernel: Kernel) -> Result<Checked, Memory>
+    requires small { IsSmallKernel (kernel_of kernel) }
+    requires accepted { IsAcceptedKernel (kernel_of kernel) }
+    ensures { IfOk result (λ checked. IsChecked kernel checked) }
+{
+    let cores = cores_of(alloc, &kernel.funs)?;
+    let derivs = trees_of(alloc, &kernel.funs)?;
+    Ok(Checked::new(kernel, cores, derivs))
 }
 
 fn check_functions(alloc: Global, functions: &Items<KFun>) -> Result<(), Refusal>

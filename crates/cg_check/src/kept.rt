@@ -8,7 +8,8 @@ ghost use Rattle.cg_core.specs.Derivations.{derivation_of};
 ghost use Rattle.cg_core.specs.Small.{IsSmall, IsSmallBody, IsSmallKernel};
 ghost use Rattle.cg_check.specs.NormalForm.{core as core_at};
 ghost use Rattle.cg_check.specs.Marked.{occurrence_tree, HasRows};
-ghost use Rattle.cg_check.specs.Kept.{function_core, function_tree, maybe_core, maybe_tree};
+ghost use Rattle.cg_typing.specs.Kept.{maybe_core, maybe_tree};
+ghost use Rattle.cg_check.specs.Kept.{function_core, function_tree};
 
 use crate::cores::{core_of, given, taken};
 use crate::functions::alone;

@@ -12,7 +12,6 @@ mod refusal;
 mod trees;
 
 pub use functions::check;
-pub use kept::{cores_of, trees_of};
 pub use law::{
     bodies_are_judged_exactly, kernels_are_judged_exactly, linear_variables_are_used_once,
     occurrence_marks_serve, one_core, pass_answers_the_first_fault,

@@ -89,12 +89,12 @@ fn count_functions(functions: &[KFun]) -> usize
 }
 
 /// Judges a kernel by the typing rules.
-fn judge_kernel(alloc: Global, file: &str, kernel: &Kernel) -> Result<Report, Memory>
-    requires { IsSmallKernel (kernel_of kernel.now) }
-    ensures { IfOk result (λ r. JudgesKernel file.now (kernel_of kernel.now) r.status (string_bytes r.text)) }
+fn judge_kernel(alloc: Global, file: &str, kernel: Kernel) -> Result<Report, Memory>
+    requires { IsSmallKernel (kernel_of kernel) }
+    ensures { IfOk result (λ r. JudgesKernel file.now (kernel_of kernel) r.status (string_bytes r.text)) }
 {
     match check(alloc, kernel) {
-        Ok(()) => accepted(alloc, kernel.funs.as_slice()),
+        Ok(checked) => accepted(alloc, checked.kernel().funs.as_slice()),
         Err(Refusal::Rule(_, _)) => not_accepted(alloc, file),
         Err(Refusal::Memory) => Err(Memory),
     }
@@ -106,7 +106,7 @@ fn judge_program(alloc: Global, file: &str, program: &Program) -> Result<Report,
     ensures { IfOk result (λ r. JudgesProgram file.now (program_of program.now) r.status (string_bytes r.text)) }
 {
     match resolve(alloc, program) {
-        Ok(kernel) => judge_kernel(alloc, file, &kernel),
+        Ok(kernel) => judge_kernel(alloc, file, kernel),
         Err(Fault::Memory) => Err(Memory),
         Err(_) => not_accepted(alloc, file),
     }

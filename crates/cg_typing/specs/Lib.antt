@@ -1,4 +1,6 @@
 pub mod Accepted
 pub mod Contexts
+pub mod Holds
+pub mod Kept
 pub mod Laws
 pub mod Rules

@@ -3,6 +3,8 @@
 //! says the rules in words.
 #![tactic(auto)]
 
+mod checked;
 mod law;
 
+pub use checked::Checked;
 pub use law::{linear_goes_one_way, splits_lose_nothing};

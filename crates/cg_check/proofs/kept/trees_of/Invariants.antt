@@ -1,6 +1,7 @@
 use Rattle.std.proofs.Common.{◌≡◌, map, take}
 use Rattle.cg_core.specs.Kernels.{function_of}
-use Rattle.cg_check.specs.Kept.{function_tree, maybe_tree}
+use Rattle.cg_typing.specs.Kept.{maybe_tree}
+use Rattle.cg_check.specs.Kept.{function_tree}
 use Rattle.cg_check.proofs.kept.trees_of.Given as goal
 
 abbrev pub invariant-loop-fun : goal.invariant-loop-fun
