@@ -1,0 +1,13 @@
+use Rattle.std.proofs.Common.{arith}
+use Rattle.cg_eval.specs.Machine.{rest, context_of}
+use Rattle.cg_eval.proofs.Steps as steps
+use Rattle.cg_eval.proofs.machine.add.Goals as goal
+use Rattle.cg_eval.proofs.machine.add.Goals.{in_default-via-then-operands-lt2, in_default-via-else-operands-lt2+else-operands-lt3}
+
+pub returns-in-len2-clause-gives : goal.returns-in-len2-clause-gives
+returns-in-len2-clause-gives c = λ table note e. grind (arith, c.descend.ensures.gives table, steps.want_sum table note c.args.ty c.args.operands.now c.left-item.result)
+
+pub returns-in_default-clause-gives : goal.returns-in_default-clause-gives
+returns-in_default-clause-gives c = λ table note e.
+    steps.no_sum table note c.args.operands.now (rest table c.args.m.now.frames.items (context_of c.args.m.now)) (context_of c.args.m.now) c.args.m.now.left
+    (λ two. elim c.in_default.branch [ in_default-via-then-operands-lt2 w ↦ grind arith | in_default-via-else-operands-lt2+else-operands-lt3 w ↦ grind arith ])

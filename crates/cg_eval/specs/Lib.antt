@@ -1,0 +1,4 @@
+pub mod Evaluation
+pub mod Laws
+pub mod Machine
+pub mod Plain
