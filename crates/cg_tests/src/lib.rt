@@ -6,3 +6,5 @@
 mod calls;
 #[cfg(test)]
 mod check;
+#[cfg(test)]
+mod evaluation;

@@ -1,0 +1,115 @@
+// Evaluation of plain sources.
+use cg_base::{Items, Name, Ty, Word};
+use cg_check::check;
+use cg_eval::{EvalFault, eval, is_plain};
+use cg_parser::parse;
+use cg_resolve::resolve;
+use cg_typing::Checked;
+use cg_value::{Value, print_value};
+use std::alloc::Global;
+use std::process::Abort;
+use std::test::Fail;
+
+/// A source, read, resolved and checked.
+fn checked_source(rt: &impl Abort, alloc: Global, source: &str) -> Result<Checked, Fail> {
+    let Ok(program) = parse(alloc, source.as_bytes()) else {
+        panic!(rt; "not spelled")
+    };
+    let Ok(kernel) = resolve(alloc, &program) else {
+        panic!(rt; "a name is at fault")
+    };
+    let Ok(checked) = check(alloc, kernel) else {
+        panic!(rt; "not accepted")
+    };
+    Ok(checked)
+}
+
+/// Evaluates a function of a plain source on a word, and compares the value and its cost, or that there is none within
+/// these steps.
+fn expect(
+    rt: &impl Abort,
+    alloc: Global,
+    checked: &Checked,
+    fun: u32,
+    arg: u64,
+    steps: u64,
+    expected: Option<(u64, u64)>,
+) -> Result<(), Fail> {
+    let kernel = checked.kernel();
+    if !is_plain(kernel) || fun as usize >= kernel.funs.len() {
+        panic!(rt; "not a function of a plain source");
+    }
+    match eval(alloc, checked, fun, Value::Num(arg), steps) {
+        Ok((Value::Num(value), cost)) => assert_eq!(rt; Some((value, cost)), expected),
+        Ok(_) => panic!(rt; "not a word"),
+        Err(EvalFault::StepLimit) => assert_eq!(rt; None, expected),
+        Err(EvalFault::Memory) => panic!(rt; "no memory"),
+    }
+    Ok(())
+}
+
+#[test]
+fn sums_wrap_and_cost_their_nodes(rt: HostRuntime) -> Result<(), Fail> {
+    let alloc = rt.alloc();
+    let checked = checked_source(&rt, alloc, "f : U32 -> U32\nf x = x + 1\n")?;
+    expect(
+        &rt,
+        alloc,
+        &checked,
+        0,
+        41,
+        1_099_511_627_776,
+        Some((42, 3)),
+    )?;
+    expect(&rt, alloc, &checked, 0, 4_294_967_295, 3, Some((0, 3)))?;
+    expect(&rt, alloc, &checked, 0, 41, 2, None)?;
+    expect(&rt, alloc, &checked, 0, 41, 0, None)
+}
+
+#[test]
+fn calls_and_lets_cost_their_nodes(rt: HostRuntime) -> Result<(), Fail> {
+    let alloc = rt.alloc();
+    let source = "g : U32 -> U32\ng x = x + x\nf : U32 -> U32\nf x = let y = g x in g y\n";
+    let checked = checked_source(&rt, alloc, source)?;
+    expect(&rt, alloc, &checked, 1, 3, 13, Some((12, 13)))?;
+    expect(&rt, alloc, &checked, 1, 3, 12, None)?;
+    expect(&rt, alloc, &checked, 0, 3, 3, Some((6, 3)))
+}
+
+#[test]
+fn a_callee_sees_its_argument_alone(rt: HostRuntime) -> Result<(), Fail> {
+    let alloc = rt.alloc();
+    let source =
+        "g : U32 -> U32\ng x = let z = x + 1 in z + x\nf : U32 -> U32\nf x = let y = x + 100 in let w = g x in w + y + x\n";
+    let checked = checked_source(&rt, alloc, source)?;
+    expect(&rt, alloc, &checked, 1, 5, 20, Some((121, 20)))
+}
+
+#[test]
+fn a_chain_of_ten_thousand_calls_is_evaluated(rt: HostRuntime) -> Result<(), Fail> {
+    let alloc = rt.alloc();
+    let mut source = String::from_str(alloc, "f0 : U32 -> U32\nf0 x = x + 1\n")?;
+    for at in 1..=10_000_u32 {
+        let before = at - 1;
+        source.push_str(&format!(in alloc; "f{at} : U32 -> U32\nf{at} x = f{before} x\n")?)?;
+    }
+    let checked = checked_source(&rt, alloc, &source)?;
+    expect(&rt, alloc, &checked, 10_000, 1, 30_003, Some((2, 30_003)))?;
+    expect(&rt, alloc, &checked, 10_000, 1, 30_002, None)
+}
+
+#[test]
+fn values_are_copied_and_words_printed(rt: HostRuntime) -> Result<(), Fail> {
+    let alloc = rt.alloc();
+    let mut fields = Items::new(alloc);
+    fields.push(Value::Num(7))?;
+    fields.push(Value::Gone)?;
+    let value = Value::Variant(
+        Name::new(alloc, b"Some")?,
+        Box::new(alloc, Value::Fields(fields))?,
+    );
+    assert!(rt; matches!(value.copy(alloc)?, Value::Variant(_, _)));
+    let text = print_value(alloc, &Value::Num(4_294_967_295), &Ty::Word(Word::U32))?;
+    assert_eq!(rt; text.as_slice(), b"4294967295".as_slice());
+    Ok(())
+}
