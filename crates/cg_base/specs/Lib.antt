@@ -3,3 +3,4 @@ pub mod Lists
 pub mod Reader
 pub mod Types
 pub mod formers
+pub mod Words

@@ -18,4 +18,4 @@ pub use limit::Limit;
 pub use memory::Memory;
 pub use name::Name;
 pub use place::Place;
-pub use ty::{Part, Ty};
+pub use ty::{Part, Ty, copy_types};

@@ -57,8 +57,9 @@ impl Ty {
     }
 }
 
+/// Equal types, in the same order.
 #[cycle(copy)]
-fn copy_types(alloc: Global, types: &Items<Ty>) -> Result<Items<Ty>, Memory>
+pub fn copy_types(alloc: Global, types: &Items<Ty>) -> Result<Items<Ty>, Memory>
     ensures { IfOk result (λ ts. map type_of ts ≡ map type_of types.now) }
 {
     let mut copies = Items::new(alloc);

@@ -4,7 +4,7 @@ use Rattle.std.proofs.Math.Pow.{mod-mod-pow}
 use Rattle.cg_base.specs.declared.kind.Word.{Word}
 use Rattle.cg_base.specs.declared.kind.Word.TheVariants.{U8, U16, U32, U64}
 use Rattle.cg_value.specs.declared.value.Value.{the_lemmas}
-use Rattle.cg_value.specs.Printed.{bits}
+use Rattle.cg_base.specs.Words.{bits}
 
 -- a sum of 64 bits keeps what a narrower word keeps of it
 pub narrowed : (w : Word) (n : ℕ) → n % 2 ^ 64 % 2 ^ bits w ≡ n % 2 ^ bits w

@@ -6,7 +6,7 @@ use Rattle.cg_base.specs.declared.fun.Fun.TheVariants.{User, Lib}
 use Rattle.cg_base.specs.Types.{Tau, word}
 use Rattle.cg_core.specs.declared.op.Op.TheVariants.{Add}
 use Rattle.cg_core.specs.Terms.{Note, Tree, term, Shape, var, unit, lit, fun, op, app, lets, none, more}
-use Rattle.cg_value.specs.Printed.{bits}
+use Rattle.cg_base.specs.Words.{bits}
 use Rattle.cg_value.specs.Values.{Val, number, nothing, function, gone}
 
 -- what comes of a budget: it was not enough, or something was asked for that has no meaning, or a value with what is left

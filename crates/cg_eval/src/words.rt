@@ -3,7 +3,7 @@
 
 ghost use Rattle.std.specs.Prelude.{◌≡◌, ◌+◌, ◌%◌, ◌^◌};
 ghost use Rattle.cg_base.specs.Types.{type_of, word as word_type};
-ghost use Rattle.cg_value.specs.Printed.{bits};
+ghost use Rattle.cg_base.specs.Words.{bits};
 ghost use Rattle.cg_value.specs.Values.{value_of};
 ghost use Rattle.cg_eval.specs.Evaluation.{sum_at, literal as literal_of};
 

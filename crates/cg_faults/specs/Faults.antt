@@ -6,13 +6,14 @@ use Rattle.cg_base.specs.declared.fun.Fun.{Fun}
 use Rattle.cg_base.specs.declared.kind.Kinds.{Kinds}
 use Rattle.cg_base.specs.declared.place.Place.{Place}
 use Rattle.cg_base.specs.Types.{Tau, word, unit as unit_type, arrow}
+use Rattle.cg_base.specs.Words.{bits}
 use Rattle.cg_core.specs.declared.op.Op.TheVariants.{Add}
 use Rattle.cg_core.specs.Kernels.{Function, Body}
 use Rattle.cg_core.specs.Terms.{Tree, term, Shape, var, unit, lit, fun, op, app, lets, none, more, Arg}
 use Rattle.cg_kinds.specs.Kinds.{is_word, or_unit}
 use Rattle.cg_typing.specs.Accepted.{kinds_of_vars}
 use Rattle.cg_typing.specs.Contexts.{push, drops, shares}
-use Rattle.cg_typing.specs.Rules.{note_at, is_literal, bits, fun_type}
+use Rattle.cg_typing.specs.Rules.{note_at, is_literal, fun_type}
 use Rattle.cg_faults.specs.declared.rule.Rule.{Rule}
 use Rattle.cg_faults.specs.declared.rule.Rule.TheVariants.{K3, K4, T1, T2, T3, T4, T12}
 use Rattle.cg_faults.specs.Occurrences.{touched}

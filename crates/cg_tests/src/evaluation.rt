@@ -99,6 +99,30 @@ fn a_chain_of_ten_thousand_calls_is_evaluated(rt: HostRuntime) -> Result<(), Fai
 }
 
 #[test]
+fn a_million_nodes_are_evaluated(rt: HostRuntime) -> Result<(), Fail> {
+    let alloc = rt.alloc();
+    let mut source = String::from_str(alloc, "f0 : U32 -> U32\nf0 x = x + 1\n")?;
+    for at in 1..=17_u32 {
+        let before = at - 1;
+        source.push_str(&format!(in alloc;
+            "f{at} : U32 -> U32\nf{at} x = let y = f{before} x in f{before} y\n"
+        )?)?;
+    }
+    let checked = checked_source(&rt, alloc, &source)?;
+    // Each function calls the one before twice, at 7 nodes of its own: 10 * 2^17 - 7 nodes.
+    expect(
+        &rt,
+        alloc,
+        &checked,
+        17,
+        5,
+        1_310_713,
+        Some((131_077, 1_310_713)),
+    )?;
+    expect(&rt, alloc, &checked, 17, 5, 1_310_712, None)
+}
+
+#[test]
 fn values_are_copied_and_words_printed(rt: HostRuntime) -> Result<(), Fail> {
     let alloc = rt.alloc();
     let mut fields = Items::new(alloc);

@@ -4,9 +4,8 @@ use Rattle.std.specs.Option.{option_map}
 use Rattle.cg_base.specs.declared.fun.Fun.{Fun}
 use Rattle.cg_base.specs.declared.fun.Fun.TheVariants.{User, Lib}
 use Rattle.cg_base.specs.declared.kind.Kinds.{Kinds}
-use Rattle.cg_base.specs.declared.kind.Word.{Word}
-use Rattle.cg_base.specs.declared.kind.Word.TheVariants.{U8, U16, U32, U64}
 use Rattle.cg_base.specs.Types.{Tau, word, unit as unit_type, arrow}
+use Rattle.cg_base.specs.Words.{bits}
 use Rattle.cg_core.specs.declared.derivation.Mark.{Mark}
 use Rattle.cg_core.specs.declared.derivation.Node.{Node}
 use Rattle.cg_core.specs.declared.derivation.Node.TheVariants.{Var, Unit as UnitNode, Lit, Fun as FunNode, Op as OpNode, App, Let}
@@ -42,13 +41,6 @@ is_literal_shape _ = false
 
 abbrev pub is_literal : {A : Type 0} → Tree A → Bool
 is_literal (term a shape) = is_literal_shape shape
-
--- the number of bits of a word
-abbrev pub bits : Word → ℕ
-bits U8 = 8
-bits U16 = 16
-bits U32 = 32
-bits U64 = 64
 
 -- a literal is in range of a type: of no type where it is above 2^64 - 1
 abbrev pub InRange : Option ℕ → Tau → Type 0

@@ -1,9 +1,8 @@
 // Values.
 ghost use Rattle.std.specs.Prelude.{◌≡◌, map, IfOk};
-ghost use Rattle.cg_base.specs.Types.{type_of};
 ghost use Rattle.cg_value.specs.Values.{value_of};
 
-use cg_base::{Fun, Items, Memory, Name, Ty};
+use cg_base::{Fun, Items, Memory, Name, Ty, copy_types};
 use std::alloc::Global;
 
 /// A value, with no address in it (the paper's value semantics, section 3; docs/LANGUAGE.md, "Values"). `Num` is a
@@ -51,17 +50,6 @@ fn copy_values(alloc: Global, values: &Items<Value>) -> Result<Items<Value>, Mem
     let mut copies = Items::new(alloc);
     for value in values.as_slice() {
         copies.push(value.copy(alloc)?)?;
-    }
-    Ok(copies)
-}
-
-// The same types.
-fn copy_types(alloc: Global, types: &Items<Ty>) -> Result<Items<Ty>, Memory>
-    ensures { IfOk result (λ ts. map type_of ts ≡ map type_of types.now) }
-{
-    let mut copies = Items::new(alloc);
-    for ty in types.as_slice() {
-        copies.push(ty.copy(alloc)?)?;
     }
     Ok(copies)
 }
