@@ -44,6 +44,13 @@ refused_as : (file source text : List ℕ) → Refuses file source text → NoPr
 refused_as file source text (not_built none is) = inl none
 refused_as file source text (not_accepted p spelled never is) = inr ((p, spelled), never)
 
+-- where no fault is answered, what follows from a verdict holds, or memory ran out
+pub or_memory : (P : Type 0) (s : Status) → (s ≡ ReadFault → ⊥) → (s ≡ WriteFault → ⊥) → (IsVerdict s → P) → P ⊎ (s ≡ Memory)
+or_memory P ReadFault no_read no_write verdict = absurd (no_read refl)
+or_memory P WriteFault no_read no_write verdict = absurd (no_write refl)
+or_memory P Memory no_read no_write verdict = inr refl
+or_memory P s no_read no_write verdict = inl (verdict tt)
+
 -- a source spells at most one program: so what it spells is within the depth or beyond it
 module _ (one : (source : List ℕ) (p q : List Entry) → Spells source p → Spells source q → p ≡ q) where
   not_deep : (source : List ℕ) → SpellsSome source → SpellsDeep source → ⊥
