@@ -1,5 +1,5 @@
 -- What the program answers and prints, and why.
-use Rattle.std.specs.Prelude.{◌≡◌, ◌↔◌, ℕ, Bool, true, false, ◌<◌, ◌≤◌, List, [], ◌++◌, length, take, Some, None, codes, decimal, if◌then◌else◌, ◌+◌, ◌∷◌, ◌⊎◌, ⊤}
+use Rattle.std.specs.Prelude.{◌≡◌, ◌↔◌, ℕ, ◌<◌, ◌≤◌, List, [], ◌++◌, length, take, Some, None, codes, count_by, decimal, is_some, ◌⊎◌, ⊤}
 use Rattle.std.specs.declared.option.Option.{Option}
 use Rattle.std.specs.Io.KnownBytes.{append_known}
 use Rattle.cg_core.specs.Kernels.{Function}
@@ -30,14 +30,6 @@ pub record IsAcceptedProgram (p : List Entry) : Type 0 where
 abbrev pub Accepted : List ℕ → Type 0
 Accepted source = (p : List Entry) × Spells source p × IsAcceptedProgram p
 
--- how many functions have a definition
-abbrev pub has_body : Function → Bool
-has_body f = elim f.body as (λ _. Bool) [ None ↦ false | Some body ↦ true ]
-
-abbrev pub function_count : List Function → ℕ
-function_count [] = 0
-function_count (f ∷ functions) = if has_body f then 1 + function_count functions else function_count functions
-
 -- the words ask for a file to be checked, and these bytes were read of it
 pub record Reads (words : List (List ℕ)) (held : Option Held) (file source : List ℕ) : Type 0 where
   pub asked : checked_file words ≡ Some file
@@ -47,9 +39,9 @@ pub record Reads (words : List (List ℕ)) (held : Option Held) (file source : L
 abbrev pub IsLine : Status → List ℕ → Status → List ℕ → Type 0
 IsLine wanted line status text = (status ≡ wanted) × (text ≡ line)
 
--- the lines of a source
+-- the lines of a source; the first says how many functions have a definition
 abbrev pub ok_line : List Function → List ℕ
-ok_line functions = codes "ok: " ++ decimal (function_count functions) ++ codes " functions\n"
+ok_line functions = codes "ok: " ++ decimal (count_by (λ f. is_some f.body) functions) ++ codes " functions\n"
 
 abbrev pub not_built_line : List ℕ → List ℕ
 not_built_line file = file ++ codes ": F1 form not built\n"

@@ -1,12 +1,12 @@
 // What is said of a source, before it is printed.
-ghost use Rattle.std.specs.Prelude.{◌≡◌, ◌<◌, ◌^◌, ◌++◌, codes, map, IfOk, OnOk, string_bytes, count_by, if◌then◌else◌};
+ghost use Rattle.std.specs.Prelude.{◌≡◌, ◌<◌, ◌^◌, ◌++◌, codes, map, IfOk, OnOk, string_bytes, count_by, is_some};
 ghost use Rattle.std.specs.List.{All};
 ghost use Rattle.cg_core.specs.Kernels.{function_of, kernel_of};
 ghost use Rattle.cg_core.specs.Small.{IsSmallKernel};
 ghost use Rattle.cg_outside.specs.declared.outside.FileFault.{FileFault};
 ghost use Rattle.cg_surface.specs.Trees.{program_of, OnlySumsEntry};
 ghost use Rattle.cg_driver.specs.Words.{texts};
-ghost use Rattle.cg_driver.specs.Answer.{IsLine, ok_line, not_built_line, not_accepted_line, has_body, JudgesKernel, JudgesProgram, Judges, Says};
+ghost use Rattle.cg_driver.specs.Answer.{IsLine, ok_line, not_built_line, not_accepted_line, JudgesKernel, JudgesProgram, Judges, Says};
 
 use crate::Status;
 use crate::words::file_of;
@@ -70,20 +70,13 @@ fn beyond(alloc: Global, limit: &str) -> Result<Report, Memory>
     })
 }
 
-/// Whether a function has a definition, as 1 or 0.
-fn definitions_of(function: &KFun) -> usize
-    ensures { result ≡ (if has_body (function_of function.now) then 1 else 0) }
-{
-    usize::from(function.body.is_some())
-}
-
 /// How many functions have a definition.
 fn count_functions(functions: &[KFun]) -> usize
-    ensures { result ≡ count_by (λ f. has_body (function_of f)) functions.now }
+    ensures { result ≡ count_by (λ f. is_some f.body) functions.now }
 {
     let mut count = 0;
     for function in functions {
-        count += definitions_of(function);
+        count += usize::from(function.body.is_some());
     }
     count
 }
