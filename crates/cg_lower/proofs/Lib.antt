@@ -1,0 +1,9 @@
+pub mod Evaluations
+pub mod Frames
+pub mod LowerSteps
+pub mod Names
+pub mod OrderSteps
+pub mod ProgramSteps
+pub mod Programs
+pub mod Simulate
+pub mod Steps

@@ -1,0 +1,17 @@
+use Rattle.std.proofs.Common.{arith}
+use Rattle.cg_typing.specs.Holds.{cores_in}
+use Rattle.cg_lower.specs.Ranks.{bodies_of}
+use Rattle.cg_lower.proofs.OrderSteps.{order_is}
+use Rattle.cg_lower.proofs.ProgramSteps.{counted, no_more_than}
+use Rattle.cg_lower.proofs.program.lower.Goals as goal
+
+pub ranks_of-requires : goal.ranks_of-requires
+ranks_of-requires c =
+    let n = counted c.args.checked.now c.kernel.result.now c.in-Ok.count c.len.result c.kernel.ensures c.len.ensures c.in-Ok.ensures.1 in
+    record { whole = no_more_than c.args.checked.now c.in-Ok.count n }
+
+pub returns : goal.returns
+returns c =
+    let n = counted c.args.checked.now c.kernel.result.now c.in-Ok.count c.len.result c.kernel.ensures c.len.ensures c.in-Ok.ensures.1 in
+    let o = order_is (bodies_of (cores_in c.args.checked.now)) c.in-Ok.count (no_more_than c.args.checked.now c.in-Ok.count n) in
+    grind (arith, c.in_ok-functions_of.ensures, c.in_ok-order.ensures, c.in_ok-ranks.ensures, c.deref.ensures)

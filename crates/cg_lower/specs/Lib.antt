@@ -1,0 +1,4 @@
+pub mod Lowered
+pub mod Places
+pub mod Ranks
+pub mod Simulated

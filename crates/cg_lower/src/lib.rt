@@ -1,0 +1,12 @@
+//! Lowering: the C of a plain source, and that it gives what evaluation gives. docs/LANGUAGE.md, "Lowering", says it in words.
+#![tactic(auto)]
+
+mod function;
+mod law;
+mod order;
+mod program;
+mod terms;
+
+pub use function::lower_function;
+pub use law::lowering_simulates;
+pub use program::lower;
