@@ -1,5 +1,5 @@
 -- Lists of flags, as the code makes them.
-use Rattle.std.proofs.Common.{◌≡◌, ℕ, zero, suc, ◌<◌, Bool, true, false, List, [], ◌∷◌, ◌++◌, length, refl, ap, arith, get_or}
+use Rattle.std.proofs.Common.{◌≡◌, ℕ, zero, suc, ◌<◌, Bool, true, false, List, [], ◌∷◌, ◌++◌, length, refl, ap, ◌∙◌, arith, get_or}
 use Rattle.std.specs.Prelude.{slice_set}
 use Rattle.cg_typing.specs.Contexts.{push}
 use Rattle.cg_check.specs.Pass.{flag_at, joined, no_uses, one_use, last, front}
@@ -41,3 +41,7 @@ pub front_of : (bs : List Bool) (b : Bool) → front (bs ++ b ∷ []) ≡ bs
 front_of [] b = refl
 front_of (c ∷ []) b = refl
 front_of (c ∷ d ∷ bs) b = ap (λ us. c ∷ us) (front_of (d ∷ bs) b)
+
+-- two that were pushed
+pub two_pushed : {A : Type 0} (us vs ts : List A) (x y : A) → us ≡ [] → vs ≡ us ++ x ∷ [] → ts ≡ vs ++ y ∷ [] → ts ≡ x ∷ y ∷ []
+two_pushed us vs ts x y h k l = l ∙ ap (λ zs. zs ++ y ∷ []) (k ∙ ap (λ zs. zs ++ x ∷ []) h)

@@ -1,11 +1,12 @@
 // The core of a term.
 #![tactic(auto, unfolding(crate::proofs::PassSteps::size), using(crate::proofs::CoreSteps::core_steps))]
 
-ghost use Rattle.std.specs.Prelude.{◌≡◌, ◌<◌, length, map, IfOk, [], ◌∷◌, true, false, None, Some};
+ghost use Rattle.std.specs.Prelude.{◌≡◌, ◌<◌, suc, length, map, IfOk, [], ◌∷◌, true, false, None, Some};
 ghost use Rattle.cg_base.specs.Types.{type_of};
 ghost use Rattle.cg_core.specs.Kernels.{the_term, the_core, the_core_form, function_of};
 ghost use Rattle.cg_core.specs.Terms.{term as term_of, var as var_of, fun as fun_of, op as op_of, app as app_of, lets as lets_of, more, none, to_trees};
 ghost use Rattle.cg_core.specs.declared.op.Op.TheVariants.{Add};
+ghost use Rattle.cg_typing.specs.Contexts.{push as push_of};
 ghost use Rattle.cg_base.specs.declared.fun.Fun.TheVariants.{User};
 ghost use Rattle.cg_core.specs.Small.{IsSmall, IsSmallShape};
 ghost use Rattle.cg_faults.specs.Faults.{plain_in, plain_at, mentioned, taken_by, given_by};
@@ -28,7 +29,18 @@ fn noted(alloc: Global, direction: &Option<Ty>, ty: Ty) -> Result<Ty, Memory>
     }
 }
 
-// A node of a core.
+// A node of a core, with the type that it notes.
+fn node(place: Place, ty: Ty, form: Form<Typed>) -> Term<Typed>
+    ensures answer { the_core result ≡ term_of (noted_at place (type_of ty)) (the_core_form form) }
+    ensures ty { type_of result.note.ty ≡ type_of ty }
+{
+    Term {
+        note: Typed { place, ty },
+        form,
+    }
+}
+
+// The same in a direction.
 fn core_node(
     source: &Source,
     direction: &Option<Ty>,
@@ -41,10 +53,7 @@ fn core_node(
     ensures ty { IfOk result (λ t. type_of t.note.ty ≡ noted_in (direction_of direction.now) (type_of ty)) }
 {
     let ty = noted(source.alloc, direction, ty)?;
-    Ok(Term {
-        note: Typed { place, ty },
-        form,
-    })
+    Ok(node(place, ty, form))
 }
 
 // What an arrow takes, and what it gives.
@@ -66,22 +75,17 @@ pub fn given(alloc: Global, ty: &Ty) -> Result<Ty, Memory>
     }
 }
 
-// A call, whose parts are made.
-fn call(
-    source: &Source,
-    direction: &Option<Ty>,
-    place: Place,
-    fun: Term<Typed>,
-    arg: Term<Typed>,
-) -> Result<Term<Typed>, Memory>
-    ensures answer { IfOk result (λ t. the_core t
-        ≡ term_of (noted_at place (noted_in (direction_of direction.now) (given_by (type_of fun.note.ty)))) (app_of (the_core fun) (the_core arg))) }
-    ensures ty { IfOk result (λ t. type_of t.note.ty ≡ noted_in (direction_of direction.now) (given_by (type_of fun.note.ty))) }
+fn two_boxes(
+    alloc: Global,
+    first: Term<Typed>,
+    second: Term<Typed>,
+) -> Result<(Box<Term<Typed>>, Box<Term<Typed>>), Memory>
+    ensures first { IfOk result (λ both. both.0.value ≡ first) }
+    ensures second { IfOk result (λ both. both.1.value ≡ second) }
 {
-    let ty = given(source.alloc, &fun.note.ty)?;
-    let fun = Box::new(source.alloc, fun)?;
-    let arg = Box::new(source.alloc, arg)?;
-    core_node(source, direction, place, ty, Form::App(fun, arg))
+    let first = Box::new(alloc, first)?;
+    let second = Box::new(alloc, second)?;
+    Ok((first, second))
 }
 
 fn two_terms(
@@ -97,20 +101,50 @@ fn two_terms(
     Ok(terms)
 }
 
-// A sum, whose operands are made.
+// The type of a core, and what it gives where it is an arrow.
+fn type_of_core(alloc: Global, core: &Term<Typed>) -> Result<Ty, Memory>
+    ensures { IfOk result (λ t. type_of t ≡ type_of core.now.note.ty) }
+{
+    core.note.ty.copy(alloc)
+}
+
+fn given_by_core(alloc: Global, core: &Term<Typed>) -> Result<Ty, Memory>
+    ensures { IfOk result (λ t. type_of t ≡ given_by (type_of core.now.note.ty)) }
+{
+    given(alloc, &core.note.ty)
+}
+
+// A call, whose parts are made.
+fn call(
+    source: &Source,
+    direction: &Option<Ty>,
+    place: Place,
+    fun: Term<Typed>,
+    arg: Term<Typed>,
+) -> Result<Term<Typed>, Memory>
+    ensures answer { IfOk result (λ t. the_core t
+        ≡ term_of (noted_at place (noted_in (direction_of direction.now) (given_by (type_of fun.note.ty)))) (app_of (the_core fun) (the_core arg))) }
+    ensures ty { IfOk result (λ t. type_of t.note.ty ≡ noted_in (direction_of direction.now) (given_by (type_of fun.note.ty))) }
+{
+    let ty = given_by_core(source.alloc, &fun)?;
+    let (fun, arg) = two_boxes(source.alloc, fun, arg)?;
+    core_node(source, direction, place, ty, Form::App(fun, arg))
+}
+
+// A sum, whose operands are made. It has the type of the left one.
 fn sum(
     source: &Source,
     place: Place,
-    ty: Ty,
     left: Term<Typed>,
     right: Term<Typed>,
 ) -> Result<Term<Typed>, Memory>
     ensures answer { IfOk result (λ t. the_core t
-        ≡ term_of (noted_at place (type_of ty)) (op_of Add (more (the_core left) (more (the_core right) none)))) }
-    ensures ty { IfOk result (λ t. type_of t.note.ty ≡ type_of ty) }
+        ≡ term_of (noted_at place (type_of left.note.ty)) (op_of Add (more (the_core left) (more (the_core right) none)))) }
+    ensures ty { IfOk result (λ t. type_of t.note.ty ≡ type_of left.note.ty) }
 {
+    let ty = type_of_core(source.alloc, &left)?;
     let operands = two_terms(source.alloc, left, right)?;
-    core_node(source, &None, place, ty, Form::Op(Op::Add, operands))
+    Ok(node(place, ty, Form::Op(Op::Add, operands)))
 }
 
 // A binding, whose parts are made.
@@ -125,10 +159,18 @@ fn binding(
         ≡ term_of (noted_at place (type_of body.note.ty)) (lets_of binder (the_core value) (the_core body))) }
     ensures ty { IfOk result (λ t. type_of t.note.ty ≡ type_of body.note.ty) }
 {
-    let ty = body.note.ty.copy(source.alloc)?;
-    let value = Box::new(source.alloc, value)?;
-    let body = Box::new(source.alloc, body)?;
-    core_node(source, &None, place, ty, Form::Let(binder, value, body))
+    let ty = type_of_core(source.alloc, &body)?;
+    let (value, body) = two_boxes(source.alloc, value, body)?;
+    Ok(node(place, ty, Form::Let(binder, value, body)))
+}
+
+// The context of the body of a binding, whose value is made.
+fn enter_body(source: &Source, context: &mut Vec<Ty>, value: &Term<Typed>) -> Result<(), Memory>
+    ensures items { IfOk result (λ u. map type_of context.new.items ≡ push_of (map type_of context.old.items) (type_of value.now.note.ty)) }
+    ensures long { IfOk result (λ u. length context.new.items ≡ suc (length context.old.items)) }
+{
+    let ty = value.note.ty.copy(source.alloc)?;
+    enter(context, ty)
 }
 
 /// The core of a small term in a plain context and a direction. Want of memory is its one refusal.
@@ -219,11 +261,9 @@ fn core_sum_against(
     ensures same { IfOk result (λ t. map type_of context.new.items ≡ map type_of context.old.items) }
     ensures size { IfOk result (λ t. length context.new.items ≡ length context.old.items) }
 {
-    let ty = wanted.copy(source.alloc)?;
-    let direction = Some(wanted.copy(source.alloc)?);
-    let left = core_of(source, context, &direction, left)?;
-    let right = core_of(source, context, &direction, right)?;
-    sum(source, place, ty, left, right)
+    let left = core_against(source, context, wanted, left)?;
+    let right = core_against(source, context, wanted, right)?;
+    sum(source, place, left, right)
 }
 
 // A sum that is synthesised, whose guide is the left operand.
@@ -244,11 +284,9 @@ fn core_sum_by_left(
     ensures same { IfOk result (λ t. map type_of context.new.items ≡ map type_of context.old.items) }
     ensures size { IfOk result (λ t. length context.new.items ≡ length context.old.items) }
 {
-    let left = core_of(source, context, &None, left)?;
-    let ty = left.note.ty.copy(source.alloc)?;
-    let direction = Some(left.note.ty.copy(source.alloc)?);
-    let right = core_of(source, context, &direction, right)?;
-    sum(source, place, ty, left, right)
+    let left = core_alone(source, context, left)?;
+    let right = core_beside(source, context, &left, right)?;
+    sum(source, place, left, right)
 }
 
 // A sum that is synthesised, whose guide is the right operand.
@@ -269,11 +307,9 @@ fn core_sum_by_right(
     ensures same { IfOk result (λ t. map type_of context.new.items ≡ map type_of context.old.items) }
     ensures size { IfOk result (λ t. length context.new.items ≡ length context.old.items) }
 {
-    let right = core_of(source, context, &None, right)?;
-    let ty = right.note.ty.copy(source.alloc)?;
-    let direction = Some(right.note.ty.copy(source.alloc)?);
-    let left = core_of(source, context, &direction, left)?;
-    sum(source, place, ty, left, right)
+    let right = core_alone(source, context, right)?;
+    let left = core_beside(source, context, &right, left)?;
+    sum(source, place, left, right)
 }
 
 #[cycle(core)]
@@ -293,9 +329,8 @@ fn core_app(
     ensures same { IfOk result (λ t. map type_of context.new.items ≡ map type_of context.old.items) }
     ensures size { IfOk result (λ t. length context.new.items ≡ length context.old.items) }
 {
-    let fun = core_of(source, context, &None, fun)?;
-    let from = taken(source.alloc, &fun.note.ty)?;
-    let arg = core_of(source, context, &Some(from), arg)?;
+    let fun = core_alone(source, context, fun)?;
+    let arg = core_argument(source, context, &fun, arg)?;
     call(source, direction, place, fun, arg)
 }
 
@@ -317,10 +352,87 @@ fn core_let(
     ensures same { IfOk result (λ t. map type_of context.new.items ≡ map type_of context.old.items) }
     ensures size { IfOk result (λ t. length context.new.items ≡ length context.old.items) }
 {
-    let value = core_of(source, context, &None, value)?;
-    let ty = value.note.ty.copy(source.alloc)?;
-    enter(context, ty)?;
+    let value = core_alone(source, context, value)?;
+    enter_body(source, context, &value)?;
     let body = core_of(source, context, direction, body)?;
     leave(context);
     binding(source, place, binder, value, body)
+}
+
+// The core of a term whose type is synthesised.
+#[cycle(core)]
+fn core_alone(
+    source: &Source,
+    context: &mut Vec<Ty>,
+    term: &Term<Place>,
+) -> Result<Term<Typed>, Memory>
+    requires small { IsSmall (length (map function_of source.now.functions.now)) (length context.old.items) (the_term term.now) }
+    ensures answer { IfOk result (λ t. the_core t ≡ core_at (map function_of source.now.functions.now)
+        (map type_of context.old.items) None (the_term term.now)) }
+    ensures ty { IfOk result (λ t. type_of t.note.ty ≡ plain_in (map function_of source.now.functions.now)
+        (map type_of context.old.items) None (the_term term.now)) }
+    ensures same { IfOk result (λ t. map type_of context.new.items ≡ map type_of context.old.items) }
+    ensures size { IfOk result (λ t. length context.new.items ≡ length context.old.items) }
+{
+    core_of(source, context, &None, term)
+}
+
+// The core of a term that is checked against a type.
+#[cycle(core)]
+fn core_against(
+    source: &Source,
+    context: &mut Vec<Ty>,
+    wanted: &Ty,
+    term: &Term<Place>,
+) -> Result<Term<Typed>, Memory>
+    requires small { IsSmall (length (map function_of source.now.functions.now)) (length context.old.items) (the_term term.now) }
+    ensures answer { IfOk result (λ t. the_core t ≡ core_at (map function_of source.now.functions.now)
+        (map type_of context.old.items) (Some (type_of wanted.now)) (the_term term.now)) }
+    ensures ty { IfOk result (λ t. type_of t.note.ty ≡ plain_in (map function_of source.now.functions.now)
+        (map type_of context.old.items) (Some (type_of wanted.now)) (the_term term.now)) }
+    ensures same { IfOk result (λ t. map type_of context.new.items ≡ map type_of context.old.items) }
+    ensures size { IfOk result (λ t. length context.new.items ≡ length context.old.items) }
+{
+    let direction = Some(wanted.copy(source.alloc)?);
+    core_of(source, context, &direction, term)
+}
+
+// The core of an operand that has the type of the other one, whose core is made.
+#[cycle(core)]
+fn core_beside(
+    source: &Source,
+    context: &mut Vec<Ty>,
+    other: &Term<Typed>,
+    term: &Term<Place>,
+) -> Result<Term<Typed>, Memory>
+    requires small { IsSmall (length (map function_of source.now.functions.now)) (length context.old.items) (the_term term.now) }
+    ensures answer { IfOk result (λ t. the_core t ≡ core_at (map function_of source.now.functions.now)
+        (map type_of context.old.items) (Some (type_of other.now.note.ty)) (the_term term.now)) }
+    ensures ty { IfOk result (λ t. type_of t.note.ty ≡ plain_in (map function_of source.now.functions.now)
+        (map type_of context.old.items) (Some (type_of other.now.note.ty)) (the_term term.now)) }
+    ensures same { IfOk result (λ t. map type_of context.new.items ≡ map type_of context.old.items) }
+    ensures size { IfOk result (λ t. length context.new.items ≡ length context.old.items) }
+{
+    let direction = Some(other.note.ty.copy(source.alloc)?);
+    core_of(source, context, &direction, term)
+}
+
+// The core of an argument of a function whose core is made.
+#[cycle(core)]
+fn core_argument(
+    source: &Source,
+    context: &mut Vec<Ty>,
+    fun: &Term<Typed>,
+    term: &Term<Place>,
+) -> Result<Term<Typed>, Memory>
+    requires small { IsSmall (length (map function_of source.now.functions.now)) (length context.old.items) (the_term term.now) }
+    ensures answer { IfOk result (λ t. the_core t ≡ core_at (map function_of source.now.functions.now)
+        (map type_of context.old.items) (Some (taken_by (type_of fun.now.note.ty))) (the_term term.now)) }
+    ensures ty { IfOk result (λ t. type_of t.note.ty ≡ plain_in (map function_of source.now.functions.now)
+        (map type_of context.old.items) (Some (taken_by (type_of fun.now.note.ty))) (the_term term.now)) }
+    ensures same { IfOk result (λ t. map type_of context.new.items ≡ map type_of context.old.items) }
+    ensures size { IfOk result (λ t. length context.new.items ≡ length context.old.items) }
+{
+    let direction = Some(taken(source.alloc, &fun.note.ty)?);
+    core_of(source, context, &direction, term)
 }
