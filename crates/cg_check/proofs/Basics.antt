@@ -9,7 +9,7 @@ use Rattle.cg_base.specs.declared.place.Place.{Place}
 use Rattle.cg_typing.specs.Contexts.{Context, look, mark_at, push, first_side, second_side, first, second}
 use Rattle.cg_typing.specs.Rules.{type_at}
 use Rattle.cg_faults.specs.Faults.{Event, event, plain_at, plain_in, AllHold}
-use Rattle.cg_check.specs.NormalForm.{pick, marks, core}
+use Rattle.cg_derive.specs.NormalForm.{pick, marks, core}
 
 -- tests
 pub or_left : (a b : Bool) → a ≡ true → (a || b) ≡ true
@@ -31,13 +31,6 @@ none_or false b h k = k
 pub and_both : (a b : Bool) → (a && b) ≡ true → (a ≡ true) × (b ≡ true)
 and_both true b e = (refl, e)
 and_both false b e = absurd (cc)
-
-pub apart : {X : Type 0} (b : Bool) → b ≡ true → b ≡ false → X
-apart b h k = absurd (cc)
-
-pub bool_is : (b : Bool) → (b ≡ true) ⊎ (b ≡ false)
-bool_is true = inl refl
-bool_is false = inr refl
 
 pub or_cases : (a b : Bool) → (a || b) ≡ true → (a ≡ true) ⊎ (b ≡ true)
 or_cases true b e = inl refl

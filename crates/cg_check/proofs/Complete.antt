@@ -17,8 +17,9 @@ use Rattle.cg_faults.specs.Faults.{Event, event, is_arrow, taken_by, given_by, i
 use Rattle.cg_faults.specs.declared.rule.Rule.TheVariants.{T12}
 use Rattle.cg_faults.specs.Occurrences.{touched}
 use Rattle.cg_faults.specs.Same.{same}
-use Rattle.cg_check.specs.NormalForm.{noted, core}
-use Rattle.cg_check.proofs.Basics.{apart, none_or, or_left, or_right, or_not, or_false, or_elim, else_or, below_suc, lt_test_is, look_first, look_second, length_first, length_second, length_push, look_old, look_new, at_old, at_new, look_within, hold_append, type_core}
+use Rattle.cg_derive.specs.NormalForm.{noted, core}
+use Rattle.cg_derive.proofs.Tests.{apart}
+use Rattle.cg_check.proofs.Basics.{none_or, or_left, or_right, or_not, or_false, or_elim, else_or, below_suc, lt_test_is, look_first, look_second, length_first, length_second, length_push, look_old, look_new, at_old, at_new, look_within, hold_append, type_core}
 use Rattle.cg_check.proofs.SameTypes.{same_refl}
 use Rattle.cg_check.proofs.Sound.{body_in}
 

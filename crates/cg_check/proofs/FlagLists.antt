@@ -1,8 +1,8 @@
 -- Lists of flags, as the code makes them.
-use Rattle.std.proofs.Common.{◌≡◌, ℕ, zero, suc, ◌<◌, Bool, true, false, List, [], ◌∷◌, ◌++◌, length, refl, ap, ◌∙◌, arith, get_or}
+use Rattle.std.proofs.Common.{◌≡◌, ℕ, zero, suc, ◌<◌, Bool, true, false, List, [], ◌∷◌, ◌++◌, length, refl, ap, arith, get_or}
 use Rattle.std.specs.Prelude.{slice_set}
-use Rattle.cg_typing.specs.Contexts.{push}
-use Rattle.cg_check.specs.Pass.{flag_at, joined, no_uses, one_use, last, front}
+use Rattle.cg_derive.specs.Flags.{no_uses}
+use Rattle.cg_check.specs.Pass.{flag_at, joined, one_use, last, front}
 
 pub set_one : (n i : ℕ) → i < n → slice_set (no_uses n) i true ≡ one_use n i
 set_one zero i h = absurd (omega arith)
@@ -28,10 +28,6 @@ flag_get [] i d h = absurd (omega arith)
 flag_get (b ∷ bs) zero d h = refl
 flag_get (b ∷ bs) (suc i) d h = flag_get bs i d (omega arith)
 
-pub push_flag : (bs : List Bool) (b : Bool) → bs ++ b ∷ [] ≡ push bs b
-push_flag [] b = refl
-push_flag (c ∷ bs) b = ap (λ us. c ∷ us) (push_flag bs b)
-
 pub last_of : (bs : List Bool) (b : Bool) → last (bs ++ b ∷ []) ≡ b
 last_of [] b = refl
 last_of (c ∷ []) b = refl
@@ -41,7 +37,3 @@ pub front_of : (bs : List Bool) (b : Bool) → front (bs ++ b ∷ []) ≡ bs
 front_of [] b = refl
 front_of (c ∷ []) b = refl
 front_of (c ∷ d ∷ bs) b = ap (λ us. c ∷ us) (front_of (d ∷ bs) b)
-
--- two that were pushed
-pub two_pushed : {A : Type 0} (us vs ts : List A) (x y : A) → us ≡ [] → vs ≡ us ++ x ∷ [] → ts ≡ vs ++ y ∷ [] → ts ≡ x ∷ y ∷ []
-two_pushed us vs ts x y h k l = l ∙ ap (λ zs. zs ++ y ∷ []) (k ∙ ap (λ zs. zs ++ x ∷ []) h)

@@ -1,6 +1,5 @@
 -- What the check of a kernel goes by.
 use Rattle.std.proofs.Common.{◌≡◌, ℕ, zero, suc, ◌<◌, ◌+◌, List, [], ◌∷◌, length, map, drop, get_or, Option, Some, None, Result, Ok, Err, refl, sym, ◌∙◌, arith, add-one}
-use Rattle.std.specs.List.{All}
 use Rattle.cg_core.specs.declared.kernel.KFun.{KFun}
 use Rattle.cg_core.specs.declared.kernel.Kernel.{Kernel}
 use Rattle.cg_core.specs.declared.derivation.Deriv.{Deriv}
@@ -15,8 +14,9 @@ use Rattle.cg_faults.specs.Faults.{Fault, kernel_events, first_failing}
 use Rattle.cg_check.specs.declared.refusal.Refusal.{Refusal}
 use Rattle.cg_check.specs.declared.refusal.Refusal.TheVariants.{Rule as Broken, Memory}
 use Rattle.cg_check.specs.Pass.{bind, check_function, check_all, check_kernel, verdict}
-use Rattle.cg_core.specs.Small.{IsSmallBody, IsSmallKernel}
-use Rattle.cg_check.specs.Kept.{function_core, function_tree}
+use Rattle.cg_core.specs.Small.{IsSmallKernel}
+use Rattle.cg_derive.specs.Kept.{function_core, function_tree}
+use Rattle.cg_derive.proofs.KeptSteps.{small_body}
 use Rattle.cg_check.specs.View.{unit_of, Agrees, IsJudged, IsChecked}
 use Rattle.cg_check.proofs.OnePass.{none_fails, all_hold}
 use Rattle.cg_check.proofs.Main.{kernels, kept, first_fault}
@@ -51,12 +51,6 @@ from_suc functions (f ∷ fs) (suc i) d h = from_suc functions fs i d (omega ari
 pub from_here : (functions : List Function) (fs : List KFun) (i : ℕ) (d : KFun) → i < length fs
     → check_all functions (map function_of (drop i fs)) ≡ bind (check_function functions (function_of (get_or fs i d))) (λ u. check_all functions (map function_of (drop (i + 1) fs)))
 from_here functions fs i d h = rw (add-one i) (from_suc functions fs i d h)
-
--- each body of a small kernel is small
-pub small_body : (n : ℕ) (fs : List KFun) (i : ℕ) (d : KFun) → i < length fs → All (λ (f : Function). IsSmallBody n f.body) (map function_of fs) → IsSmallBody n (function_of (get_or fs i d)).body
-small_body n [] i d h small = absurd (omega arith)
-small_body n (f ∷ fs) zero d h small = small 0 (function_of f) (omega arith)
-small_body n (f ∷ fs) (suc i) d h small = small_body n fs i d (omega arith) (λ k e lt. small (suc k) e (omega arith))
 
 -- what is kept of a kernel that is accepted is a core and a derivation for each body
 pub kept_of : (kernel : Kernel) (cores : List (Option (Term Typed))) (trees : List (Option Deriv)) → IsSmallKernel (kernel_of kernel) → IsAcceptedKernel (kernel_of kernel)

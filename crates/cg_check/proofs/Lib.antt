@@ -1,8 +1,6 @@
 pub mod Basics
-pub mod CoreSteps
 pub mod Complete
 pub mod FlagLists
-pub mod KeptSteps
 pub mod KernelSteps
 pub mod Linear
 pub mod Main
@@ -10,4 +8,3 @@ pub mod OnePass
 pub mod PassSteps
 pub mod SameTypes
 pub mod Sound
-pub mod TreeSteps

@@ -11,7 +11,8 @@ use Rattle.cg_core.specs.Terms.{Tree, term, Shape, var, unit, lit, fun, op, app,
 use Rattle.cg_typing.specs.Contexts.{Context, look, mark_at, push, first_side, second_side, first, second, drops, shares, Fits, Splits, Drops, DropsBut}
 use Rattle.cg_typing.specs.Rules.{marks_of, Derives}
 use Rattle.cg_check.specs.Uses.{uses_of, LinearVariablesAreUsedOnce}
-use Rattle.cg_check.proofs.Basics.{apart, look_first, look_second, length_first, length_second, length_push, look_old, look_within}
+use Rattle.cg_derive.proofs.Tests.{apart}
+use Rattle.cg_check.proofs.Basics.{look_first, look_second, length_first, length_second, length_push, look_old, look_within}
 
 module _ (functions : List Function) (vars : List Kinds) where
   -- how often an entry is used

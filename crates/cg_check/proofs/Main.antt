@@ -17,8 +17,8 @@ use Rattle.cg_typing.specs.Rules.{operand, is_literal, Derives}
 use Rattle.cg_faults.specs.declared.rule.Rule.TheVariants.{T4}
 use Rattle.cg_faults.specs.Faults.{is_arrow, taken_by, given_by, plain_at, nothing, plain, plain_in, scope_end, events, body_events, function_events, kernel_events, AllHold}
 use Rattle.cg_faults.specs.Occurrences.{touched}
-use Rattle.cg_check.specs.Kept.{body_core, body_tree, function_core, function_tree}
-use Rattle.cg_check.specs.NormalForm.{core, tree}
+use Rattle.cg_derive.specs.Kept.{body_core, body_tree, function_core, function_tree}
+use Rattle.cg_derive.specs.NormalForm.{core, tree}
 use Rattle.cg_check.specs.Pass.{need, check, check_body, check_function, check_all, flag_at}
 use Rattle.cg_core.specs.Small.{IsSmall, IsSmallBody, IsSmallKernel}
 use Rattle.cg_check.specs.Laws.{BodiesAreJudgedExactly, KernelsAreJudgedExactly, OccurrenceMarksServe, OneCore, PassAnswersTheFirstFault}

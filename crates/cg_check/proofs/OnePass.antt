@@ -1,5 +1,5 @@
 -- The one pass answers the first event that fails.
-use Rattle.std.proofs.Common.{◌≡◌, ℕ, zero, suc, ◌<◌, Bool, true, false, ◌&&◌, ◌||◌, not, cond, Option, Some, None, Ok, List, [], ◌∷◌, ◌++◌, length, ⊎_elim, refl, sym, ap, ◌∙◌, subst, arith, nat_eq, lt-ltb, le-ltb, eqb-true, eq-eqb}
+use Rattle.std.proofs.Common.{◌≡◌, ℕ, zero, suc, ◌<◌, Bool, true, false, ◌&&◌, ◌||◌, not, cond, Option, Some, None, Ok, List, [], ◌∷◌, ◌++◌, length, ⊎_elim, refl, sym, ap, ◌∙◌, subst, arith, nat_eq, lt-ltb, le-ltb}
 use Rattle.cg_base.specs.declared.fun.Fun.{Fun}
 use Rattle.cg_base.specs.declared.kind.Kinds.{Kinds}
 use Rattle.cg_base.specs.declared.place.Place.{Place}
@@ -15,9 +15,11 @@ use Rattle.cg_faults.specs.declared.rule.Rule.TheVariants.{K3, K4, T1, T3, T4, T
 use Rattle.cg_faults.specs.Faults.{Event, event, is_arrow, taken_by, in_range, plain_at, Before, after, upto, meets, plain, plain_in, scope_end, events, AllHold, first_failing}
 use Rattle.cg_faults.specs.Occurrences.{touched}
 use Rattle.cg_faults.specs.Same.{same}
-use Rattle.cg_check.specs.Pass.{Out, bind, need, meet, flag_at, joined, no_uses, one_use, last, front, Got, leave, check, verdict}
+use Rattle.cg_check.specs.Pass.{Out, bind, need, meet, flag_at, joined, one_use, last, front, Got, leave, check, verdict}
+use Rattle.cg_derive.specs.Flags.{no_uses}
 use Rattle.cg_core.specs.Small.{IsSmall}
-use Rattle.cg_check.proofs.Basics.{apart, bool_is, length_push, below_suc}
+use Rattle.cg_derive.proofs.Tests.{bool_is, other_number, next_numbers}
+use Rattle.cg_check.proofs.Basics.{length_push, below_suc}
 use Rattle.cg_check.proofs.SameTypes.{same_is}
 use Rattle.cg_check.proofs.Sound.{body_in}
 
@@ -75,16 +77,6 @@ no_flags (suc n) = ap (λ us. false ∷ us) (no_flags n)
 flags_same : (n : ℕ) (f g : ℕ → Bool) → ((i : ℕ) → f i ≡ g i) → flags n f ≡ flags n g
 flags_same zero f g h = refl
 flags_same (suc n) f g h = ap (λ b. b ∷ flags n (λ i. f (suc i))) (h 0) ∙ ap (λ us. g 0 ∷ us) (flags_same n (λ i. f (suc i)) (λ i. g (suc i)) (λ i. h (suc i)))
-
--- equality of numbers as a test
-pub other_number : (a b : ℕ) → (a ≡ b → ⊥) → nat_eq a b ≡ false
-other_number a b ne = ⊎_elim (λ t. absurd (ne (eqb-true a b t))) (λ f. f) (bool_is (nat_eq a b))
-
-pub next_numbers : (a b : ℕ) → nat_eq a b ≡ nat_eq (suc a) (suc b)
-next_numbers a b = ⊎_elim
-    (λ t. t ∙ sym (eq-eqb (suc a) (suc b) (ap suc (eqb-true a b t))))
-    (λ f. f ∙ sym (other_number (suc a) (suc b) (λ e. apart (nat_eq a b) (eq-eqb a b (omega arith)) f)))
-    (bool_is (nat_eq a b))
 
 one_flag : (n i : ℕ) → one_use n i ≡ flags n (λ j. nat_eq j i)
 one_flag zero i = refl

@@ -14,9 +14,10 @@ use Rattle.cg_typing.specs.Rules.{Meets, operand, type_at, is_literal, InRange, 
 use Rattle.cg_faults.specs.Faults.{Event, event, is_arrow, taken_by, given_by, in_range, plain_at, Before, after, upto, meets, mentioned, plain, plain_in, scope_end, events, AllHold}
 use Rattle.cg_faults.specs.declared.rule.Rule.TheVariants.{T12}
 use Rattle.cg_faults.specs.Occurrences.{touched}
-use Rattle.cg_check.specs.NormalForm.{pick, marks, core, tree}
+use Rattle.cg_derive.specs.NormalForm.{pick, marks, core, tree}
 use Rattle.cg_core.specs.Small.{IsSmall}
-use Rattle.cg_check.proofs.Basics.{apart, or_left, or_right, or_else, not_or, or_elim, below_suc, below_or_not, lt_test, look_first, look_second, length_first, length_second, length_push, look_old, look_new, at_old, at_new, look_past, mark_marks, length_marks, hold_left, hold_right, type_core}
+use Rattle.cg_derive.proofs.Tests.{apart}
+use Rattle.cg_check.proofs.Basics.{or_left, or_right, or_else, not_or, or_elim, below_suc, below_or_not, lt_test, look_first, look_second, length_first, length_second, length_push, look_old, look_new, at_old, at_new, look_past, mark_marks, length_marks, hold_left, hold_right, type_core}
 use Rattle.cg_check.proofs.SameTypes.{same_is}
 
 -- the type of a function that is mentioned

@@ -10,7 +10,7 @@ use Rattle.cg_core.specs.Terms.{Tree, Note, erased}
 use Rattle.cg_typing.specs.Accepted.{IsTypedBody, IsAcceptedKernel}
 use Rattle.cg_typing.specs.Rules.{Derives}
 use Rattle.cg_faults.specs.Faults.{AllHold, body_events, kernel_events, first_failing}
-use Rattle.cg_check.specs.NormalForm.{tree}
+use Rattle.cg_derive.specs.NormalForm.{tree}
 use Rattle.cg_check.specs.Pass.{check_kernel, verdict}
 use Rattle.cg_core.specs.Small.{IsSmall, IsSmallKernel}
 

@@ -16,6 +16,7 @@ use Rattle.cg_faults.specs.declared.rule.Rule.{Rule}
 use Rattle.cg_faults.specs.declared.rule.Rule.TheVariants.{K3, K4, T1, T2, T3, T4, T12}
 use Rattle.cg_faults.specs.Faults.{Fault, is_arrow, taken_by, given_by, in_range, plain_at, mentioned}
 use Rattle.cg_faults.specs.Same.{same}
+use Rattle.cg_derive.specs.Flags.{no_uses}
 
 -- a value, or the first fault
 abbrev pub Out : Type 0 → Type 0
@@ -45,10 +46,7 @@ flag_at (b ∷ bs) (suc i) = flag_at bs i
 abbrev pub joined : List Bool → List Bool → List Bool
 joined bs cs = map (λ (p : Bool × Bool). p.0 || p.1) (zip bs cs)
 
--- none of n variables, and one of them
-abbrev pub no_uses : ℕ → List Bool
-no_uses n = replicate n false
-
+-- one of n variables
 abbrev pub one_use : ℕ → ℕ → List Bool
 one_use zero i = []
 one_use (suc n) zero = true ∷ replicate n false

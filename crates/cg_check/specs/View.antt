@@ -1,10 +1,9 @@
 -- What the checker's values stand for, and that they agree with the pass.
-use Rattle.std.specs.Prelude.{◌≡◌, Option, Some, None, Result, Ok, Err, List, map, ⊤}
+use Rattle.std.specs.Prelude.{◌≡◌, Some, Result, Ok, Err, List, map, ⊤}
 use Rattle.cg_base.specs.declared.kind.Bound.{Bound}
 use Rattle.cg_base.specs.declared.kind.Kinds.{Kinds}
 use Rattle.cg_base.specs.declared.place.Place.{Place}
-use Rattle.cg_base.specs.declared.ty.Ty.{Ty}
-use Rattle.cg_base.specs.Types.{Tau, type_of}
+use Rattle.cg_base.specs.Types.{type_of}
 use Rattle.cg_core.specs.declared.kernel.Kernel.{Kernel}
 use Rattle.cg_core.specs.Kernels.{Function, kernel_of}
 use Rattle.cg_typing.specs.declared.checked.Checked.{Checked}
@@ -16,18 +15,8 @@ use Rattle.cg_faults.specs.declared.rule.Rule.{Rule}
 use Rattle.cg_check.specs.declared.pass.Got.{Got as Got'}
 use Rattle.cg_check.specs.declared.refusal.Refusal.{Refusal}
 use Rattle.cg_check.specs.declared.refusal.Refusal.TheVariants.{Rule as Broken, Memory}
-use Rattle.cg_check.specs.Kept.{function_core, function_tree}
+use Rattle.cg_derive.specs.Kept.{function_core, function_tree}
 use Rattle.cg_check.specs.Pass.{Out, Got}
-
--- a direction: none to synthesise, or the type that is checked against
-abbrev pub direction_of : Option Ty → Option Tau
-direction_of None = None
-direction_of (Some t) = Some (type_of t)
-
--- the type that a node notes: the one that is checked against, or else the one that is synthesised
-abbrev pub noted_in : Option Tau → Tau → Tau
-noted_in None t = t
-noted_in (Some wanted) t = wanted
 
 abbrev pub bounds_of : List Bound → List Kinds
 bounds_of = map (λ (b : Bound). b.kinds)

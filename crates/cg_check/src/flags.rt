@@ -1,16 +1,10 @@
 // Flags, one for each variable of a context: whether it is used.
-ghost use Rattle.std.specs.Prelude.{◌≡◌, ◌<◌, length, IfOk};
-ghost use Rattle.cg_check.specs.Pass.{joined as joined_of, no_uses as no_uses_of, one_use as one_use_of};
+ghost use Rattle.std.specs.Prelude.{◌≡◌, ◌<◌, IfOk};
+ghost use Rattle.cg_check.specs.Pass.{joined as joined_of, one_use as one_use_of};
 
 use cg_base::Memory;
+use cg_derive::no_uses;
 use std::alloc::Global;
-
-/// None of so many variables.
-pub fn no_uses(alloc: Global, count: usize) -> Result<Vec<bool>, Memory>
-    ensures { IfOk result (λ uses. uses.items ≡ no_uses_of count) }
-{
-    Ok(vec![in alloc; false; count]?)
-}
 
 /// One of so many variables.
 pub fn one_use(alloc: Global, count: usize, at: usize) -> Result<Vec<bool>, Memory>

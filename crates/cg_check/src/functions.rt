@@ -1,7 +1,7 @@
 // The check of a kernel: its functions in turn.
 #![tactic(auto, using(crate::proofs::KernelSteps::kernel_steps))]
 
-ghost use Rattle.std.specs.Prelude.{◌≡◌, ◌||◌, length, map, IfOk, [], ◌∷◌, Some, Ok};
+ghost use Rattle.std.specs.Prelude.{◌≡◌, ◌||◌, length, map, IfOk, Some, Ok};
 ghost use Rattle.cg_base.specs.Types.{type_of};
 ghost use Rattle.cg_core.specs.Kernels.{the_term, function_of, body_of, kernel_of, maybe_body_of};
 ghost use Rattle.cg_faults.specs.declared.rule.Rule.TheVariants.{K3};
@@ -11,11 +11,10 @@ ghost use Rattle.cg_typing.specs.Accepted.{IsAcceptedKernel};
 ghost use Rattle.cg_check.specs.View.{bounds_of, unit_of, Agrees, IsJudged, IsChecked, Judges};
 
 use crate::Refusal;
-use crate::flags::no_uses;
-use crate::kept::{cores_of, trees_of};
-use crate::pass::{Got, Source, check_term};
+use crate::pass::{Got, check_term};
 use cg_base::{Items, Memory, Place, Ty};
 use cg_core::{KBody, KFun, Kernel};
+use cg_derive::{Source, alone, cores_of, no_uses, trees_of};
 use cg_faults::Rule;
 use cg_kinds::kinds_of;
 use cg_typing::Checked;
@@ -90,16 +89,6 @@ fn check_body(source: &Source, argument: &Ty, gives: &Ty, body: &KBody) -> Resul
     let direction = Some(gives.copy(source.alloc)?);
     let got = check_term(source, &mut context, &before, &direction, &body.term)?;
     end_body(body.param, kinds_of(argument, source.vars).drop, got)
-}
-
-// The context of an argument alone.
-pub fn alone(alloc: Global, argument: &Ty) -> Result<Vec<Ty>, Memory>
-    ensures types { IfOk result (λ context. map type_of context.items ≡ type_of argument.now ∷ []) }
-    ensures one { IfOk result (λ context. length context.items ≡ 1) }
-{
-    let mut context = Vec::new(alloc);
-    context.push(argument.copy(alloc)?)?;
-    Ok(context)
 }
 
 // K3 where a body ends.

@@ -2,14 +2,11 @@
 //! literals, functions, sums, calls and `let`.
 #![tactic(auto)]
 
-mod cores;
 mod flags;
 mod functions;
-mod kept;
 mod law;
 mod pass;
 mod refusal;
-mod trees;
 
 pub use functions::check;
 pub use law::{

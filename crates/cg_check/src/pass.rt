@@ -1,36 +1,30 @@
 // The pass over a term.
-#![tactic(auto, unfolding(crate::specs::Pass::check, crate::proofs::PassSteps::size), using(crate::proofs::PassSteps::pass_steps))]
+#![tactic(auto, unfolding(crate::specs::Pass::check, cg_derive::proofs::SourceSteps::size), using(crate::proofs::PassSteps::pass_steps))]
 
-ghost use Rattle.std.specs.Prelude.{◌≡◌, ◌<◌, ◌||◌, suc, not, length, map, IfOk, MatchOption, List, [], true, false, Some, None, Ok};
-ghost use Rattle.cg_base.specs.Types.{type_of, Tau, word as word_type};
-ghost use Rattle.cg_core.specs.Kernels.{the_term, the_form, function_of};
-ghost use Rattle.cg_core.specs.Terms.{var as var_of, unit as unit_of_term, lit as lit_of, fun as fun_of, op as op_of, app as app_of, lets as lets_of, more, none, to_trees};
+ghost use Rattle.std.specs.Prelude.{◌≡◌, ◌<◌, ◌||◌, suc, not, length, map, IfOk, MatchOption, true, false, Some, None, Ok};
+ghost use Rattle.cg_base.specs.Types.{type_of, word as word_type};
+ghost use Rattle.cg_core.specs.Kernels.{the_term, function_of};
+ghost use Rattle.cg_core.specs.Terms.{var as var_of, op as op_of, app as app_of, lets as lets_of, more, none};
 ghost use Rattle.cg_core.specs.declared.op.Op.TheVariants.{Add};
 ghost use Rattle.cg_base.specs.declared.fun.Fun.TheVariants.{User};
-ghost use Rattle.cg_kinds.specs.Kinds.{kinds, is_word as word_of};
+ghost use Rattle.cg_kinds.specs.Kinds.{is_word as word_of};
 ghost use Rattle.cg_typing.specs.Contexts.{push as push_of, shares, drops};
 ghost use Rattle.cg_typing.specs.Rules.{is_literal as literal_of};
-ghost use Rattle.cg_faults.specs.Faults.{plain_at, mentioned, in_range as in_range_of, is_arrow, taken_by, given_by};
+ghost use Rattle.cg_faults.specs.Faults.{plain_at, in_range as in_range_of, is_arrow, taken_by, given_by};
 ghost use Rattle.cg_faults.specs.declared.rule.Rule.TheVariants.{K3};
 ghost use Rattle.cg_core.specs.Small.{IsSmall, IsSmallShape};
-ghost use Rattle.cg_check.specs.Pass.{meet as meet_of, check as check_of, check_shape, joined as joined_of, front as front_of, last as last_of, leave as leave_of, flag_at, synthesised, literal, need};
-ghost use Rattle.cg_check.specs.View.{direction_of, bounds_of, got_of, unit_of, Agrees};
+ghost use Rattle.cg_check.specs.Pass.{meet as meet_of, check as check_of, check_shape, joined as joined_of, front as front_of, last as last_of, flag_at, synthesised, literal, need};
+ghost use Rattle.cg_derive.specs.View.{direction_of};
+ghost use Rattle.cg_check.specs.View.{bounds_of, got_of, unit_of, Agrees};
 
 use crate::Refusal;
-use crate::flags::{joined, no_uses, one_use};
-use cg_base::{Bound, Items, Memory, Place, Ty, Word};
-use cg_core::{Form, Fun, KFun, Op, Term};
+use crate::flags::{joined, one_use};
+use cg_base::{Memory, Place, Ty, Word};
+use cg_core::{Form, Fun, Term};
+use cg_derive::{Source, both_of, enter, is_literal, leave, no_uses, type_at, type_of_function};
 use cg_faults::Rule;
 use cg_kinds::{kinds_of, same};
 use std::alloc::Global;
-
-/// What the pass goes by: the functions of the source, and the type variables of the function at hand.
-#[derive(Drop)]
-pub struct Source<'a> {
-    pub alloc: Global,
-    pub functions: &'a Items<KFun>,
-    pub vars: &'a Items<Bound>,
-}
 
 /// The type of a term, and which variables of the context it uses.
 #[derive(Debug, Drop)]
@@ -71,14 +65,6 @@ fn may_use(source: &Source, context: &Vec<Ty>, before: &Vec<bool>, at: usize) ->
     ensures { result ≡ (not (flag_at before.now.items at) || shares (bounds_of source.now.vars.now) (plain_at (map type_of context.now.items) at)) }
 {
     !before[at] || kinds_of(&context[at], source.vars).share
-}
-
-// The type of a variable.
-pub fn type_at(source: &Source, context: &Vec<Ty>, at: usize) -> Result<Ty, Memory>
-    requires { at < length context.now.items }
-    ensures { IfOk result (λ ty. type_of ty ≡ plain_at (map type_of context.now.items) at) }
-{
-    context[at].copy(source.alloc)
 }
 
 // A variable.
@@ -162,15 +148,6 @@ fn check_lit(
     })
 }
 
-// The type of a function of the source.
-pub fn type_of_function(source: &Source, function: u32) -> Result<Ty, Memory>
-    requires { function < length source.now.functions.now }
-    ensures { IfOk result (λ ty. type_of ty ≡ mentioned (map function_of source.now.functions.now) (User function) []) }
-{
-    let functions = source.functions.as_slice();
-    functions[function as usize].ty.ty.copy(source.alloc)
-}
-
 // An arrow's two types.
 fn ends_of(ty: Ty) -> Option<(Ty, Ty)>
     ensures { MatchOption result (is_arrow (type_of ty) ≡ false)
@@ -186,12 +163,6 @@ fn is_word(ty: &Ty) -> bool
     ensures { result ≡ word_of (type_of ty.now) }
 {
     matches!(ty, Ty::Word(_))
-}
-
-pub fn is_literal(term: &Term<Place>) -> bool
-    ensures { result ≡ literal_of (the_term term.now) }
-{
-    matches!(term.form, Form::Lit(_))
 }
 
 fn join_got(alloc: Global, uses: &Vec<bool>, got: Got) -> Result<Vec<bool>, Memory>
@@ -222,22 +193,6 @@ fn after_binder(alloc: Global, before: &Vec<bool>, uses: &Vec<bool>) -> Result<V
     Ok(all)
 }
 
-pub fn enter(context: &mut Vec<Ty>, ty: Ty) -> Result<(), Memory>
-    ensures items { IfOk result (λ u. map type_of context.new.items ≡ push_of (map type_of context.old.items) (type_of ty)) }
-    ensures long { IfOk result (λ u. length context.new.items ≡ suc (length context.old.items)) }
-{
-    context.push(ty)?;
-    Ok(())
-}
-
-pub fn leave(context: &mut Vec<Ty>)
-    requires { 0 < length context.old.items }
-    ensures items { (p : List Tau) (t : Tau) → map type_of context.old.items ≡ push_of p t → map type_of context.new.items ≡ p }
-    ensures long { suc (length context.new.items) ≡ length context.old.items }
-{
-    let _ = context.pop();
-}
-
 // The end of a scope: K3, and the uses of both parts.
 fn end_let(
     alloc: Global,
@@ -260,15 +215,6 @@ fn end_let(
     }
     let uses = joined(alloc, uses, &outer)?;
     Ok(Got { ty, uses })
-}
-
-// Two operands.
-pub fn both_of<'a>(operands: &'a Items<Term<Place>>) -> (&'a Term<Place>, &'a Term<Place>)
-    requires { length operands.now ≡ 2 }
-    ensures { to_trees (map the_term operands.now) ≡ more (the_term result.0.now) (more (the_term result.1.now) none) }
-{
-    let operands = operands.as_slice();
-    (&operands[0], &operands[1])
 }
 
 #[cycle(check)]

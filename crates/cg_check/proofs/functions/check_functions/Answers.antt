@@ -3,7 +3,7 @@ use Rattle.std.specs.List.{All}
 use Rattle.cg_core.specs.declared.kernel.KFun.{KFun}
 use Rattle.cg_core.specs.Kernels.{Function, function_of}
 use Rattle.cg_core.specs.Small.{IsSmallBody}
-use Rattle.cg_check.proofs.KernelSteps.{small_body}
+use Rattle.cg_derive.proofs.KeptSteps.{small_body}
 use Rattle.cg_check.proofs.functions.check_functions.Goals as goal
 
 pub check_function-requires : goal.check_function-requires

@@ -1,6 +1,6 @@
 use Rattle.std.proofs.Common.{length, map}
 use Rattle.cg_core.specs.Kernels.{function_of}
-use Rattle.cg_check.proofs.PassSteps.{small_operands}
+use Rattle.cg_derive.proofs.SourceSteps.{small_operands}
 use Rattle.cg_check.proofs.pass.+check.Goals as goal
 
 pub check_term-both_of-requires : goal.check_term-both_of-requires

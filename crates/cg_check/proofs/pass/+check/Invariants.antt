@@ -1,6 +1,6 @@
 use Rattle.std.proofs.Common.{◌+◌, ◌*◌}
 use Rattle.cg_core.specs.Kernels.{the_term}
-use Rattle.cg_check.proofs.PassSteps.{size}
+use Rattle.cg_derive.proofs.SourceSteps.{size}
 use Rattle.cg_check.proofs.pass.+check.Given as goal
 
 abbrev pub decreases-check_term : goal.decreases-check_term

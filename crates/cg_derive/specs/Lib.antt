@@ -1,0 +1,5 @@
+pub mod Flags
+pub mod Kept
+pub mod Marked
+pub mod NormalForm
+pub mod View
