@@ -1,0 +1,131 @@
+// Variables, operands and values.
+#![tactic(auto, using(crate::proofs::Frames::frame_steps))]
+
+ghost use Rattle.std.specs.Prelude.{◌≡◌, ◌<◌, ◌%◌, ◌^◌, [], ◌∷◌, ◌++◌, map, option_map, MatchOption, OnOk, IfErr, length, set, get_or};
+ghost use Rattle.cg_base.specs.Words.{bits};
+ghost use Rattle.cg_ctree.specs.Runs as runs;
+ghost use Rattle.cg_ctree.specs.Runs.{ok, no, typed};
+ghost use Rattle.cg_cmachine.specs.Views.{variable_of, frame_of, value_of, Gives, Tries};
+
+use crate::RunFault;
+use crate::words::{complement, fits, operate, same, wrapped};
+use cg_base::{Name, Word};
+use cg_ctree::{CDecl, COp, COpnd, CPath, CTy, Why};
+use std::alloc::Global;
+
+/// A variable of a frame: its declaration, and its number, where it is set.
+#[derive(Clone, Copy)]
+pub(crate) struct Slot<'a> {
+    pub decl: &'a CDecl,
+    pub value: Option<u64>,
+}
+
+/// A number of every word that it is in range of, or one of a word.
+#[derive(Clone, Copy)]
+pub(crate) enum Scalar {
+    Literal(u64),
+    Typed(Word, u64),
+}
+
+/// A word of any width.
+pub(crate) fn number_of(scalar: Scalar) -> u64
+    ensures { result ≡ runs.number_of (value_of scalar) }
+{
+    match scalar {
+        Scalar::Literal(number) => number,
+        Scalar::Typed(_, number) => number,
+    }
+}
+
+/// The first variable of a name, found by a walk.
+fn look<'a>(frame: &[Slot<'a>], name: &Name) -> Option<Slot<'a>>
+    ensures { option_map variable_of result ≡ runs.look name.now (frame_of frame.now) }
+{
+    for slot in frame {
+        if name.bytes() == slot.decl.name.bytes() {
+            return Some(*slot);
+        }
+    }
+    None
+}
+
+/// A scalar that is read at a type.
+fn read(ty: &CTy, value: Option<u64>) -> Result<Scalar, Why>
+    ensures { Gives value_of (runs.read ty.now value) result }
+{
+    match ty {
+        CTy::Word(word) => match value {
+            None => Err(Why::Unset),
+            Some(number) => {
+                if fits(*word, number) {
+                    Ok(Scalar::Typed(*word, number))
+                } else {
+                    Err(Why::KindsDiffer)
+                }
+            }
+        },
+        _ => Err(Why::KindsDiffer),
+    }
+}
+
+/// What stands at a path.
+fn judge_path(frame: &Vec<Slot<'_>>, path: &CPath) -> Result<Scalar, Why>
+    ensures { Gives value_of (runs.judge_path (frame_of frame.now.items) path.now path.now.members) result }
+{
+    if path.members.len() > 0 || path.arrow {
+        return Err(Why::KindsDiffer);
+    }
+    match look(frame, &path.base) {
+        None => Err(Why::KindsDiffer),
+        Some(slot) => read(&slot.decl.ty, slot.value),
+    }
+}
+
+/// An operand.
+pub(crate) fn judge(frame: &Vec<Slot<'_>>, opnd: &COpnd) -> Result<Scalar, Why>
+    ensures { Gives value_of (runs.judge (frame_of frame.now.items) opnd.now) result }
+{
+    match opnd {
+        COpnd::Number(number) => Ok(Scalar::Literal(*number)),
+        COpnd::Path(path) => judge_path(frame, path),
+    }
+}
+
+/// A value where a type is needed.
+pub(crate) fn give(ty: &CTy, scalar: Scalar) -> Result<u64, Why>
+    ensures { Gives (λ n. n) (runs.give ty.now (value_of scalar)) result }
+{
+    match ty {
+        CTy::Word(word) => {
+            let (number, holds) = match scalar {
+                Scalar::Literal(number) => (number, fits(*word, number)),
+                Scalar::Typed(other, number) => (number, same(*word, other)),
+            };
+            if holds { Ok(number) } else { Err(Why::KindsDiffer) }
+        }
+        _ => Err(Why::KindsDiffer),
+    }
+}
+
+/// An operation on two values.
+pub(crate) fn compute(
+    outer: Word,
+    inner: Word,
+    op: COp,
+    left: Scalar,
+    right: Scalar,
+) -> Result<Scalar, Why>
+    ensures { Gives value_of (runs.computed outer inner op (runs.number_of (value_of left)) (runs.number_of (value_of right))) result }
+{
+    match operate(op, inner, wrapped(inner, number_of(left)), wrapped(inner, number_of(right))) {
+        Err(why) => Err(why),
+        Ok(number) => Ok(Scalar::Typed(outer, wrapped(outer, number))),
+    }
+}
+
+/// The complement of a value.
+pub(crate) fn flip(outer: Word, inner: Word, scalar: Scalar) -> Scalar
+    ensures { value_of result ≡ runs.flipped outer inner (runs.number_of (value_of scalar)) }
+{
+    Scalar::Typed(outer, wrapped(outer, complement(inner, number_of(scalar))))
+}
