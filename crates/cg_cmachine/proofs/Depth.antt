@@ -1,11 +1,9 @@
 -- Any depth above the steps that are left gives the same run.
-use Rattle.std.proofs.Common.{◌≡◌, ℕ, zero, suc, ◌+◌, ◌<◌, ◌≤◌, Bool, true, false, cond, nat_eq, Option, Some, None, List, [], ◌∷◌, refl, sym, ap, ◌∙◌, subst, arith}
-use Rattle.cg_base.specs.declared.kind.Word.{Word}
+use Rattle.std.proofs.Common.{◌≡◌, ℕ, zero, suc, ◌<◌, ◌≤◌, Bool, true, false, cond, nat_eq, Option, Some, None, List, refl, subst, arith}
 use Rattle.cg_ctree.specs.declared.tree.COpnd.{COpnd}
 use Rattle.cg_ctree.specs.declared.tree.CRhs.{CRhs}
 use Rattle.cg_ctree.specs.declared.tree.CRhs.TheVariants.{Opnd, Conv, Binary, Flip, IsNull, Call, New}
 use Rattle.cg_ctree.specs.declared.tree.CTy.{CTy}
-use Rattle.cg_ctree.specs.declared.why.Why.{Why}
 use Rattle.cg_ctree.specs.declared.why.Why.TheVariants.{NoFunction, NoBody, NoCase, KindsDiffer}
 use Rattle.cg_ctree.specs.Trees.{Stmt, assign, branch, while, switch, call, return', Block, stop, also, Cases, end, case, Body, Function, Program}
 use Rattle.cg_ctree.specs.Runs.{Judged, ok, no, Value, Frame, judge, judge_all, number_of, computed, give, write, Outcome, done, stuck, needs, bind, lift, spend, Flow, goes, back, onward, Calls, right, choose, turns, run_stmt, run_block, run_cases, find, enter, returned, run_body, run_function, calls_in}
@@ -164,5 +162,5 @@ turns_fixed p (suc m) t o ss fr b h =
     (alike_lift b (judge fr o) _ _ (λ v. alike_choose b (number_of v) _ _ _ _
     (alike_onward b _ _ _ _ (any_depth p (suc m) (suc m) t ss fr b (omega arith) (omega arith))
     (λ fr' i k. turns_alike (calls_in p (suc m)) (calls_in p (suc m)) (suc m) (suc m) t (calls_alike p (suc m) (suc m)) o _ _
-        (λ fr'' j x y. any_depth p (suc m) (suc m) t ss fr'' j x y) m (suc m) fr' i (omega arith) (omega arith) (omega arith) (omega arith)))
+    (λ fr'' j x y. any_depth p (suc m) (suc m) t ss fr'' j x y) m (suc m) fr' i (omega arith) (omega arith) (omega arith) (omega arith)))
     (alike_refl b (done (goes fr) b) (omega arith)))).same

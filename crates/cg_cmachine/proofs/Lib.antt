@@ -1,3 +1,3 @@
 pub mod Depth
-pub mod Frames
 pub mod Numbers
+pub mod Variables

@@ -1,5 +1,5 @@
 // Assignments, operands in a row, and the frame that a call begins with.
-#![tactic(auto, using(crate::proofs::Frames::frame_steps))]
+#![tactic(auto, using(crate::proofs::Variables::variable_steps))]
 
 ghost use Rattle.std.specs.Prelude.{◌≡◌, ◌<◌, [], ◌∷◌, ◌++◌, map, MatchOption, OnOk, IfOk, IfErr, length};
 ghost use Rattle.cg_ctree.specs.Runs as runs;
@@ -67,10 +67,7 @@ pub(crate) fn judge_all(
 }
 
 /// The variables of the declarations, all unset, behind others.
-fn add_locals<'a>(
-    frame: &mut Vec<Slot<'a>>,
-    locals: &'a [CDecl],
-) -> Result<(), AllocError>
+fn add_locals<'a>(frame: &mut Vec<Slot<'a>>, locals: &'a [CDecl]) -> Result<(), AllocError>
     ensures { OnOk result (frame_of frame.new.items ≡ frame_of frame.old.items ++ runs.unset locals.now) }
 {
     for decl in locals {

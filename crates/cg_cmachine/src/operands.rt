@@ -1,5 +1,5 @@
 // Variables, operands and values.
-#![tactic(auto, using(crate::proofs::Frames::frame_steps))]
+#![tactic(auto, using(crate::proofs::Variables::variable_steps))]
 
 ghost use Rattle.std.specs.Prelude.{◌≡◌, ◌<◌, ◌%◌, ◌^◌, [], ◌∷◌, ◌++◌, map, option_map, MatchOption, OnOk, IfErr, length, set, get_or};
 ghost use Rattle.cg_base.specs.Words.{bits};
@@ -101,7 +101,11 @@ pub(crate) fn give(ty: &CTy, scalar: Scalar) -> Result<u64, Why>
                 Scalar::Literal(number) => (number, fits(*word, number)),
                 Scalar::Typed(other, number) => (number, same(*word, other)),
             };
-            if holds { Ok(number) } else { Err(Why::KindsDiffer) }
+            if holds {
+                Ok(number)
+            } else {
+                Err(Why::KindsDiffer)
+            }
         }
         _ => Err(Why::KindsDiffer),
     }
@@ -117,7 +121,12 @@ pub(crate) fn compute(
 ) -> Result<Scalar, Why>
     ensures { Gives value_of (runs.computed outer inner op (runs.number_of (value_of left)) (runs.number_of (value_of right))) result }
 {
-    match operate(op, inner, wrapped(inner, number_of(left)), wrapped(inner, number_of(right))) {
+    match operate(
+        op,
+        inner,
+        wrapped(inner, number_of(left)),
+        wrapped(inner, number_of(right)),
+    ) {
         Err(why) => Err(why),
         Ok(number) => Ok(Scalar::Typed(outer, wrapped(outer, number))),
     }

@@ -1,4 +1,4 @@
-use Rattle.std.proofs.Common.{◌≡◌, ◌++◌, map, drop, length}
+use Rattle.std.proofs.Common.{◌≡◌, ◌++◌, map, drop}
 use Rattle.cg_ctree.specs.Runs.{ok, on, enter}
 use Rattle.cg_cmachine.specs.Views.{frame_of, value_of}
 use Rattle.cg_cmachine.proofs.frames.enter.Given as goal
