@@ -1,3 +1,4 @@
 pub mod Depth
 pub mod Numbers
+pub mod Steps
 pub mod Variables

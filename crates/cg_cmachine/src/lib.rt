@@ -4,6 +4,7 @@
 
 mod fault;
 mod frames;
+mod machine;
 mod operands;
 mod words;
 
