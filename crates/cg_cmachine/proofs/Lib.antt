@@ -1,4 +1,5 @@
 pub mod Depth
+pub mod Entries
 pub mod Numbers
 pub mod Steps
 pub mod Variables

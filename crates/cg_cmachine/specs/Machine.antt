@@ -8,7 +8,7 @@ use Rattle.cg_ctree.specs.declared.tree.CRhs.TheVariants.{Opnd, Conv, Binary, Fl
 use Rattle.cg_ctree.specs.declared.tree.CStmt.{CStmt}
 use Rattle.cg_ctree.specs.declared.tree.CTy.{CTy}
 use Rattle.cg_ctree.specs.declared.why.Why.TheVariants.{KindsDiffer}
-use Rattle.cg_ctree.specs.Runs.{Judged, ok, no, on, Value, typed, number_of, computed, flipped, Frame, judge, write, choose, Outcome, done, stuck, needs, bind, lift, Flow, goes, back, onward, Calls, turns, run_stmt, run_block, run_cases, run_function, find, returned, calls_in}
+use Rattle.cg_ctree.specs.Runs.{Judged, ok, no, on, Value, typed, number_of, computed, flipped, Frame, judge, judge_all, write, choose, Outcome, done, stuck, needs, bind, lift, Flow, goes, back, onward, Calls, turns, run_stmt, run_block, run_cases, run_function, find, returned, right, calls_in}
 use Rattle.cg_ctree.specs.Trees.{stmt_of, case_of, to_cases, block_of, program_of}
 use Rattle.cg_cmachine.specs.declared.fault.RunFault.{RunFault}
 use Rattle.cg_cmachine.specs.declared.fault.RunFault.TheVariants.{Stuck, Budget, Memory}
@@ -62,9 +62,17 @@ module _ (run : Run) where
   unfoldable pub loop : CTy → COpnd → List CStmt → Frame → ℕ → Outcome Flow
   loop t o body = turns run.budget o (block t body)
 
+  -- what stands on the right of an assignment
+  unfoldable pub given : CRhs → Frame → ℕ → Outcome Value
+  given = right calls
+
   -- a call of a function of the program
   unfoldable pub called : List ℕ → List Value → ℕ → Outcome Value
   called f vs left = run_function calls run.budget vs left (find f (program_of run.program.now).functions)
+
+  -- the same with operands
+  unfoldable pub prepared : List ℕ → List COpnd → Frame → ℕ → Outcome Value
+  prepared f os frame left = lift (judge_all frame os) (λ vs. called f vs left)
 
   -- a test of a loop, whose step is counted
   unfoldable pub tested : CTy → COpnd → List CStmt → Frame → ℕ → Outcome Flow

@@ -2,6 +2,7 @@
 //! subset", says in words what a run does. Structs, pointers, the heap and the built-ins join here.
 #![tactic(auto)]
 
+mod calls;
 mod fault;
 mod frames;
 mod machine;

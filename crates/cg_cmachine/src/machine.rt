@@ -223,7 +223,7 @@ fn right(frame: &Vec<Slot<'_>>, rhs: &CRhs) -> Result<Scalar, Why>
 }
 
 /// An assignment of other than a call, whose step is counted.
-fn assign<'a>(
+pub(crate) fn assign<'a>(
     run: &Run<'a>,
     m: &mut Machine<'a>,
     path: &CPath,
