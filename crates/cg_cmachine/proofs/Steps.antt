@@ -1,21 +1,17 @@
 -- The steps of the machine, as equations.
-use Rattle.std.specs.declared.alloc.Global.{Global}
-use Rattle.std.proofs.Common.{◌≡◌, ℕ, zero, suc, ◌+◌, ◌<◌, ◌≤◌, Bool, true, false, cond, nat_eq, Some, None, List, [], ◌∷◌, ◌++◌, map, refl, sym, ap, ◌∙◌, arith, Bor, Vec}
+use Rattle.std.proofs.Common.{◌≡◌, ℕ, zero, suc, Bool, true, false, cond, nat_eq, Some, None, List, [], ◌∷◌, ◌++◌, map, refl, sym, ap, ◌∙◌, arith, Bor}
 use Rattle.cg_ctree.specs.declared.tree.CCase.{CCase, fold_out-CCase}
 use Rattle.cg_ctree.specs.declared.tree.COpnd.{COpnd}
-use Rattle.cg_ctree.specs.declared.tree.CPath.{CPath}
 use Rattle.cg_ctree.specs.declared.tree.CStmt.{CStmt}
 use Rattle.cg_ctree.specs.declared.tree.CTy.{CTy}
 use Rattle.cg_ctree.specs.declared.why.Why.{Why}
-use Rattle.cg_ctree.specs.declared.why.Why.TheVariants.{NoCase, NoReturn}
-use Rattle.cg_ctree.specs.Runs.{ok, no, Value, number_of, Frame, judge, choose, Outcome, done, stuck, needs, Flow, goes, onward, turns, run_block, run_cases, returned}
-use Rattle.cg_ctree.specs.Trees.{Stmt, Case, case, layer, case_layer, case_of, to_block, to_cases, block_of, program_of}
+use Rattle.cg_ctree.specs.declared.why.Why.TheVariants.{NoCase}
+use Rattle.cg_ctree.specs.Runs.{ok, no, Value, number_of, Frame, judge, choose, Outcome, done, stuck, needs, Flow, goes, onward, run_block, run_cases, returned}
+use Rattle.cg_ctree.specs.Trees.{Stmt, Case, case, layer, case_layer, case_of, to_block, to_cases, block_of}
 use Rattle.cg_cmachine.specs.declared.machine.Kont.{Kont}
 use Rattle.cg_cmachine.specs.declared.machine.Kont.TheVariants.{After, Again, Into, Aside}
 use Rattle.cg_cmachine.specs.declared.machine.Run.{Run}
-use Rattle.cg_cmachine.specs.declared.operands.Slot.{Slot}
 use Rattle.cg_cmachine.specs.Machine.{Cont, assigned, calls, first_case, stmt, block, cases, loop, tested, on_kont, waits_from, waits}
-use Rattle.cg_cmachine.proofs.Depth.{turns_fixed}
 
 case_is : (c : CCase) → case_of c ≡ record { tag = c.tag; body = block_of c.body }
 case_is c = fold_out-CCase Stmt Case layer case_layer c
@@ -108,52 +104,6 @@ module _ (run : Run) where
       → block run t ss frame left ≡ onward (stmt run t s frame left) (block run t rest)
   unfolding block stmt run_block to_block
   block_some t ss rest s frame left e = ap (λ z. block run t z frame left) e
-
-  -- the end of statements
-  pub end_none : (fs : List Kont) (t : CTy) (frame : Frame) (left : ℕ) → fs ≡ [] → waits run fs t (done (goes frame) left) ≡ stuck NoReturn
-  end_none fs t frame left e = waits_none fs t (done (goes frame) left) e
-
-  pub end_into : (fs gs : List Kont) (p : Bor CPath) (saved : Vec Slot Global) (u : Bor CTy) (ss : Bor (List CStmt)) (t : CTy) (frame : Frame) (left : ℕ)
-      → gs ≡ fs ++ Into p saved u ss ∷ [] → waits run gs t (done (goes frame) left) ≡ stuck NoReturn
-  unfolding on_kont
-  end_into fs gs p saved u ss t frame left e =
-      ap (λ z. waits run z t (done (goes frame) left)) e ∙ ap (λ k. k t (done (goes frame) left)) (waits_push fs (Into p saved u ss)) ∙ waits_stuck fs u.now NoReturn
-
-  pub end_aside : (fs gs : List Kont) (saved : Vec Slot Global) (u : Bor CTy) (ss : Bor (List CStmt)) (t : CTy) (frame : Frame) (left : ℕ)
-      → gs ≡ fs ++ Aside saved u ss ∷ [] → waits run gs t (done (goes frame) left) ≡ stuck NoReturn
-  unfolding on_kont
-  end_aside fs gs saved u ss t frame left e =
-      ap (λ z. waits run z t (done (goes frame) left)) e ∙ ap (λ k. k t (done (goes frame) left)) (waits_push fs (Aside saved u ss)) ∙ waits_stuck fs u.now NoReturn
-
-  pub end_after : (fs gs : List Kont) (ss : Bor (List CStmt)) (t : CTy) (frame : Frame) (left : ℕ)
-      → gs ≡ fs ++ After ss ∷ [] → waits run gs t (done (goes frame) left) ≡ waits run fs t (block run t ss.now frame left)
-  end_after fs gs ss t frame left e = ap (λ z. waits run z t (done (goes frame) left)) e ∙ waits_after fs ss t (done (goes frame) left)
-
-  loop_needs : (n : ℕ) (t : CTy) (o : COpnd) (body : Frame → ℕ → Outcome Flow) (frame : Frame) → turns n o body frame 0 ≡ needs
-  loop_needs zero t o body frame = refl
-  loop_needs (suc n) t o body frame = refl
-
-  pub end_again_needs : (fs gs : List Kont) (o : Bor COpnd) (body ss : Bor (List CStmt)) (t : CTy) (frame : Frame) (left : ℕ)
-      → gs ≡ fs ++ Again o body ss ∷ [] → left ≡ 0 → waits run gs t (done (goes frame) left) ≡ needs
-  unfolding loop
-  end_again_needs fs gs o body ss t frame left e z =
-      ap (λ z. waits run z t (done (goes frame) left)) e ∙ waits_again fs o body ss t (done (goes frame) left)
-      ∙ ap (λ i. waits run fs t (onward (loop run t o.now body.now frame i) (block run t ss.now))) z
-      ∙ ap (λ r. waits run fs t (onward r (block run t ss.now))) (loop_needs run.budget t o.now (block run t body.now) frame)
-      ∙ waits_needs fs t
-
-  loop_step : (t : CTy) (o : COpnd) (body : List CStmt) (frame : Frame) (left : ℕ) → left < run.budget → loop run t o body frame (suc left) ≡ tested run t o body frame left
-  unfolding loop tested block calls
-  loop_step t o body frame left h = turns_fixed (program_of run.program.now) run.budget t o (block_of body) frame left h
-
-  pub end_again : (fs gs : List Kont) (o : Bor COpnd) (body ss : Bor (List CStmt)) (t : CTy) (frame : Frame) (left n : ℕ)
-      → gs ≡ fs ++ Again o body ss ∷ [] → n + 1 ≡ left → left ≤ run.budget
-      → waits run gs t (done (goes frame) left) ≡ waits run fs t (onward (tested run t o.now body.now frame n) (block run t ss.now))
-  end_again fs gs o body ss t frame left n e i h =
-      let p : left ≡ suc n = omega arith in
-      ap (λ z. waits run z t (done (goes frame) left)) e ∙ waits_again fs o body ss t (done (goes frame) left)
-      ∙ ap (λ i. waits run fs t (onward (loop run t o.now body.now frame i) (block run t ss.now))) p
-      ∙ ap (λ r. waits run fs t (onward r (block run t ss.now))) (loop_step t o.now body.now frame n (omega arith))
 
   -- an assignment
   pub assigned_ok : (frame : Frame) (left : ℕ) → assigned (ok frame) left ≡ done (goes frame) left

@@ -129,12 +129,3 @@ Ends o (Ok r) = o ≡ done (value_of r.0) r.1
 Ends o (Err (Stuck why)) = o ≡ stuck why
 Ends o (Err Budget) = o ≡ needs
 Ends o (Err Memory) = Unit {0}
-
--- What a run of at most n steps answers: the number that is returned and the steps that were taken, exactly where it ends;
--- why it is stuck, exactly where it is; `Budget` exactly where it needs more steps; and want of memory is free.
-abbrev pub Ran : Outcome Value → ℕ → Result (ℕ × ℕ) RunFault → Type 0
-Ran o n (Err Memory) = Unit {0}
-Ran (done v left) n (Ok r) = (r.0 ≡ number_of v) × (r.1 + left ≡ n)
-Ran (stuck why) n (Err (Stuck reason)) = reason ≡ why
-Ran needs n (Err Budget) = Unit {0}
-Ran _ n _ = ⊥

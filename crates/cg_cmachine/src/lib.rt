@@ -7,6 +7,9 @@ mod fault;
 mod frames;
 mod machine;
 mod operands;
+mod run;
+mod running;
 mod words;
 
 pub use fault::RunFault;
+pub use run::run_words;

@@ -72,7 +72,7 @@ fn descend<'a>(run: &Run<'a>, m: &mut Machine<'a>, stmts: &'a [CStmt]) -> Result
 }
 
 /// An `if`, whose step is counted.
-fn branch<'a>(
+pub(crate) fn branch<'a>(
     run: &Run<'a>,
     m: &mut Machine<'a>,
     opnd: &'a COpnd,
@@ -98,7 +98,7 @@ fn branch<'a>(
 }
 
 /// The test of a loop, whose step is counted.
-fn test<'a>(
+pub(crate) fn test<'a>(
     run: &Run<'a>,
     m: &mut Machine<'a>,
     opnd: &'a COpnd,
@@ -134,7 +134,7 @@ fn find_case<'a>(number: u64, arms: &'a [CCase]) -> Option<&'a [CStmt]>
 }
 
 /// A `switch`, whose step is counted.
-fn switch<'a>(
+pub(crate) fn switch<'a>(
     run: &Run<'a>,
     m: &mut Machine<'a>,
     opnd: &'a COpnd,
@@ -155,7 +155,11 @@ fn switch<'a>(
 }
 
 /// A `return`, whose step is counted.
-fn give_back<'a>(run: &Run<'a>, m: &mut Machine<'a>, opnd: &'a COpnd) -> Result<Next, RunFault>
+pub(crate) fn give_back<'a>(
+    run: &Run<'a>,
+    m: &mut Machine<'a>,
+    opnd: &'a COpnd,
+) -> Result<Next, RunFault>
     ensures gives { Follows run.now m.old (lift (judge_of (frame_of m.old.frame.items) opnd.now) (λ v.
         lift (give_of m.old.ty.now v) (λ n. done (back n) m.old.left))) m.new result }
     ensures falls { IfOk result (λ next. weight m.new ≤ weight m.old + 1) }

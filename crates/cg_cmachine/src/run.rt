@@ -1,0 +1,48 @@
+// A run of a program.
+#![tactic(auto, using(crate::proofs::Statements::statement_steps))]
+
+ghost use Rattle.std.specs.Prelude.{[], ◌∷◌};
+ghost use Rattle.cg_ctree.specs.Runs.{crun};
+ghost use Rattle.cg_ctree.specs.Trees.{program_of};
+ghost use Rattle.cg_cmachine.specs.Answers.{Ran};
+
+use crate::RunFault;
+use crate::calls::start;
+use crate::machine::{Machine, Run};
+use crate::operands::number_of;
+use crate::running::go_on;
+use cg_base::Name;
+use cg_ctree::CProgram;
+use std::alloc::Global;
+
+/// Runs a function of a program on one word, without a heap, in at most `budget` steps (docs/LANGUAGE.md, "The C subset"):
+/// what it returns, and the steps that it took; or that it is stuck and why; or that it needs more steps; or that memory is
+/// wanting. It answers what the definition of a run says for every program. Loops, branches and calls go over a stack of its
+/// own. A function, a variable and a case are found by a walk over all of them.
+pub fn run_words(
+    alloc: Global,
+    program: &CProgram,
+    function: &Name,
+    arg: u64,
+    budget: u64,
+) -> Result<(u64, u64), RunFault>
+    ensures { Ran (crun budget (program_of program.now) function.now (arg ∷ [])) budget result }
+{
+    let run = Run { program, budget };
+    match start(alloc, &run, function, arg) {
+        Err(fault) => Err(fault),
+        Ok(entered) => {
+            let m = Machine {
+                ty: entered.ty,
+                stmts: entered.stmts,
+                frame: entered.frame,
+                stack: Vec::new(alloc),
+                left: budget,
+            };
+            match go_on(alloc, &run, m) {
+                Err(fault) => Err(fault),
+                Ok((scalar, left)) => Ok((number_of(scalar), budget - left)),
+            }
+        }
+    }
+}
