@@ -1,7 +1,9 @@
 // Evaluation of plain sources.
 use cg_base::{Items, Name, Ty, Word};
 use cg_check::check;
+use cg_cmachine::{RunFault, run_words};
 use cg_eval::{EvalFault, eval, is_plain};
+use cg_lower::{lower, lower_function};
 use cg_parser::parse;
 use cg_resolve::resolve;
 use cg_typing::Checked;
@@ -135,5 +137,40 @@ fn values_are_copied_and_words_printed(rt: HostRuntime) -> Result<(), Fail> {
     assert!(rt; matches!(value.copy(alloc)?, Value::Variant(_, _)));
     let text = print_value(alloc, &Value::Num(4_294_967_295), &Ty::Word(Word::U32))?;
     assert_eq!(rt; text.as_slice(), b"4294967295".as_slice());
+    Ok(())
+}
+
+#[test]
+fn the_c_of_a_source_gives_the_same(rt: HostRuntime) -> Result<(), Fail> {
+    let alloc = rt.alloc();
+    let source = "f : U32 -> U32\nf x = let y = g x in g y\ng : U32 -> U32\ng x = x + x\n";
+    let checked = checked_source(&rt, alloc, source)?;
+    expect(&rt, alloc, &checked, 0, 3, 13, Some((12, 13)))?;
+    let program = lower(alloc, &checked)?;
+    assert_eq!(rt;
+        program.funs.get(0).map(|first| first.name.bytes()),
+        Some(b"f1".as_slice())
+    );
+    let name = Name::new(alloc, b"f0")?;
+    // Two calls of three steps each, and the return.
+    match run_words(alloc, &program, &name, 3, 448) {
+        Ok((value, steps)) => assert_eq!(rt; (value, steps), (12, 7)),
+        Err(_) => panic!(rt; "the C is stuck"),
+    }
+    match run_words(alloc, &program, &name, 3, 6) {
+        Err(RunFault::Budget) => Ok(()),
+        _ => panic!(rt; "the C ends too early"),
+    }
+}
+
+#[test]
+fn the_c_of_a_function_is_made(rt: HostRuntime) -> Result<(), Fail> {
+    let alloc = rt.alloc();
+    let checked = checked_source(&rt, alloc, "f : U32 -> U32\nf x = x + 1\n")?;
+    let Some(core) = checked.core(0) else {
+        panic!(rt; "no core is kept")
+    };
+    let function = lower_function(alloc, 7, core)?;
+    assert_eq!(rt; function.name.bytes(), b"f7".as_slice());
     Ok(())
 }
