@@ -44,7 +44,7 @@ both_are {a} {b} {c} {d} e f = ap (λ x. x && c) e ∙ ap (λ x. b && x) f
 mutual
   unfolding plain erased
 
-  core_plain : (n : ℕ) (t : Tree Note) → plain n (erased t) ≡ plain n t
+  pub core_plain : (n : ℕ) (t : Tree Note) → plain n (erased t) ≡ plain n t
   core_plain n (term note shape) = shape_plain n shape
 
   shape_plain : (n : ℕ) (s : Shape Note) → plain_shape n (erased_shape s) ≡ plain_shape n s
@@ -64,7 +64,7 @@ mutual
   called_plain n (term note _) = refl
 
 -- the functions of a plain table have plain bodies
-record IsPlainTable (n : ℕ) (table : Table) (i : ℕ) : Type 0 where
+pub record IsPlainTable (n : ℕ) (table : Table) (i : ℕ) : Type 0 where
   pub core : Tree Note
   pub there : table.body i ≡ Some core
   pub plain : plain n core ≡ true
@@ -128,7 +128,7 @@ kept_one n functions vars argument result (Some body) (Some c) None cores k p = 
 kept_one n functions vars argument result (Some body) (Some c) (Some d) cores k p =
     record { core = the_core c; there = refl; plain = sym (core_plain n (the_core c)) ∙ ap (plain n) k.erases ∙ p }
 
-kept_plain : (n : ℕ) (functions fs : List Function) (cores : List (Option (Term Typed))) (trees : List (Option Deriv)) (i : ℕ)
+pub kept_plain : (n : ℕ) (functions fs : List Function) (cores : List (Option (Term Typed))) (trees : List (Option Deriv)) (i : ℕ)
     → AreKept functions fs (map maybe_core cores) (map maybe_tree trees) → list_all (plain_function n) fs ≡ true → i < length fs → IsPlainTable n (table_of cores) i
 unfolding plain_function
 kept_plain n functions [] cores trees i k p h = absurd (omega arith)

@@ -1,3 +1,4 @@
+pub mod Contained
 pub mod Evaluations
 pub mod Frames
 pub mod LowerSteps
@@ -7,3 +8,5 @@ pub mod ProgramSteps
 pub mod Programs
 pub mod Simulate
 pub mod Steps
+pub mod WordTypes
+pub mod Whole

@@ -24,7 +24,7 @@ functions_more bodies [] i = refl
 functions_more bodies (j ∷ is) i =
     ap (with_function j (bodies j)) (functions_more bodies is i) ∙ with_more j (bodies j) (functions_at bodies is) (with_function i (bodies i) [])
 
-take_more : (is : List ℕ) (i x : ℕ) → i < length is → x ≡ get_or is i 0 → take (suc i) is ≡ take i is ++ x ∷ []
+pub take_more : (is : List ℕ) (i x : ℕ) → i < length is → x ≡ get_or is i 0 → take (suc i) is ≡ take i is ++ x ∷ []
 take_more [] i x h e = absurd (omega (arith, h))
 take_more (j ∷ is) zero x h e = ap (λ z. z ∷ []) (sym e)
 take_more (j ∷ is) (suc i) x h e = ap (λ z. j ∷ z) (take_more is i x (omega (arith, h)) e)

@@ -56,14 +56,14 @@ find_this i (Some u) t fs e =
     let q : u ≡ t = cc in
     rw (itself (function_name i)) (ap (λ z. Some (function_at i z)) q)
 
-behind : (i j : ℕ) (is : List ℕ) → Contains (j ∷ is) i → (j ≡ i → ⊥) → Contains is i
+pub behind : (i j : ℕ) (is : List ℕ) → Contains (j ∷ is) i → (j ≡ i → ⊥) → Contains is i
 behind i j is (zero, h, e) n = absurd (n e)
 behind i j is (suc k, h, e) n = (k, omega arith, e)
 
-in_front : (i j : ℕ) (is : List ℕ) → Contains is i → Contains (j ∷ is) i
+pub in_front : (i j : ℕ) (is : List ℕ) → Contains is i → Contains (j ∷ is) i
 in_front i j is c = (suc c.0, omega (arith, c.1), c.2)
 
-head_is : (j : ℕ) (is : List ℕ) → Contains (j ∷ is) j
+pub head_is : (j : ℕ) (is : List ℕ) → Contains (j ∷ is) j
 head_is j is = (0, omega arith, refl)
 
 find_at : (bodies : ℕ → Option (Tree Note)) (order : List ℕ) (i : ℕ) (t : Tree Note) → ((j : ℕ) → Contains order j → j < 2 ^ 64) → Contains order i → bodies i ≡ Some t

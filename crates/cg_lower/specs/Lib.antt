@@ -1,4 +1,5 @@
 pub mod Lowered
 pub mod Places
+pub mod Plainly
 pub mod Ranks
 pub mod Simulated

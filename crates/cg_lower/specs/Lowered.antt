@@ -132,9 +132,9 @@ abbrev pub rank : (ℕ → Option (Tree Note)) → ℕ → ℕ → ℕ
 rank bodies zero i = 0
 rank bodies (suc n) i = above_body (rank bodies n) (bodies i)
 
--- Callees before callers: the positions below n by their rank, and of one rank in the order of signatures.
+-- Callees before callers: the positions below n by their rank, which is n at most, and of one rank in the order of signatures.
 abbrev pub in_order : (ℕ → Option (Tree Note)) → ℕ → List ℕ
-in_order bodies n = flat_map (λ r. filter (λ i. nat_eq (rank bodies n i) r) (range_with_len 0 n)) (range_with_len 0 n)
+in_order bodies n = flat_map (λ r. filter (λ i. nat_eq (rank bodies n i) r) (range_with_len 0 n)) (range_with_len 0 (n + 1))
 
 -- the C program of n functions in an order, and of a source
 abbrev pub program_in : (ℕ → Option (Tree Note)) → List ℕ → Program

@@ -1,11 +1,11 @@
 // The C function of a function of a plain source.
 #![tactic(auto, using(crate::proofs::LowerSteps::lower_steps))]
 
-ghost use Rattle.std.specs.Prelude.{◌≡◌, ◌+◌, ◌++◌, [], ◌∷◌, length, map, IfOk};
+ghost use Rattle.std.specs.Prelude.{◌≡◌, ◌<◌, ◌^◌, IfOk};
 ghost use Rattle.cg_core.specs.Kernels.{the_core};
 ghost use Rattle.cg_ctree.specs.Trees.{function_of};
 ghost use Rattle.cg_lower.specs.Places.{IsBodyOf};
-ghost use Rattle.cg_lower.specs.Lowered.{declared as declared_of, locals as locals_of, local as local_of, function_at};
+ghost use Rattle.cg_lower.specs.Lowered.{declared as declared_of, locals as locals_of, local as local_of, low_body, function_at};
 
 use crate::terms::{Place, function_name, local, lower_term, operand};
 use cg_base::{Items, Memory, Name, Word};
@@ -36,7 +36,8 @@ fn locals(alloc: Global, count: usize) -> Result<Items<CDecl>, Memory>
 
 // The body of a function: its locals, its statements and the return of its value.
 fn body(alloc: Global, term: &Term<Typed>) -> Result<CBody, Memory>
-    ensures { IfOk result (λ made. IsBodyOf (the_core term.now) made) }
+    ensures made { IfOk result (λ made. IsBodyOf (the_core term.now) made) }
+    ensures few { IfOk result (λ made. (low_body (the_core term.now)).count < 2 ^ 64) }
 {
     let mut scope = Vec::new(alloc);
     scope.push(Place::Argument)?;
@@ -50,7 +51,8 @@ fn body(alloc: Global, term: &Term<Typed>) -> Result<CBody, Memory>
 /// The C function of the function at a position, whose core this is: a function of one word, in which each sum and each
 /// call has a local of its own, assigned once (docs/LANGUAGE.md, "Lowering"). The one error is want of memory.
 pub fn lower_function(alloc: Global, at: u32, term: &Term<Typed>) -> Result<CFun, Memory>
-    ensures { IfOk result (λ f. function_of f ≡ function_at at (the_core term.now)) }
+    ensures made { IfOk result (λ f. function_of f ≡ function_at at (the_core term.now)) }
+    ensures few { IfOk result (λ f. (low_body (the_core term.now)).count < 2 ^ 64) }
 {
     let mut params = Items::new(alloc);
     params.push(declared(Name::new(alloc, b"a0")?))?;

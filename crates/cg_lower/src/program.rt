@@ -6,7 +6,8 @@ ghost use Rattle.cg_core.specs.Kernels.{kernel_of};
 ghost use Rattle.cg_ctree.specs.Trees.{function_of, program_of};
 ghost use Rattle.cg_typing.specs.Holds.{cores_in, kernel_in};
 ghost use Rattle.cg_lower.specs.Lowered.{functions_at, with_function, lowered};
-ghost use Rattle.cg_lower.specs.Ranks.{bodies_of};
+ghost use Rattle.cg_lower.specs.Plainly.{Simulates};
+ghost use Rattle.cg_lower.specs.Ranks.{bodies_of, IsFew, AllFew};
 
 use crate::function::lower_function;
 use crate::order::{in_order, ranks_of};
@@ -22,7 +23,8 @@ fn push_function(
     functions: &mut Items<CFun>,
     at: u32,
 ) -> Result<(), Memory>
-    ensures { OnOk result (map function_of functions.new ≡ map function_of functions.old ++ with_function at (bodies_of (cores_in checked.now) at) []) }
+    ensures made { OnOk result (map function_of functions.new ≡ map function_of functions.old ++ with_function at (bodies_of (cores_in checked.now) at) []) }
+    ensures few { OnOk result (IsFew (bodies_of (cores_in checked.now)) at) }
 {
     match checked.core(at) {
         Some(core) => functions.push(lower_function(alloc, at, core)?),
@@ -32,7 +34,8 @@ fn push_function(
 
 // The C functions of these positions.
 fn functions_of(alloc: Global, checked: &Checked, order: &[u32]) -> Result<Items<CFun>, Memory>
-    ensures { IfOk result (λ functions. map function_of functions ≡ functions_at (bodies_of (cores_in checked.now)) order.now) }
+    ensures made { IfOk result (λ functions. map function_of functions ≡ functions_at (bodies_of (cores_in checked.now)) order.now) }
+    ensures few { IfOk result (λ functions. AllFew (bodies_of (cores_in checked.now)) order.now) }
 {
     let mut functions = Items::new(alloc);
     for at in order {
@@ -42,10 +45,12 @@ fn functions_of(alloc: Global, checked: &Checked, order: &[u32]) -> Result<Items
 }
 
 /// The C program of a checked source that is plain: a function for each function of the source, in which each sum and each
-/// call has a local of its own, callees before callers (docs/LANGUAGE.md, "Lowering"). Forms that no plain source has are
-/// lowered to the number 0. The one error is want of memory, also where there are more than 2^32 functions.
+/// call has a local of its own, callees before callers (docs/LANGUAGE.md, "Lowering"). Where evaluation gives a value at
+/// cost k, the C function returns it within 32k + 32 steps. Forms that no plain source has are lowered to the number 0. The one
+/// error is want of memory, also where there are more than 2^32 functions.
 pub fn lower(alloc: Global, checked: &Checked) -> Result<CProgram, Memory>
-    ensures { IfOk result (λ p. program_of p ≡ lowered (bodies_of (cores_in checked.now)) (length (kernel_of (kernel_in checked.now)))) }
+    ensures made { IfOk result (λ p. program_of p ≡ lowered (bodies_of (cores_in checked.now)) (length (kernel_of (kernel_in checked.now)))) }
+    ensures simulates { IfOk result (λ p. Simulates checked.now (program_of p)) }
 {
     let Ok(count) = u32::try_from(checked.kernel().funs.len()) else {
         return Err(Memory);

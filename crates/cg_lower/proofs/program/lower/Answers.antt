@@ -1,7 +1,9 @@
 use Rattle.std.proofs.Common.{arith}
 use Rattle.cg_typing.specs.Holds.{cores_in}
 use Rattle.cg_lower.specs.Ranks.{bodies_of}
+use Rattle.cg_ctree.specs.Trees.{program_of}
 use Rattle.cg_lower.proofs.OrderSteps.{order_is}
+use Rattle.cg_lower.proofs.Whole.{few_in_order, simulated}
 use Rattle.cg_lower.proofs.ProgramSteps.{counted, no_more_than}
 use Rattle.cg_lower.proofs.program.lower.Goals as goal
 
@@ -10,8 +12,15 @@ ranks_of-requires c =
     let n = counted c.args.checked.now c.kernel.result.now c.in-Ok.count c.len.result c.kernel.ensures c.len.ensures c.in-Ok.ensures.1 in
     record { whole = no_more_than c.args.checked.now c.in-Ok.count n }
 
-pub returns : goal.returns
-returns c =
+pub returns-clause-made : goal.returns-clause-made
+returns-clause-made c =
     let n = counted c.args.checked.now c.kernel.result.now c.in-Ok.count c.len.result c.kernel.ensures c.len.ensures c.in-Ok.ensures.1 in
     let o = order_is (bodies_of (cores_in c.args.checked.now)) c.in-Ok.count (no_more_than c.args.checked.now c.in-Ok.count n) in
     grind (arith, c.in_ok-functions_of.ensures, c.in_ok-order.ensures, c.in_ok-ranks.ensures, c.deref.ensures)
+
+pub returns-clause-simulates : goal.returns-clause-simulates
+returns-clause-simulates c =
+    let n = counted c.args.checked.now c.kernel.result.now c.in-Ok.count c.len.result c.kernel.ensures c.len.ensures c.in-Ok.ensures.1 in
+    let o = order_is (bodies_of (cores_in c.args.checked.now)) c.in-Ok.count (no_more_than c.args.checked.now c.in-Ok.count n) in
+    let f = few_in_order c.args.checked.now c.deref.result.now c.in_ok-order.order.items c.in_ok-ranks.ranks.items c.in-Ok.count n c.in_ok-functions_of.ensures.few c.deref.ensures.value c.in_ok-order.ensures c.in_ok-ranks.ensures in
+    simulated c.args.checked.now (program_of (record { structs = c.new.result; funs = c.in_ok-functions_of.field-0 })) c.in-Ok.count n (omega (arith, c.in-Ok.ensures.0, c.in-Ok.ensures.1)) (returns-clause-made c) f
