@@ -29,11 +29,11 @@ bind_fine spent h f g e = absurd (cc)
 bind_fine stuck h f g e = f refl
 bind_fine (gives v l) h f g e = g v l e
 
-and_left : (a b : Bool) → a && b ≡ true → a ≡ true
+pub and_left : (a b : Bool) → a && b ≡ true → a ≡ true
 and_left true b e = refl
 and_left false b e = absurd (cc)
 
-and_right : (a b : Bool) → a && b ≡ true → b ≡ true
+pub and_right : (a b : Bool) → a && b ≡ true → b ≡ true
 and_right true b e = e
 and_right false b e = absurd (cc)
 

@@ -31,7 +31,7 @@ bind_twice stuck g h = refl
 bind_twice (gives v l) g h = refl
 
 -- two operands
-two_terms : (ts : List (Term Typed)) (a b : Term Typed) → 2 ≤ length ts → length ts < 3 → a ≡ get_or ts 0 a → b ≡ get_or ts 1 b
+pub two_terms : (ts : List (Term Typed)) (a b : Term Typed) → 2 ≤ length ts → length ts < 3 → a ≡ get_or ts 0 a → b ≡ get_or ts 1 b
     → to_trees (map the_core ts) ≡ more (the_core a) (more (the_core b) none)
 unfolding to_trees
 two_terms [] a b n m h k = absurd (omega arith)

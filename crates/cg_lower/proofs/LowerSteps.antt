@@ -83,15 +83,6 @@ size_two (x ∷ []) a b h w e k = absurd (omega arith)
 size_two (x ∷ y ∷ []) a b h w e k = ap (λ t. size (the_core t) + (size (the_core y) + 0)) (sym e) ∙ ap (λ t. size (the_core a) + (size (the_core t) + 0)) (sym k) ∙ plus_zero (size (the_core a)) (size (the_core b))
 size_two (x ∷ y ∷ z ∷ ts) a b h w e k = absurd (omega arith)
 
--- two operands, and other than two
-pub two_terms : (ts : List (Term Typed)) (a b : Term Typed) → 2 ≤ length ts → length ts < 3 → a ≡ get_or ts 0 a → b ≡ get_or ts 1 b
-    → to_trees (map the_core ts) ≡ more (the_core a) (more (the_core b) none)
-unfolding to_trees
-two_terms [] a b n m h k = absurd (omega arith)
-two_terms (x ∷ []) a b n m h k = absurd (omega arith)
-two_terms (x ∷ y ∷ []) a b n m h k = ap (λ t. more (the_core t) (more (the_core y) none)) (sym h) ∙ ap (λ t. more (the_core a) (more (the_core t) none)) (sym k)
-two_terms (x ∷ y ∷ z ∷ ts) a b n m h k = absurd (omega arith)
-
 -- so long is the code once a term is lowered
 pub longer : (old new : List CStmt) (p : Place) (l : Low) → After old new p l → l.count ≡ length l.code → length new ≡ length old + l.count
 longer old new p l a c =

@@ -1,7 +1,5 @@
 -- The C program of a plain source gives what evaluation gives.
 use Rattle.std.proofs.Common.{◌≡◌, ℕ, ◌+◌, ◌<◌, ◌^◌, List, length, sym, ap, subst, ◌∙◌, arith}
-use Rattle.std.specs.List.{Contains}
-use Rattle.cg_core.specs.Terms.{Note, Tree}
 use Rattle.cg_core.specs.Kernels.{kernel_of}
 use Rattle.cg_ctree.specs.Trees.{Program}
 use Rattle.cg_eval.specs.Machine.{table_of}

@@ -1,14 +1,13 @@
 -- In a plain source that is accepted each value is a word of 32 bits.
-use Rattle.std.proofs.Common.{◌≡◌, ◌⊎◌, inl, inr, ⊎_elim, ℕ, zero, suc, ◌+◌, ◌<◌, ◌≤◌, ◌^◌, Bool, true, false, not, ◌&&◌, nat_lt, IsTrue, Option, Some, None, List, [], ◌∷◌, length, map, slice_get, refl, sym, ap, subst, ◌∙◌, arith}
+use Rattle.std.proofs.Common.{◌≡◌, ◌⊎◌, inl, inr, ⊎_elim, ℕ, zero, suc, ◌<◌, ◌^◌, Bool, true, false, not, nat_lt, Option, Some, None, List, [], ◌∷◌, length, map, slice_get, refl, sym, ap, subst, ◌∙◌, arith}
 use Rattle.std.specs.List.{list_all}
 use Rattle.std.specs.Option.{option_map}
 use Rattle.std.proofs.lemmas.Bool.{ltb-true, ltb-false}
 use Rattle.std.proofs.lemmas.Grind.{not_there}
-use Rattle.cg_base.specs.declared.fun.Fun.TheVariants.{User, Lib}
+use Rattle.cg_base.specs.declared.fun.Fun.TheVariants.{User}
 use Rattle.cg_base.specs.declared.kind.Kinds.{Kinds}
 use Rattle.cg_base.specs.declared.kind.Word.TheVariants.{U8, U16, U32, U64}
-use Rattle.cg_base.specs.declared.place.Place.{Place}
-use Rattle.cg_base.specs.Types.{Tau, arrow, word, var as var_type, seen, unit as unit_type, bool as bool_type, abs, variant, fields}
+use Rattle.cg_base.specs.Types.{Tau, arrow, word}
 use Rattle.cg_core.specs.declared.derivation.Deriv.{Deriv}
 use Rattle.cg_core.specs.declared.derivation.Mark.{Mark}
 use Rattle.cg_core.specs.declared.derivation.Mark.TheVariants.{Gone, Left, Right, Both, Seen}
@@ -16,18 +15,17 @@ use Rattle.cg_core.specs.declared.op.Op.TheVariants.{Add}
 use Rattle.cg_core.specs.declared.term.Term.{Term}
 use Rattle.cg_core.specs.declared.term.Typed.{Typed}
 use Rattle.cg_core.specs.Derivations.{Derivation}
-use Rattle.cg_core.specs.Kernels.{Function, Body, kernel_of, the_core}
-use Rattle.cg_core.specs.Terms.{Note, Tree, term, Shape, var, lit, fun, op, app, lets, Trees, none, more}
+use Rattle.cg_core.specs.Kernels.{Function, Body, kernel_of}
+use Rattle.cg_core.specs.Terms.{Note, Tree, term, Shape, var, lit, fun, op, app, lets, none, more}
 use Rattle.cg_kinds.specs.Kinds.{bang}
-use Rattle.cg_eval.proofs.NotStuck.{core_plain, kept_plain}
+use Rattle.cg_eval.proofs.NotStuck.{and_left, and_right, core_plain, kept_plain}
 use Rattle.cg_typing.specs.Accepted.{kinds_of_vars}
-use Rattle.cg_typing.specs.declared.checked.Checked.{Checked}
 use Rattle.cg_typing.specs.Holds.{kernel_in, cores_in, trees_in, kept_at}
 use Rattle.cg_typing.specs.Kept.{maybe_core, maybe_tree, IsKeptMaybe, AreKept}
 use Rattle.cg_lower.specs.Plainly.{PlainBodiesAreWords}
 use Rattle.cg_lower.specs.Ranks.{bodies_of}
-use Rattle.cg_typing.specs.Contexts.{Context, look, push, first, second, first_side, second_side, Splits}
-use Rattle.cg_typing.specs.Rules.{Meets, type_at, is_literal, operand, fun_type, sub, marks_of, InRange, FunRow, Derives, DerivesShape}
+use Rattle.cg_typing.specs.Contexts.{Context, look, push, first, second, first_side, second_side}
+use Rattle.cg_typing.specs.Rules.{Meets, type_at, is_literal, operand, fun_type, sub, marks_of, InRange, Derives, DerivesShape}
 use Rattle.cg_eval.specs.Plain.{plain, plain_shape, plain_body, plain_function, is_word_to_word}
 use Rattle.cg_lower.specs.Simulated.{IsWordTerm, IsWordShape}
 
@@ -41,14 +39,6 @@ AreWords g = (i : ℕ) (t : Tau) → look g i ≡ Some t → t ≡ word U32
 -- nothing is asked, or such a word
 abbrev Asks : Option Tau → Type 0
 Asks direction = (direction ≡ None) ⊎ (direction ≡ Some (word U32))
-
-left_true : (a b : Bool) → a && b ≡ true → a ≡ true
-left_true true b e = refl
-left_true false b e = absurd (cc)
-
-right_true : (a b : Bool) → a && b ≡ true → b ≡ true
-right_true true b e = e
-right_true false b e = absurd (cc)
 
 -- the sides of a split
 
@@ -160,19 +150,19 @@ module _ (functions : List Function) (vars : List Kinds) (n : ℕ) (signatures :
         let e = asked direction note.ty a r.checked in (literal_range n (length g) note value note.ty e r.in_range, e)
     shape_words g d direction note (op Add (more x (more y none))) r p w a =
         let left : Asks (operand direction (not (is_literal x)) note.ty) → IsWordTerm n (length (first (marks_of d) g)) x × (type_at x ≡ word U32) =
-        λ b. term_words (first (marks_of d) g) (sub d 0) (operand direction (not (is_literal x)) note.ty) x r.left (left_true (plain n x) (plain n y) p) (first_words (marks_of d) g w) b in
+        λ b. term_words (first (marks_of d) g) (sub d 0) (operand direction (not (is_literal x)) note.ty) x r.left (and_left (plain n x) (plain n y) p) (first_words (marks_of d) g w) b in
         let right : Asks (operand direction (is_literal x) note.ty) → IsWordTerm n (length (second (marks_of d) g)) y × (type_at y ≡ word U32) =
-        λ b. term_words (second (marks_of d) g) (sub d 1) (operand direction (is_literal x) note.ty) y r.right (right_true (plain n x) (plain n y) p) (second_words (marks_of d) g w) b in
+        λ b. term_words (second (marks_of d) g) (sub d 1) (operand direction (is_literal x) note.ty) y r.right (and_right (plain n x) (plain n y) p) (second_words (marks_of d) g w) b in
         let both = sum_words direction note.ty (type_at x) (type_at y) (is_literal x) r.meets a left right r.left_is r.right_is in
         ((both.2, deeper n _ (length g) x (first_long (marks_of d) g r.splits.long) both.0, deeper n _ (length g) y (second_long (marks_of d) g r.splits.long) both.1), both.2)
     shape_words g d direction note (app (term at (fun (User i) [])) x) r p w a =
         let s : at.ty ≡ arrow (word U32) (word U32) = signatures i at.ty r.function.is in
         let parts = arrow_parts (word U32) (word U32) (type_at x) note.ty (sym s ∙ r.is_arrow) in
-        let one = term_words (second (marks_of d) g) (sub d 1) (Some (type_at x)) x r.argument (right_true (nat_lt i n) (plain n x) p) (second_words (marks_of d) g w) (inr (ap Some parts.0)) in
-        ((ltb-true i n (left_true (nat_lt i n) (plain n x) p), deeper n _ (length g) x (second_long (marks_of d) g r.splits.long) one.0), parts.1)
+        let one = term_words (second (marks_of d) g) (sub d 1) (Some (type_at x)) x r.argument (and_right (nat_lt i n) (plain n x) p) (second_words (marks_of d) g w) (inr (ap Some parts.0)) in
+        ((ltb-true i n (and_left (nat_lt i n) (plain n x) p), deeper n _ (length g) x (second_long (marks_of d) g r.splits.long) one.0), parts.1)
     shape_words g d direction note (lets binder e k) r p w a =
-        let one = term_words (first (marks_of d) g) (sub d 0) None e r.value (left_true (plain n e) (plain n k) p) (first_words (marks_of d) g w) (inl refl) in
-        let two = term_words (push (second (marks_of d) g) (Some (type_at e))) (sub d 1) direction k r.body (right_true (plain n e) (plain n k) p) (push_words (second (marks_of d) g) (type_at e) (second_words (marks_of d) g w) one.1) a in
+        let one = term_words (first (marks_of d) g) (sub d 0) None e r.value (and_left (plain n e) (plain n k) p) (first_words (marks_of d) g w) (inl refl) in
+        let two = term_words (push (second (marks_of d) g) (Some (type_at e))) (sub d 1) direction k r.body (and_right (plain n e) (plain n k) p) (push_words (second (marks_of d) g) (type_at e) (second_words (marks_of d) g w) one.1) a in
         ((deeper n _ (length g) e (first_long (marks_of d) g r.splits.long) one.0, deeper n _ (suc (length g)) k (push_long (second (marks_of d) g) (Some (type_at e)) ∙ ap suc (second_long (marks_of d) g r.splits.long)) two.0), sym r.is ∙ two.1)
     shape_words g d direction note _ r p w a = absurd (cc)
 
@@ -225,8 +215,8 @@ unfolding plain_function
 signature_is n [] i t p h = absurd (cc)
 signature_is n (f ∷ fs) zero t p h =
     let e : f.ty.ty ≡ t = cc in
-    sym e ∙ arrow_is f.ty.ty (left_true (is_word_to_word f.ty.ty) (plain_body n f.body) (left_true (plain_function n f) (list_all (plain_function n) fs) p))
-signature_is n (f ∷ fs) (suc i) t p h = signature_is n fs i t (right_true (plain_function n f) (list_all (plain_function n) fs) p) h
+    sym e ∙ arrow_is f.ty.ty (and_left (is_word_to_word f.ty.ty) (plain_body n f.body) (and_left (plain_function n f) (list_all (plain_function n) fs) p))
+signature_is n (f ∷ fs) (suc i) t p h = signature_is n fs i t (and_right (plain_function n f) (list_all (plain_function n) fs) p) h
 
 -- the body that is kept of a function
 
@@ -253,11 +243,11 @@ module _ (functions : List Function) (n : ℕ) (signatures : (i : ℕ) (t : Tau)
   kept_at_word [] (c ∷ cores) trees i t k p e = absurd k
   kept_at_word (f ∷ fs) [] trees i t k p e = absurd k
   kept_at_word (f ∷ fs) (c ∷ cores) [] i t k p e = absurd k
-  kept_at_word (f ∷ fs) (c ∷ cores) (d ∷ trees) (suc i) t k p e = kept_at_word fs cores trees i t k.1 (right_true (plain_function n f) (list_all (plain_function n) fs) p) e
+  kept_at_word (f ∷ fs) (c ∷ cores) (d ∷ trees) (suc i) t k p e = kept_at_word fs cores trees i t k.1 (and_right (plain_function n f) (list_all (plain_function n) fs) p) e
   kept_at_word (f ∷ fs) (c ∷ cores) (d ∷ trees) zero t k p e =
-      let one : plain_function n f ≡ true = left_true (plain_function n f) (list_all (plain_function n) fs) p in
-      let parts = arrow_parts (word U32) (word U32) k.0.argument k.0.result (sym (arrow_is f.ty.ty (left_true (is_word_to_word f.ty.ty) (plain_body n f.body) one)) ∙ k.0.is_arrow) in
-      kept_word (kinds_of_vars f) k.0.argument k.0.result f.body (maybe_core c) (maybe_tree d) t k.0.kept parts.0 parts.1 (right_true (is_word_to_word f.ty.ty) (plain_body n f.body) one) e
+      let one : plain_function n f ≡ true = and_left (plain_function n f) (list_all (plain_function n) fs) p in
+      let parts = arrow_parts (word U32) (word U32) k.0.argument k.0.result (sym (arrow_is f.ty.ty (and_left (is_word_to_word f.ty.ty) (plain_body n f.body) one)) ∙ k.0.is_arrow) in
+      kept_word (kinds_of_vars f) k.0.argument k.0.result f.body (maybe_core c) (maybe_tree d) t k.0.kept parts.0 parts.1 (and_right (is_word_to_word f.ty.ty) (plain_body n f.body) one) e
 
 there : (o : Option (Tree Note)) → ((o ≡ None) → ⊥) → (t : Tree Note) × (o ≡ Some t)
 there None h = absurd (h refl)

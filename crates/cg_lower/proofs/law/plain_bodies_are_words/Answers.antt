@@ -1,5 +1,4 @@
 use Rattle.cg_lower.proofs.WordTypes.{plain_bodies_are_words}
-use Rattle.cg_lower.proofs.Contained.{stands}
 use Rattle.cg_lower.proofs.law.plain_bodies_are_words.Goals as goal
 
 pub returns : goal.returns
