@@ -1,29 +1,50 @@
-// Evaluation of plain sources.
+// Evaluation of plain sources, and their C.
+ghost use Rattle.std.specs.List.{All};
+ghost use Rattle.cg_core.specs.Kernels.{kernel_of};
+ghost use Rattle.cg_core.specs.Small.{IsSmallKernel};
+ghost use Rattle.cg_surface.specs.Trees.{program_of, OnlySumsEntry};
+
 use cg_base::{Items, Name, Ty, Word};
 use cg_check::check;
 use cg_cmachine::{RunFault, run_words};
+use cg_core::Kernel;
 use cg_eval::{EvalFault, eval, is_plain};
 use cg_lower::{lower, lower_function};
 use cg_parser::parse;
 use cg_resolve::resolve;
+use cg_surface::Program;
 use cg_typing::Checked;
 use cg_value::{Value, print_value};
 use std::alloc::Global;
 use std::process::Abort;
 use std::test::Fail;
 
+/// A kernel, checked.
+fn checked_kernel(rt: &impl Abort, alloc: Global, kernel: Kernel) -> Result<Checked, Fail>
+    requires { IsSmallKernel (kernel_of kernel) }
+{
+    match check(alloc, kernel) {
+        Ok(checked) => Ok(checked),
+        Err(_) => panic!(rt; "not accepted"),
+    }
+}
+
+/// A program, resolved and checked.
+fn checked_program(rt: &impl Abort, alloc: Global, program: &Program) -> Result<Checked, Fail>
+    requires { All OnlySumsEntry (program_of program.now) }
+{
+    match resolve(alloc, program) {
+        Ok(kernel) => checked_kernel(rt, alloc, kernel),
+        Err(_) => panic!(rt; "a name is at fault"),
+    }
+}
+
 /// A source, read, resolved and checked.
 fn checked_source(rt: &impl Abort, alloc: Global, source: &str) -> Result<Checked, Fail> {
-    let Ok(program) = parse(alloc, source.as_bytes()) else {
-        panic!(rt; "not spelled")
-    };
-    let Ok(kernel) = resolve(alloc, &program) else {
-        panic!(rt; "a name is at fault")
-    };
-    let Ok(checked) = check(alloc, kernel) else {
-        panic!(rt; "not accepted")
-    };
-    Ok(checked)
+    match parse(alloc, source.as_bytes()) {
+        Ok(program) => checked_program(rt, alloc, &program),
+        Err(_) => panic!(rt; "not spelled"),
+    }
 }
 
 /// Evaluates a function of a plain source on a word, and compares the value and its cost, or that there is none within
