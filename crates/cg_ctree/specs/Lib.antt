@@ -1,2 +1,4 @@
 pub mod Runs
+pub mod Spells
+pub mod Tokens
 pub mod Trees
