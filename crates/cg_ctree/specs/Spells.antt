@@ -1,7 +1,7 @@
 -- Which tokens spell which program of the C subset, and which bytes (docs/LANGUAGE.md, "The C text"). Structs, pointers, paths
 -- with members, `if`, `while`, `switch`, call statements, null tests and `cg_new` join here as cases; until then no text spells
 -- them.
-use Rattle.std.specs.Prelude.{◌≡◌, ℕ, ◌<◌, ◌^◌, Bool, true, false, List, [], ◌∷◌, Option, Some, None, ⊤, ⊥, codes, decimal}
+use Rattle.std.specs.Prelude.{◌≡◌, ℕ, ◌<◌, ◌^◌, Bool, true, false, List, [], ◌∷◌, Option, Some, None, ⊤, codes, decimal}
 use Rattle.std.specs.List.{AllByRecursion}
 use Rattle.cg_base.specs.declared.kind.Word.{Word}
 use Rattle.cg_base.specs.declared.kind.Word.TheVariants.{U8, U16, U32, U64}
@@ -12,7 +12,7 @@ use Rattle.cg_ctree.specs.declared.tree.COpnd.{COpnd}
 use Rattle.cg_ctree.specs.declared.tree.COpnd.TheVariants.{Number, Path}
 use Rattle.cg_ctree.specs.declared.tree.CPath.{CPath}
 use Rattle.cg_ctree.specs.declared.tree.CRhs.{CRhs}
-use Rattle.cg_ctree.specs.declared.tree.CRhs.TheVariants.{Opnd, Conv, Binary, Flip, IsNull, Call, New}
+use Rattle.cg_ctree.specs.declared.tree.CRhs.TheVariants.{Opnd, Conv, Binary, Flip, Call}
 use Rattle.cg_ctree.specs.declared.tree.CTy.{CTy}
 use Rattle.cg_ctree.specs.declared.tree.CTy.TheVariants as ty
 use Rattle.cg_ctree.specs.Tokens.{Token, name, word, literal, sign, line, IsToken, first_line, second_line, Lexeme, Lexes}
