@@ -5,6 +5,7 @@ pub mod LowerSteps
 pub mod Names
 pub mod OrderSteps
 pub mod ProgramSteps
+pub mod Printing
 pub mod Programs
 pub mod Simulate
 pub mod Steps

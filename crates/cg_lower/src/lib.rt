@@ -8,5 +8,5 @@ mod program;
 mod terms;
 
 pub use function::lower_function;
-pub use law::{lowering_simulates, plain_bodies_are_words};
+pub use law::{lowering_is_printable, lowering_simulates, plain_bodies_are_words};
 pub use program::lower;

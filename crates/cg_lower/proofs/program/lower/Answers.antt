@@ -4,6 +4,7 @@ use Rattle.cg_lower.specs.Ranks.{bodies_of}
 use Rattle.cg_ctree.specs.Trees.{program_of}
 use Rattle.cg_lower.proofs.OrderSteps.{order_is}
 use Rattle.cg_lower.proofs.Whole.{few_in_order, simulated}
+use Rattle.cg_lower.proofs.Printing.{printable_at}
 use Rattle.cg_lower.proofs.ProgramSteps.{counted, no_more_than}
 use Rattle.cg_lower.proofs.program.lower.Goals as goal
 
@@ -24,3 +25,9 @@ returns-clause-simulates c =
     let o = order_is (bodies_of (cores_in c.args.checked.now)) c.in-Ok.count (no_more_than c.args.checked.now c.in-Ok.count n) in
     let f = few_in_order c.args.checked.now c.deref.result.now c.in_ok-order.order.items c.in_ok-ranks.ranks.items c.in-Ok.count n c.in_ok-functions_of.ensures.few c.deref.ensures.value c.in_ok-order.ensures c.in_ok-ranks.ensures in
     simulated c.args.checked.now (program_of (record { structs = c.new.result; funs = c.in_ok-functions_of.field-0 })) c.in-Ok.count n (omega (arith, c.in-Ok.ensures.0, c.in-Ok.ensures.1)) (returns-clause-made c) f
+
+pub returns-clause-printable : goal.returns-clause-printable
+returns-clause-printable c =
+    let n = counted c.args.checked.now c.kernel.result.now c.in-Ok.count c.len.result c.kernel.ensures c.len.ensures c.in-Ok.ensures.1 in
+    let f = few_in_order c.args.checked.now c.deref.result.now c.in_ok-order.order.items c.in_ok-ranks.ranks.items c.in-Ok.count n c.in_ok-functions_of.ensures.few c.deref.ensures.value c.in_ok-order.ensures c.in_ok-ranks.ensures in
+    printable_at c.args.checked.now (program_of (record { structs = c.new.result; funs = c.in_ok-functions_of.field-0 })) c.in-Ok.count n (omega (arith, c.in-Ok.ensures.0, c.in-Ok.ensures.1)) (returns-clause-made c) f
