@@ -1,13 +1,17 @@
 // Evaluation of plain sources, and their C.
+ghost use Rattle.std.specs.Prelude.{IsTrue};
 ghost use Rattle.std.specs.List.{All};
 ghost use Rattle.cg_core.specs.Kernels.{kernel_of};
 ghost use Rattle.cg_core.specs.Small.{IsSmallKernel};
+ghost use Rattle.cg_eval.specs.Plain.{plain_kernel};
+ghost use Rattle.cg_typing.specs.Holds.{kernel_in};
 ghost use Rattle.cg_surface.specs.Trees.{program_of, OnlySumsEntry};
 
 use cg_base::{Items, Name, Ty, Word};
 use cg_check::check;
 use cg_cmachine::{RunFault, run_words};
 use cg_core::Kernel;
+use cg_ctext::print_c;
 use cg_eval::{EvalFault, eval, is_plain};
 use cg_lower::{lower, lower_function};
 use cg_parser::parse;
@@ -193,5 +197,34 @@ fn the_c_of_a_function_is_made(rt: HostRuntime) -> Result<(), Fail> {
     };
     let function = lower_function(alloc, 7, core)?;
     assert_eq!(rt; function.name.bytes(), b"f7".as_slice());
+    Ok(())
+}
+
+/// The C text of a plain source.
+fn printed(alloc: Global, checked: &Checked) -> Result<Vec<u8>, Fail>
+    requires plain { IsTrue (plain_kernel (kernel_of (kernel_in checked.now))) }
+{
+    let program = lower(alloc, checked)?;
+    Ok(print_c(alloc, &program)?)
+}
+
+#[test]
+fn the_c_of_a_source_is_printed(rt: HostRuntime) -> Result<(), Fail> {
+    let alloc = rt.alloc();
+    let checked = checked_source(&rt, alloc, "f : U32 -> U32\nf x = x + 1\n")?;
+    if !is_plain(checked.kernel()) {
+        panic!(rt; "not a plain source");
+    }
+    let text = printed(alloc, &checked)?;
+    let expected = b"#include <stdint.h>
+#include \"cogent.h\"
+
+uint32_t f0(uint32_t a0) {
+    uint32_t x0;
+    x0 = (uint32_t)((uint32_t)a0 + (uint32_t)1ull);
+    return x0;
+}
+";
+    assert_eq!(rt; text.as_slice(), expected.as_slice());
     Ok(())
 }
