@@ -23,13 +23,15 @@ type_text _ = []
 abbrev pub declared_text : CTy → List ℕ → List ℕ
 declared_text t x = type_text t ++ codes " " ++ x
 
+-- a declaration, without what follows it ("The C text", `decl`)
 abbrev pub decl_text : CDecl → List ℕ
 decl_text d = declared_text d.ty d.name
 
--- things with a comma and a space between ("The C text", `decl` and `rhs`)
+-- further things, with a comma and a space before each ("The C text", `decl` and `rhs`)
 abbrev pub more_text : {A : Type 0} → (A → List ℕ) → List A → List ℕ
 more_text text xs = flat_map (λ x. codes ", " ++ text x) xs
 
+-- things with a comma and a space between ("The C text", `decl` and `rhs`)
 abbrev pub some_text : {A : Type 0} → (A → List ℕ) → List A → List ℕ
 some_text text [] = []
 some_text text (x ∷ xs) = text x ++ more_text text xs
@@ -39,10 +41,11 @@ abbrev pub opnd_text : COpnd → List ℕ
 opnd_text (Number n) = decimal n ++ codes "ull"
 opnd_text (Path p) = p.base
 
--- a word in parentheses, and an operand behind it ("The C text", `cast`)
+-- a word in parentheses ("The C text", `cast` and `rhs`)
 abbrev pub to_text : Word → List ℕ
 to_text w = codes "(" ++ spelled w ++ codes ")"
 
+-- an operand with a word in parentheses before it ("The C text", `cast`)
 abbrev pub cast_text : Word → COpnd → List ℕ
 cast_text w o = to_text w ++ opnd_text o
 
@@ -65,6 +68,7 @@ stmt_text (assign p r) = codes "\n    " ++ p.base ++ codes " = " ++ right_text r
 stmt_text (return' o) = codes "\n    return " ++ opnd_text o ++ codes ";"
 stmt_text _ = []
 
+-- statements in a row ("The C text", `decl`)
 abbrev pub block_text : Block → List ℕ
 block_text stop = []
 block_text (also s b) = stmt_text s ++ block_text b
@@ -86,6 +90,6 @@ function_text f = codes "\n\n" ++ declared_text f.ty f.name ++ codes "(" ++ some
 abbrev pub printed : Program → List ℕ
 printed p = first_line ++ codes "\n" ++ second_line ++ flat_map function_text p.functions ++ codes "\n"
 
--- a text begins with these bytes
+-- a text begins with these bytes ("The C text", what is printed)
 abbrev pub BeginsWith : List ℕ → List ℕ → Type 0
 BeginsWith front bytes = (rest : List ℕ) × (bytes ≡ front ++ rest)

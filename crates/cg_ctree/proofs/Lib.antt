@@ -1,1 +1,3 @@
+pub mod Division
 pub mod Example
+pub mod Munch

@@ -20,20 +20,20 @@ use Rattle.cg_ctree.specs.Trees.{Stmt, assign, return', Block, stop, also, Body,
 
 -- ---- what is spelled
 
--- a relation between the tokens from a place on and those behind what is read there
+-- a relation between the tokens from a place on and those behind what is read there ("The C text", the grammar)
 abbrev pub Reading : Type 1
 Reading = List Lexeme → List Lexeme → Type 0
 
--- one reading, and behind it another
+-- one reading, and behind it another ("The C text", the grammar)
 infixr 15 ◌then◌
 abbrev pub ◌then◌ : Reading → Reading → Reading
 (R then S) ts rest = (mid : List Lexeme) × R ts mid × S mid rest
 
--- one token
+-- one token ("The C text", the grammar)
 abbrev pub token : Token → Reading
 token t ts rest = (later : Bool) × (ts ≡ record { token = t; later = later } ∷ rest)
 
--- one sign
+-- one sign ("The C text", the grammar)
 abbrev pub mark : List ℕ → Reading
 mark x = token (sign x)
 
@@ -79,12 +79,12 @@ ReadsType _ ts rest = ⊥
 abbrev pub ReadsDecl : CDecl → Reading
 ReadsDecl d = ReadsType d.ty then token (name d.name)
 
--- further things, with a comma before each
+-- further things, with a comma before each ("The C text", the grammar's `{"," ..}`)
 abbrev pub ReadsMore : {A : Type 0} → (A → Reading) → List A → Reading
 ReadsMore reads [] ts rest = ts ≡ rest
 ReadsMore reads (x ∷ xs) ts rest = (mark (codes ",") then reads x then ReadsMore reads xs) ts rest
 
--- one thing or more, with commas between
+-- one thing or more, with commas between ("The C text", `decl` and `rhs`)
 abbrev pub ReadsSome : {A : Type 0} → (A → Reading) → List A → Reading
 ReadsSome reads [] ts rest = ⊥
 ReadsSome reads (x ∷ xs) ts rest = (reads x then ReadsMore reads xs) ts rest
@@ -103,7 +103,7 @@ abbrev pub ReadsOpnd : COpnd → Reading
 ReadsOpnd (Number n) ts rest = (n < 2 ^ 64) × token (literal (decimal n)) ts rest
 ReadsOpnd (Path p) ts rest = ReadsPath p ts rest
 
--- a word in parentheses
+-- a word in parentheses ("The C text", `cast` and `rhs`)
 abbrev pub ReadsTo : Word → Reading
 ReadsTo w = mark (codes "(") then token (word (spelled w)) then mark (codes ")")
 
@@ -130,12 +130,12 @@ ReadsStmt (assign p r) ts rest = (ReadsPath p then mark (codes "=") then ReadsRi
 ReadsStmt (return' o) ts rest = (token (word (codes "return")) then ReadsOpnd o then mark (codes ";")) ts rest
 ReadsStmt _ ts rest = ⊥
 
--- statements in a row
+-- statements in a row ("The C text", `decl`)
 abbrev pub ReadsBlock : Block → Reading
 ReadsBlock stop ts rest = ts ≡ rest
 ReadsBlock (also s b) ts rest = (ReadsStmt s then ReadsBlock b) ts rest
 
--- declarations in a row, with a semicolon behind each
+-- declarations in a row, with a semicolon behind each ("The C text", `decl`)
 abbrev pub ReadsLocals : List CDecl → Reading
 ReadsLocals [] ts rest = ts ≡ rest
 ReadsLocals (d ∷ ds) ts rest = (ReadsDecl d then mark (codes ";") then ReadsLocals ds) ts rest
@@ -149,6 +149,7 @@ ReadsBody (Some b) ts rest = (mark (codes "{") then ReadsLocals b.locals then Re
 abbrev pub ReadsFunction : Function → Reading
 ReadsFunction f = ReadsType f.ty then token (name f.name) then mark (codes "(") then ReadsSome ReadsDecl f.params then mark (codes ")") then ReadsBody f.body
 
+-- functions in a row ("The C text", `file`)
 abbrev pub ReadsFunctions : List Function → Reading
 ReadsFunctions [] ts rest = ts ≡ rest
 ReadsFunctions (f ∷ fs) ts rest = (ReadsFunction f then ReadsFunctions fs) ts rest
@@ -172,36 +173,39 @@ CSpells bytes p = (ts : List Lexeme) × Lexes bytes ts × SpellsTokens ts p
 
 -- ---- what can be spelled
 
--- a name that C allows, and no word of C
+-- a name of C, and no word of C ("The C text", names)
 abbrev pub IsCName : List ℕ → Type 0
 IsCName x = IsToken (name x)
 
--- a type that is spelled: a word so far
+-- a type that can be printed: a word so far ("The C text", what can be printed)
 abbrev pub IsPrintableType : CTy → Type 0
 IsPrintableType (ty.Word w) = ⊤
 IsPrintableType _ = ⊥
 
+-- a declaration that can be printed ("The C text", what can be printed)
 abbrev pub IsPrintableDecl : CDecl → Type 0
 IsPrintableDecl d = IsPrintableType d.ty × IsCName d.name
 
--- there is one at least, and each passes
+-- there is one at least, and each passes ("The C text", what can be printed)
 abbrev pub SomeAll : {A : Type 0} → (A → Type 0) → List A → Type 0
 SomeAll P [] = ⊥
 SomeAll P (x ∷ xs) = P x × AllByRecursion P xs
 
--- a path without members so far
+-- no members: paths have none so far ("The C text", what can be printed)
 abbrev pub HasNoMembers : Bool → List (List ℕ) → Type 0
 HasNoMembers false [] = ⊤
 HasNoMembers _ _ = ⊥
 
+-- a path that can be printed ("The C text", what can be printed)
 abbrev pub IsPrintablePath : CPath → Type 0
 IsPrintablePath p = IsCName p.base × HasNoMembers p.arrow p.members
 
--- a number that fits, or a path
+-- an operand that can be printed: a number that fits, or a path ("The C text", what can be printed)
 abbrev pub IsPrintableOpnd : COpnd → Type 0
 IsPrintableOpnd (Number n) = n < 2 ^ 64
 IsPrintableOpnd (Path p) = IsPrintablePath p
 
+-- a right side that can be printed ("The C text", what can be printed)
 abbrev pub IsPrintableRight : CRhs → Type 0
 IsPrintableRight (Opnd o) = IsPrintableOpnd o
 IsPrintableRight (Conv w o) = IsPrintableOpnd o
@@ -210,23 +214,27 @@ IsPrintableRight (Flip w v o) = IsInner v × IsPrintableOpnd o
 IsPrintableRight (Call f os) = IsCName f × SomeAll IsPrintableOpnd os
 IsPrintableRight _ = ⊥
 
+-- a statement that can be printed ("The C text", what can be printed)
 abbrev pub IsPrintableStmt : Stmt → Type 0
 IsPrintableStmt (assign p r) = IsPrintablePath p × IsPrintableRight r
 IsPrintableStmt (return' o) = IsPrintableOpnd o
 IsPrintableStmt _ = ⊥
 
+-- statements that can be printed ("The C text", what can be printed)
 abbrev pub IsPrintableBlock : Block → Type 0
 IsPrintableBlock stop = ⊤
 IsPrintableBlock (also s b) = IsPrintableStmt s × IsPrintableBlock b
 
+-- a body that is there and can be printed ("The C text", what can be printed)
 abbrev pub IsPrintableBody : Option Body → Type 0
 IsPrintableBody None = ⊥
 IsPrintableBody (Some b) = AllByRecursion IsPrintableDecl b.locals × IsPrintableBlock b.block
 
+-- a function that can be printed ("The C text", what can be printed)
 abbrev pub IsPrintableFunction : Function → Type 0
 IsPrintableFunction f = IsPrintableType f.ty × IsCName f.name × SomeAll IsPrintableDecl f.params × IsPrintableBody f.body
 
 -- a program that has a text: its names are C names and no words of C, its numbers fit, each list to which the grammar gives at
--- least one item has one, and it has only the forms that are spelled so far
+-- least one item has one, and it has only the forms that are spelled so far ("The C text", what can be printed)
 abbrev pub IsPrintable : Program → Type 0
 IsPrintable p = (p.structs ≡ []) × AllByRecursion IsPrintableFunction p.functions

@@ -19,16 +19,16 @@ letter b = (nat_le 97 b && nat_le b 122) || (nat_le 65 b && nat_le b 90) || b ==
 abbrev pub part_of_name : ℕ → Bool
 part_of_name b = letter b || digit b
 
--- every byte passes
+-- every byte passes ("The C text", names and numbers)
 abbrev pub Each : (ℕ → Bool) → List ℕ → Type 0
 Each p bytes = AllByRecursion (λ b. p b ≡ true) bytes
 
--- there is a first byte, and it passes
+-- there is a first byte, and it passes ("The C text", names and numbers)
 abbrev pub Starts : (ℕ → Bool) → List ℕ → Type 0
 Starts p [] = ⊥
 Starts p (b ∷ bytes) = p b ≡ true
 
--- the first byte, if there is one, doesn't pass
+-- the first byte, if there is one, doesn't pass ("The C text", tokens)
 abbrev pub Stops : (ℕ → Bool) → List ℕ → Type 0
 Stops p [] = ⊤
 Stops p (b ∷ bytes) = p b ≡ false
@@ -37,6 +37,7 @@ Stops p (b ∷ bytes) = p b ≡ false
 abbrev pub words : List (List ℕ)
 words = codes "struct" ∷ codes "return" ∷ codes "if" ∷ codes "else" ∷ codes "while" ∷ codes "switch" ∷ codes "case" ∷ codes "break" ∷ codes "sizeof" ∷ codes "uint8_t" ∷ codes "uint16_t" ∷ codes "uint32_t" ∷ codes "uint64_t" ∷ []
 
+-- whether a text is a word of C ("The C text", words)
 abbrev pub is_word : List ℕ → Bool
 is_word text = list_any (bytes_eq text) words
 
@@ -48,13 +49,15 @@ long_signs = codes "->" ∷ codes "<<" ∷ codes ">>" ∷ codes "==" ∷ codes "
 abbrev pub short_signs : List (List ℕ)
 short_signs = codes "{" ∷ codes "}" ∷ codes "(" ∷ codes ")" ∷ codes ";" ∷ codes "," ∷ codes ":" ∷ codes "." ∷ codes "=" ∷ codes "~" ∷ codes "+" ∷ codes "-" ∷ codes "*" ∷ codes "/" ∷ codes "%" ∷ codes "&" ∷ codes "|" ∷ codes "^" ∷ codes "<" ∷ codes ">" ∷ []
 
+-- whether a text is a sign ("The C text", signs)
 abbrev pub is_sign : List ℕ → Bool
 is_sign text = list_any (bytes_eq text) short_signs || list_any (bytes_eq text) long_signs
 
--- the two include lines, each one token ("The C text", include lines)
+-- the first include line, which is one token ("The C text", include lines)
 abbrev pub first_line : List ℕ
 first_line = codes "#include <stdint.h>"
 
+-- the second include line, which is one token ("The C text", include lines)
 abbrev pub second_line : List ℕ
 second_line = codes "#include \"cogent.h\""
 
@@ -105,6 +108,7 @@ pub data Piece : Type 0 where
   blank : ℕ → Piece
   comment : List ℕ → Piece
 
+-- the bytes of a piece ("The C text", white space)
 abbrev pub piece_text : Piece → List ℕ
 piece_text (blank b) = b ∷ []
 piece_text (comment inside) = codes "/*" ++ inside ++ codes "*/"
@@ -119,6 +123,7 @@ abbrev pub IsPiece : Piece → Type 0
 IsPiece (blank b) = white b ≡ true
 IsPiece (comment inside) = closes inside ≡ false
 
+-- the bytes of pieces in a row ("The C text", white space)
 abbrev pub gap_text : List Piece → List ℕ
 gap_text gap = flat_map piece_text gap
 
