@@ -1,5 +1,8 @@
+pub mod Bytes
 pub mod Exact
 pub mod Lists
+pub mod Numbers
+pub mod Places
 pub mod Reader
 pub mod Types
 pub mod formers

@@ -1,21 +1,25 @@
-//! What every other crate names: want of memory, places, names, lists, types, functions and limits.
+//! What every other crate names: want of memory, kinds of bytes, numbers, places, names, lists, types, functions and limits.
 //! docs/LANGUAGE.md, "Types", says what the types stand for.
 #![tactic(auto)]
 
+mod bytes;
 mod fun;
 mod items;
 mod kind;
 mod limit;
 mod memory;
 mod name;
+mod number;
 mod place;
 mod ty;
 
+pub use bytes::{is_digit, is_white};
 pub use fun::{Fun, Lib};
 pub use items::Items;
 pub use kind::{Bound, Kinds, Sigil, Word};
 pub use limit::Limit;
 pub use memory::Memory;
 pub use name::Name;
+pub use number::literal;
 pub use place::Place;
 pub use ty::{Part, Ty, copy_types};

@@ -4,7 +4,8 @@ use Rattle.std.specs.Prelude.{⊤}
 use Rattle.std.specs.List.{AllByRecursion}
 use Rattle.std.proofs.lemmas.Bool.Decides.{nat_tests}
 use Rattle.std.proofs.lemmas.Fmt.{decimal_by_steps}
-use Rattle.cg_ctree.specs.Tokens.{white, digit, part_of_name, Each, Starts, Stops, Token, literal, token_text, IsToken, goes_on, Ends, blank, IsPiece, gap_text, has_line_feed, Lexeme, Divides, Lexes}
+use Rattle.cg_base.specs.Bytes.{white, digit, Each, Starts, Stops}
+use Rattle.cg_ctree.specs.Tokens.{part_of_name, Token, literal, token_text, IsToken, goes_on, Ends, blank, IsPiece, gap_text, has_line_feed, Lexeme, Divides, Lexes}
 
 -- a token with the white space before it
 pub record Spaced : Type 0 where

@@ -12,7 +12,8 @@ use Rattle.cg_ctree.specs.declared.tree.CRhs.{CRhs}
 use Rattle.cg_ctree.specs.declared.tree.CRhs.TheVariants.{Opnd, Conv, Binary, Flip, IsNull, Call, New}
 use Rattle.cg_ctree.specs.declared.tree.CTy.{CTy}
 use Rattle.cg_ctree.specs.declared.tree.CTy.TheVariants as ty
-use Rattle.cg_ctree.specs.Tokens.{white, Each, word, sign, IsToken, Ends, is_sign, goes_on}
+use Rattle.cg_base.specs.Bytes.{white, Each}
+use Rattle.cg_ctree.specs.Tokens.{word, sign, IsToken, Ends, is_sign, goes_on}
 use Rattle.cg_ctree.specs.Spells.{spelled, op_sign, IsCName, SomeAll, IsPrintableType, IsPrintableDecl, IsPrintableOpnd, IsPrintableRight, IsPrintableStmt, IsPrintableBlock, IsPrintableBody, IsPrintableFunction, IsPrintable}
 use Rattle.cg_ctree.specs.Trees.{Stmt, assign, branch, while, switch, call, return', Block, stop, also, Body, Function, Program}
 use Rattle.cg_ctext.proofs.Spaced.{Spaced, text, Stands, Closed, decimal_is_number, opening_ends, closing_ends, begin_ends, end_ends, comma_ends, semicolon_ends, flip_ends}

@@ -7,7 +7,8 @@ use Rattle.std.proofs.lemmas.Bool.Decides.{nat_tests}
 use Rattle.std.proofs.lemmas.Bool.{false_from_ne_true}
 use Rattle.std.proofs.lemmas.Slice.Eq.{bytes_eq-Decides}
 use Rattle.std.proofs.lemmas.List.{append-nil}
-use Rattle.cg_ctree.specs.Tokens.{white, digit, letter, Starts, Stops, words, short_signs, long_signs, is_sign, first_line, second_line, Token, name, word, plain, literal, sign, line, token_text, IsToken, goes_on, Ends, Piece, blank, comment, piece_text, closes, IsPiece, gap_text, has_line_feed, Lexeme, Takes, Divides, Lexes}
+use Rattle.cg_base.specs.Bytes.{white, digit, Starts, Stops}
+use Rattle.cg_ctree.specs.Tokens.{letter, words, short_signs, long_signs, is_sign, first_line, second_line, Token, name, word, plain, literal, sign, line, token_text, IsToken, goes_on, Ends, Piece, blank, comment, piece_text, closes, IsPiece, gap_text, has_line_feed, Lexeme, Takes, Divides, Lexes}
 use Rattle.cg_ctree.proofs.Munch.{IsClear, IsNamed, among, words_named, either, either_false, front, found, one_front}
 
 -- ---- what stands between tokens

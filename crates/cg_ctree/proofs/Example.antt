@@ -1,14 +1,13 @@
 -- The definition computes.
-use Rattle.std.proofs.Common.{◌≡◌, ℕ, List, [], ◌∷◌, false, Some, None, refl}
+use Rattle.std.proofs.Common.{◌≡◌, ℕ, [], ◌∷◌, false, Some, refl}
 use Rattle.cg_base.specs.declared.kind.Word.TheVariants.{U32}
 use Rattle.cg_ctree.specs.declared.tree.CDecl.{CDecl}
 use Rattle.cg_ctree.specs.declared.tree.COp.TheVariants.{Add}
-use Rattle.cg_ctree.specs.declared.tree.COpnd.{COpnd}
 use Rattle.cg_ctree.specs.declared.tree.COpnd.TheVariants.{Number, Path}
 use Rattle.cg_ctree.specs.declared.tree.CPath.{CPath}
 use Rattle.cg_ctree.specs.declared.tree.CRhs.TheVariants.{Binary}
 use Rattle.cg_ctree.specs.declared.tree.CTy.TheVariants.{Word}
-use Rattle.cg_ctree.specs.Trees.{assign, return', stop, also, Function, Program}
+use Rattle.cg_ctree.specs.Trees.{assign, return', stop, also, Program}
 use Rattle.cg_ctree.specs.Runs.{crun, run_block, calls_in, done, needs, typed}
 
 path : ℕ → CPath

@@ -6,7 +6,9 @@ use Rattle.std.specs.Str.{bytes_eq}
 use Rattle.std.proofs.lemmas.Bool.Decides.{nat_tests}
 use Rattle.std.proofs.lemmas.Slice.Eq.{bytes_eq-Decides}
 use Rattle.std.proofs.Math.Seq.{take-append_seam, drop-append_seam}
-use Rattle.cg_ctree.specs.Tokens.{white, digit, letter, part_of_name, Each, Starts, Stops, words, is_word, long_signs, short_signs, is_sign, first_line, second_line, Token, name, word, plain, literal, sign, line, token_text, IsToken, goes_on, Ends}
+use Rattle.cg_base.proofs.Spans.{spans}
+use Rattle.cg_base.specs.Bytes.{white, digit, Each, Starts, Stops}
+use Rattle.cg_ctree.specs.Tokens.{letter, part_of_name, words, is_word, long_signs, short_signs, is_sign, first_line, second_line, Token, name, word, plain, literal, sign, line, token_text, IsToken, goes_on, Ends}
 
 -- ---- the token at the front, as a function
 
@@ -31,11 +33,6 @@ front (b ∷ bytes) =
     else signed (b ∷ bytes)
 
 -- ---- spans
-
-spans : (p : ℕ → Bool) (xs rest : List ℕ) → Each p xs → Stops p rest → prefix_len p (xs ++ rest) ≡ length xs
-spans p [] [] h s = refl
-spans p [] (b ∷ rest) h s = rw s refl
-spans p (x ∷ xs) rest h s = rw h.0 (omega (arith, spans p xs rest h.1 s))
 
 span_taken : (p : ℕ → Bool) (xs rest : List ℕ) → Each p xs → Stops p rest → take (prefix_len p (xs ++ rest)) (xs ++ rest) ≡ xs
 span_taken p xs rest h s = ap (λ n. take n (xs ++ rest)) (spans p xs rest h s) ∙ take-append_seam xs rest

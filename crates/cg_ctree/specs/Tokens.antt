@@ -2,14 +2,7 @@
 use Rattle.std.specs.Prelude.{◌≡◌, ℕ, Bool, false, true, ◌||◌, ◌&&◌, ◌==◌, nat_le, List, [], ◌∷◌, ◌++◌, take, ⊤, codes}
 use Rattle.std.specs.List.{list_any, AllByRecursion, flat_map}
 use Rattle.std.specs.Str.{bytes_eq}
-
--- space, tab, LF and CR ("The C text", white space)
-abbrev pub white : ℕ → Bool
-white b = b == 32 || b == 9 || b == 10 || b == 13
-
--- a decimal digit ("The C text", numbers)
-abbrev pub digit : ℕ → Bool
-digit b = nat_le 48 b && nat_le b 57
+use Rattle.cg_base.specs.Bytes.{white, digit, Each, Starts, Stops}
 
 -- a letter or the line below, with which a name begins ("The C text", names)
 abbrev pub letter : ℕ → Bool
@@ -18,20 +11,6 @@ letter b = (nat_le 97 b && nat_le b 122) || (nat_le 65 b && nat_le b 90) || b ==
 -- what may go on a name ("The C text", names)
 abbrev pub part_of_name : ℕ → Bool
 part_of_name b = letter b || digit b
-
--- every byte passes ("The C text", names and numbers)
-abbrev pub Each : (ℕ → Bool) → List ℕ → Type 0
-Each p bytes = AllByRecursion (λ b. p b ≡ true) bytes
-
--- there is a first byte, and it passes ("The C text", names and numbers)
-abbrev pub Starts : (ℕ → Bool) → List ℕ → Type 0
-Starts p [] = ⊥
-Starts p (b ∷ bytes) = p b ≡ true
-
--- the first byte, if there is one, doesn't pass ("The C text", tokens)
-abbrev pub Stops : (ℕ → Bool) → List ℕ → Type 0
-Stops p [] = ⊤
-Stops p (b ∷ bytes) = p b ≡ false
 
 -- the words of C, which are no names ("The C text", words)
 abbrev pub words : List (List ℕ)

@@ -7,11 +7,12 @@ use Rattle.std.proofs.lemmas.Bool.Decides.{nat_tests}
 use Rattle.cg_base.specs.declared.place.Place.{Place}
 use Rattle.cg_lexer.specs.declared.token.TokenKind.{TokenKind}
 use Rattle.cg_lexer.specs.declared.token.TokenKind.TheVariants.{Lower, Upper, Number, Word, Sign, End}
-use Rattle.cg_lexer.specs.Bytes.{white, Each, Starts, Stops}
-use Rattle.cg_lexer.specs.Tokens.{Lexeme, Cursor, Takes, IsTextOf, place_after}
+use Rattle.cg_base.specs.Bytes.{white, Each, Starts, Stops}
+use Rattle.cg_base.specs.Places.{place_after}
+use Rattle.cg_lexer.specs.Tokens.{Lexeme, Cursor, Takes, IsTextOf}
 use Rattle.cg_lexer.specs.Front.{token_length, kind_of}
 use Rattle.cg_lexer.specs.Next.{dark, IsUnknown, Finishes, Gives}
-use Rattle.cg_lexer.proofs.Spans.{one_span, front_passes}
+use Rattle.cg_base.proofs.Spans.{one_span, front_passes}
 use Rattle.cg_lexer.proofs.Munch.{Stands, found, stands}
 use Rattle.cg_lexer.proofs.Division.{begins, dark_stops}
 

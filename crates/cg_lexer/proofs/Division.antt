@@ -2,10 +2,11 @@
 use Rattle.std.proofs.Common.{◌≡◌, ℕ, ◌+◌, ◌<◌, Bool, false, List, [], ◌∷◌, ◌++◌, length, length-append, refl, sym, ap, ◌∙◌, subst, arith}
 use Rattle.std.proofs.lemmas.List.{append-nil}
 use Rattle.cg_base.specs.declared.place.Place.{Place}
-use Rattle.cg_lexer.specs.Bytes.{white, Each, Starts, Stops}
-use Rattle.cg_lexer.specs.Tokens.{Lexeme, Cursor, start, Takes, Divides, Lexes, place_after}
+use Rattle.cg_base.specs.Bytes.{white, Each, Starts, Stops}
+use Rattle.cg_base.specs.Places.{place_after}
+use Rattle.cg_lexer.specs.Tokens.{Lexeme, Cursor, start, Takes, Divides, Lexes}
 use Rattle.cg_lexer.specs.Next.{dark, IsUnknown}
-use Rattle.cg_lexer.proofs.Spans.{one_span, not_all}
+use Rattle.cg_base.proofs.Spans.{one_span, not_all}
 use Rattle.cg_lexer.proofs.Munch.{found, one_front}
 
 -- bytes that begin with no white space

@@ -8,11 +8,13 @@ use Rattle.std.proofs.lemmas.Slice.Eq.{bytes_eq-Decides}
 use Rattle.std.proofs.Math.Seq.{take-append_seam, drop-append_seam}
 use Rattle.cg_lexer.specs.declared.token.TokenKind.{TokenKind}
 use Rattle.cg_lexer.specs.declared.token.TokenKind.TheVariants.{Lower, Upper, Number, Word, Sign, End}
-use Rattle.cg_lexer.specs.Bytes.{digit, small, large, part_of_name, Each, Starts, Stops}
-use Rattle.cg_lexer.specs.Tokens.{words, is_word, signs, literal_of, IsTextOf, EndsBefore}
+use Rattle.cg_base.specs.Bytes.{digit, Each, Starts, Stops}
+use Rattle.cg_lexer.specs.Bytes.{small, large, part_of_name}
+use Rattle.cg_base.specs.Numbers.{literal_of}
+use Rattle.cg_lexer.specs.Tokens.{words, is_word, signs, IsTextOf, EndsBefore}
 use Rattle.cg_lexer.specs.Front.{letter, lone, arrow_length, token_length, kind_of}
 use Rattle.cg_lexer.specs.Next.{dark}
-use Rattle.cg_lexer.proofs.Spans.{either_way, spans, front_passes}
+use Rattle.cg_base.proofs.Spans.{either_way, spans, front_passes}
 
 -- a text that is on a list has what each text of the list has
 among : (P : List ℕ → Type 0) (texts : List (List ℕ)) (text : List ℕ) → AllByRecursion P texts → list_any (bytes_eq text) texts ≡ true → P text

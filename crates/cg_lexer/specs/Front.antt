@@ -4,8 +4,10 @@ use Rattle.std.specs.List.{prefix_len}
 use Rattle.std.specs.Str.{bytes_eq}
 use Rattle.cg_lexer.specs.declared.token.TokenKind.{TokenKind}
 use Rattle.cg_lexer.specs.declared.token.TokenKind.TheVariants.{Lower, Upper, Number, Word, Sign, End}
-use Rattle.cg_lexer.specs.Bytes.{digit, small, large, part_of_name}
-use Rattle.cg_lexer.specs.Tokens.{is_word, literal_of}
+use Rattle.cg_base.specs.Bytes.{digit}
+use Rattle.cg_lexer.specs.Bytes.{small, large, part_of_name}
+use Rattle.cg_base.specs.Numbers.{literal_of}
+use Rattle.cg_lexer.specs.Tokens.{is_word}
 
 -- what a name or a word begins with
 abbrev pub letter : ℕ → Bool

@@ -6,8 +6,9 @@ use Rattle.cg_lexer.specs.declared.token.TokenKind.TheVariants.{Lower, Upper, Nu
 use Rattle.cg_lexer.specs.declared.token.Token.{Token}
 use Rattle.cg_lexer.specs.declared.token.LexFault.{LexFault}
 use Rattle.cg_lexer.specs.declared.token.LexFault.TheVariants.{UnknownByte}
-use Rattle.cg_lexer.specs.Bytes.{white, Each, Starts}
-use Rattle.cg_lexer.specs.Tokens.{Lexeme, lexeme, Cursor, Takes, place_after}
+use Rattle.cg_base.specs.Bytes.{white, Each, Starts}
+use Rattle.cg_base.specs.Places.{place_after}
+use Rattle.cg_lexer.specs.Tokens.{Lexeme, lexeme, Cursor, Takes}
 
 -- no white space
 abbrev pub dark : ℕ → Bool

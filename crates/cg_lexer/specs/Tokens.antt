@@ -1,12 +1,15 @@
 -- How bytes are divided into white space and tokens, each at its place.
-use Rattle.std.specs.Prelude.{◌≡◌, ℕ, ◌+◌, ◌-◌, ◌*◌, ◌^◌, Bool, true, false, ◌==◌, min, nat_lt, List, [], ◌∷◌, ◌++◌, ⊤, codes, MatchBool, Option, Some, None, if◌then◌else◌}
+use Rattle.std.specs.Prelude.{◌≡◌, ℕ, Bool, true, false, List, [], ◌∷◌, ◌++◌, ⊤, codes, MatchBool}
 use Rattle.std.specs.List.{list_any}
 use Rattle.std.specs.Str.{bytes_eq}
 use Rattle.cg_base.specs.declared.place.Place.{Place}
+use Rattle.cg_base.specs.Numbers.{literal_of}
+use Rattle.cg_base.specs.Places.{first_place, place_after}
 use Rattle.cg_lexer.specs.declared.token.TokenKind.{TokenKind}
 use Rattle.cg_lexer.specs.declared.token.TokenKind.TheVariants.{Lower, Upper, Number, Word, Sign, End}
 use Rattle.cg_lexer.specs.declared.token.Token.{Token}
-use Rattle.cg_lexer.specs.Bytes.{white, digit, small, large, part_of_name, Each, Starts, Stops}
+use Rattle.cg_base.specs.Bytes.{white, digit, Each, Starts, Stops}
+use Rattle.cg_lexer.specs.Bytes.{small, large, part_of_name}
 
 -- the words of the language, which are no names
 abbrev pub words : List (List ℕ)
@@ -18,19 +21,6 @@ is_word text = list_any (bytes_eq text) words
 -- the signs of the small language, and the wildcard
 abbrev pub signs : List (List ℕ)
 signs = codes "(" ∷ codes ")" ∷ codes ":" ∷ codes "=" ∷ codes "+" ∷ codes "->" ∷ codes "_" ∷ []
-
--- the number that digits spell, the most significant first, from a number that is spelled before them
-abbrev pub number_from : ℕ → List ℕ → ℕ
-number_from n [] = n
-number_from n (b ∷ digits) = number_from (n * 10 + (b - 48)) digits
-
--- a number that is at most 2^64 - 1
-abbrev pub word64 : ℕ → Option ℕ
-word64 n = if nat_lt n (2 ^ 64) then Some n else None
-
--- the number that digits spell where it is at most 2^64 - 1
-abbrev pub literal_of : List ℕ → Option ℕ
-literal_of digits = word64 (number_from 0 digits)
 
 -- the texts of a kind
 abbrev pub IsTextOf : TokenKind → List ℕ → Type 0
@@ -59,18 +49,6 @@ pub record Lexeme : Type 0 where
 abbrev pub lexeme : Token → Lexeme
 lexeme t = record { kind = t.kind; text = t.text.now; place = t.place }
 
--- the greatest line and column that are told
-abbrev pub most : ℕ
-most = 2 ^ 32 - 1
-
--- the place behind a byte, and behind some
-abbrev pub place_past : Place → ℕ → Place
-place_past p b = if b == 10 then record { line = min (p.line + 1) most; column = 1 } else record p { column = min (p.column + 1) most }
-
-abbrev pub place_after : Place → List ℕ → Place
-place_after p [] = p
-place_after p (b ∷ bytes) = place_after (place_past p b) bytes
-
 -- what is left of a source, and where it begins
 pub record Cursor : Type 0 where
   pub rest : List ℕ
@@ -78,7 +56,7 @@ pub record Cursor : Type 0 where
 
 -- the beginning of a source
 abbrev pub start : List ℕ → Cursor
-start bytes = record { rest = bytes; place = record { line = 1; column = 1 } }
+start bytes = record { rest = bytes; place = first_place }
 
 -- only white space and this token stand between two cursors
 pub record Takes (at : Cursor) (t : Lexeme) (after : Cursor) : Type 0 where

@@ -1,19 +1,10 @@
 // Kinds of bytes, and how many of a kind stand in front.
 ghost use Rattle.std.specs.Prelude.{◌≡◌};
 ghost use Rattle.std.specs.List.{prefix_len};
-ghost use Rattle.cg_lexer.specs.Bytes.{white, digit, small, large, part_of_name};
+ghost use Rattle.cg_base.specs.Bytes.{white, digit};
+ghost use Rattle.cg_lexer.specs.Bytes.{small, large, part_of_name};
 
-fn is_white(byte: u8) -> bool
-    ensures { result ≡ white byte }
-{
-    byte == b' ' || byte == b'\t' || byte == b'\n' || byte == b'\r'
-}
-
-pub(crate) fn is_digit(byte: u8) -> bool
-    ensures { result ≡ digit byte }
-{
-    byte.is_ascii_digit()
-}
+use cg_base::{is_digit, is_white};
 
 pub(crate) fn is_small(byte: u8) -> bool
     ensures { result ≡ small byte }

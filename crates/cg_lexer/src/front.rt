@@ -5,9 +5,9 @@ ghost use Rattle.std.specs.Str.{bytes_eq};
 ghost use Rattle.cg_lexer.specs.Front.{token_length, kind_of};
 ghost use Rattle.cg_lexer.specs.Tokens.{is_word as is_word_text};
 
-use crate::bytes::{digit_len, is_digit, is_large, is_small, name_len};
-use crate::number::literal;
+use crate::bytes::{digit_len, is_large, is_small, name_len};
 use crate::token::TokenKind;
+use cg_base::{is_digit, literal};
 
 /// How many bytes the token at the front has; 0 where none stands there.
 pub(crate) fn token_len(bytes: &[u8]) -> usize

@@ -5,7 +5,6 @@ ghost use Rattle.cg_lexer.specs.Next.{Next};
 
 use crate::bytes::white_len;
 use crate::front::{kind, token_len};
-use crate::place::behind;
 use crate::token::{LexFault, Token, TokenKind};
 use cg_base::Place;
 use std::marker::Model;
@@ -43,9 +42,9 @@ impl<'a> Lexer<'a> {
     {
         let (gap, rest) = self.rest.split_at(white_len(self.rest));
         let (text, after) = rest.split_at(token_len(rest));
-        let place = behind(self.place, gap);
+        let place = self.place.behind(gap);
         self.rest = after;
-        self.place = behind(place, text);
+        self.place = place.behind(text);
         if rest.is_empty() {
             let kind = TokenKind::End;
             return Ok(Token { kind, text, place });

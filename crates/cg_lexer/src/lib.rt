@@ -6,8 +6,6 @@ mod bytes;
 mod front;
 mod law;
 mod lexer;
-mod number;
-mod place;
 mod token;
 
 pub use law::{one_division, one_token};

@@ -13,7 +13,8 @@ use Rattle.cg_ctree.specs.declared.tree.COpnd.{COpnd}
 use Rattle.cg_ctree.specs.declared.tree.COpnd.TheVariants.{Number, Path}
 use Rattle.cg_ctree.specs.declared.tree.COp.TheVariants.{Add}
 use Rattle.cg_ctree.specs.declared.tree.CRhs.TheVariants.{Binary, Call}
-use Rattle.cg_ctree.specs.Tokens.{part_of_name, Each}
+use Rattle.cg_base.specs.Bytes.{Each}
+use Rattle.cg_ctree.specs.Tokens.{part_of_name}
 use Rattle.cg_ctree.specs.Spells.{IsCName, IsPrintableDecl, IsPrintableOpnd, IsPrintableStmt, IsPrintableBlock, IsPrintableFunction, IsPrintable}
 use Rattle.cg_ctree.specs.Trees.{Stmt, assign, return', to_block, Program}
 use Rattle.cg_typing.specs.declared.checked.Checked.{Checked}

@@ -7,7 +7,8 @@ use Rattle.std.proofs.lemmas.Bool.{or_cases, eqb-true}
 use Rattle.cg_base.specs.declared.place.Place.{Place}
 use Rattle.cg_lexer.specs.declared.token.TokenKind.{TokenKind}
 use Rattle.cg_lexer.specs.declared.token.TokenKind.TheVariants.{Lower, Upper, Number, Word, Sign, End}
-use Rattle.cg_lexer.specs.Bytes.{white, digit, small, large, Each, Starts}
+use Rattle.cg_base.specs.Bytes.{white, digit, Each, Starts}
+use Rattle.cg_lexer.specs.Bytes.{small, large}
 use Rattle.cg_lexer.specs.Tokens.{is_word, signs, IsTextOf, Lexeme, Cursor, Takes, Divides}
 use Rattle.cg_lexer.specs.Next.{Gives, IsUnknown, dark}
 use Rattle.cg_lexer.specs.Laws.{OneToken}

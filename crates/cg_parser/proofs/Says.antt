@@ -6,8 +6,9 @@ use Rattle.std.proofs.lemmas.Bool.{leb-true, leb-false}
 use Rattle.std.proofs.lemmas.List.{append-nil, map-append}
 use Rattle.cg_base.specs.declared.place.Place.{Place}
 use Rattle.cg_base.specs.Reader.{Reader, run as reader_run, Begins}
-use Rattle.cg_lexer.specs.Bytes.{Each, white}
-use Rattle.cg_lexer.specs.Tokens.{Lexeme, Cursor, start, Takes, Divides, Lexes, place_after}
+use Rattle.cg_base.specs.Bytes.{Each, white}
+use Rattle.cg_base.specs.Places.{place_after}
+use Rattle.cg_lexer.specs.Tokens.{Lexeme, Cursor, start, Takes, Divides, Lexes}
 use Rattle.cg_lexer.specs.declared.token.TokenKind.{TokenKind}
 use Rattle.cg_lexer.specs.declared.token.TokenKind.TheVariants.{End}
 use Rattle.cg_lexer.specs.declared.token.LexFault.{LexFault}

@@ -2,8 +2,9 @@
 use Rattle.std.specs.Prelude.{◌≡◌, ℕ, ◌≤◌, ◌<◌, List, [], ◌∷◌, ◌++◌, map, Result, Ok, Err, ⊤}
 use Rattle.cg_base.specs.declared.place.Place.{Place}
 use Rattle.cg_base.specs.Reader.{Begins}
-use Rattle.cg_lexer.specs.Bytes.{Each, white}
-use Rattle.cg_lexer.specs.Tokens.{Lexeme, Cursor, start, Takes, Divides, place_after}
+use Rattle.cg_base.specs.Bytes.{Each, white}
+use Rattle.cg_base.specs.Places.{place_after}
+use Rattle.cg_lexer.specs.Tokens.{Lexeme, Cursor, start, Takes, Divides}
 use Rattle.cg_lexer.specs.Next.{IsUnknown}
 use Rattle.cg_lexer.specs.declared.token.LexFault.{LexFault}
 use Rattle.cg_lexer.specs.declared.token.LexFault.TheVariants.{UnknownByte}

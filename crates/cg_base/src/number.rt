@@ -1,6 +1,6 @@
 // Numbers.
 ghost use Rattle.std.specs.Prelude.{◌≡◌, ◌+◌, ◌-◌, ◌*◌};
-ghost use Rattle.cg_lexer.specs.Tokens.{literal_of, word64};
+ghost use Rattle.cg_base.specs.Numbers.{literal_of, word64};
 
 /// The number with a digit more, if it is at most 2^64 - 1.
 fn with_digit(number: u64, digit: u8) -> Option<u64>
@@ -10,8 +10,9 @@ fn with_digit(number: u64, digit: u8) -> Option<u64>
     number.checked_mul(10)?.checked_add(ones)
 }
 
-/// The number that digits spell, the most significant first, if it is at most 2^64 - 1.
-pub(crate) fn literal(digits: &[u8]) -> Option<u64>
+/// The number that decimal digits spell, the most significant first, if it is at most 2^64 - 1. Leading zeros are allowed
+/// (docs/LANGUAGE.md, "Tokens").
+pub fn literal(digits: &[u8]) -> Option<u64>
     ensures { result ≡ literal_of digits.now }
 {
     let mut number = 0;

@@ -1,8 +1,8 @@
--- The longest front whose bytes pass a test.
+-- The longest front whose bytes pass a test. Every lexer uses these lemmas.
 use Rattle.std.proofs.Common.{one-add, ◌≡◌, ℕ, ◌+◌, ◌≤◌, Bool, true, false, cond, List, [], ◌∷◌, ◌++◌, length, take, drop, refl, sym, ap, ◌∙◌, arith}
 use Rattle.std.specs.List.{prefix_len}
 use Rattle.std.proofs.Math.Seq.{take-append_seam, drop-append_seam}
-use Rattle.cg_lexer.specs.Bytes.{Each, Stops}
+use Rattle.cg_base.specs.Bytes.{Each, Stops}
 
 -- a choice has a property if each of its sides has, where it is chosen
 pub either_way : {A : Type 0} (Q : A → Type 0) (b : Bool) (x y : A) → (b ≡ true → Q x) → (b ≡ false → Q y) → Q (cond b x y)

@@ -1,7 +1,7 @@
 -- Numbers, digit by digit.
 use Rattle.std.proofs.Common.{◌≡◌, ℕ, ◌+◌, ◌-◌, ◌*◌, ◌^◌, ◌<◌, ◌≤◌, List, [], ◌∷◌, length, drop, get_or, None, ap, arith, add-one, drop-cons}
 use Rattle.std.proofs.lemmas.Bool.Decides.{nat_tests}
-use Rattle.cg_lexer.specs.Tokens.{number_from, word64, literal_of}
+use Rattle.cg_base.specs.Numbers.{number_from, word64, literal_of}
 
 -- further digits make no smaller number
 number_from-grows : (n : ℕ) (digits : List ℕ) → n ≤ number_from n digits
