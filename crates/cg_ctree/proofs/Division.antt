@@ -13,14 +13,14 @@ use Rattle.cg_ctree.proofs.Munch.{IsClear, IsNamed, among, words_named, either, 
 
 -- ---- what stands between tokens
 
-first_same : (a b : ℕ) (x y : List ℕ) → a ∷ x ≡ b ∷ y → a ≡ b
+pub first_same : (a b : ℕ) (x y : List ℕ) → a ∷ x ≡ b ∷ y → a ≡ b
 first_same a b x y e = cc
 
-rest_same : (a b : ℕ) (x y : List ℕ) → a ∷ x ≡ b ∷ y → x ≡ y
+pub rest_same : (a b : ℕ) (x y : List ℕ) → a ∷ x ≡ b ∷ y → x ≡ y
 rest_same a b x y e = cc
 
 -- a comment's inside and what follows it, where both end at the first `*/`
-one_comment : (i j r q : List ℕ) → closes i ≡ false → closes j ≡ false → i ++ (42 ∷ 47 ∷ r) ≡ j ++ (42 ∷ 47 ∷ q) → (i ≡ j) × (r ≡ q)
+pub one_comment : (i j r q : List ℕ) → closes i ≡ false → closes j ≡ false → i ++ (42 ∷ 47 ∷ r) ≡ j ++ (42 ∷ 47 ∷ q) → (i ≡ j) × (r ≡ q)
 one_comment [] [] r q h k e = (refl, rest_same 47 47 r q (rest_same 42 42 (47 ∷ r) (47 ∷ q) e))
 one_comment [] (y ∷ []) r q h k e = absurd (omega (arith, first_same 47 42 r (47 ∷ q) (rest_same 42 y (47 ∷ r) (42 ∷ 47 ∷ q) e)))
 one_comment [] (y ∷ z ∷ j) r q h k e =
@@ -46,17 +46,17 @@ behind_comment i g r = 47 ∷ 42 ∷ (i ++ (42 ∷ 47 ∷ (gap_text g ++ r)))
 comment_text : (i : List ℕ) (g : List Piece) (r : List ℕ) → gap_text (comment i ∷ g) ++ r ≡ behind_comment i g r
 comment_text i g r = grind (arith, append_assoc)
 
-white_no_slash : (b : ℕ) → white b ≡ true → b ≡ 47 → ⊥
+pub white_no_slash : (b : ℕ) → white b ≡ true → b ≡ 47 → ⊥
 white_no_slash b h e = let no : white 47 ≡ true = subst (λ x. white x ≡ true) e h in absurd (cc)
 
 -- what follows clear bytes is no gap
-clear_blank : (r x : List ℕ) (b : ℕ) → IsClear r → white b ≡ true → r ≡ b ∷ x → ⊥
+pub clear_blank : (r x : List ℕ) (b : ℕ) → IsClear r → white b ≡ true → r ≡ b ∷ x → ⊥
 clear_blank r x b c h e = let no : Stops white (b ∷ x) = subst (Stops white) e c.0 in absurd (cc)
 
-clear_comment : (r x : List ℕ) → IsClear r → r ≡ 47 ∷ 42 ∷ x → ⊥
+pub clear_comment : (r x : List ℕ) → IsClear r → r ≡ 47 ∷ 42 ∷ x → ⊥
 clear_comment r x c e = let no : bytes_eq (take 2 (47 ∷ 42 ∷ x)) (codes "/*") ≡ false = subst (λ y. bytes_eq (take 2 y) (codes "/*") ≡ false) e c.1 in absurd (cc)
 
-one_gap : (g h : List Piece) (r q : List ℕ) → AllByRecursion IsPiece g → AllByRecursion IsPiece h → IsClear r → IsClear q → gap_text g ++ r ≡ gap_text h ++ q → (gap_text g ≡ gap_text h) × (r ≡ q)
+pub one_gap : (g h : List Piece) (r q : List ℕ) → AllByRecursion IsPiece g → AllByRecursion IsPiece h → IsClear r → IsClear q → gap_text g ++ r ≡ gap_text h ++ q → (gap_text g ≡ gap_text h) × (r ≡ q)
 one_gap [] [] r q a b c d e = (refl, e)
 one_gap [] (blank y ∷ h) r q a b c d e = absurd (clear_blank r (gap_text h ++ q) y c b.0 e)
 one_gap [] (comment j ∷ h) r q a b c d e = absurd (clear_comment r (j ++ (42 ∷ 47 ∷ (gap_text h ++ q))) c (e ∙ comment_text j h q))
@@ -106,7 +106,7 @@ clear_digit (b ∷ x) rest h = (digit_dark b h, no_slash b (x ++ rest) (digit_no
 abbrev IsClearSign : List ℕ → Type 0
 IsClearSign x = (rest : List ℕ) → goes_on x rest ≡ false → IsClear (x ++ rest)
 
-first_false : (a b : Bool) → (a || b) ≡ false → a ≡ false
+pub first_false : (a b : Bool) → (a || b) ≡ false → a ≡ false
 first_false true b e = absurd (cc)
 first_false false b e = refl
 
@@ -209,7 +209,7 @@ line_clear x e rest =
     let P : List ℕ → Type 0 = λ y. IsClear (y ++ rest) in
     either _ _ e (λ a. subst P (sym ((bytes_eq-Decides x first_line).0 a)) (refl, refl)) (λ b. subst P (sym ((bytes_eq-Decides x second_line).0 b)) (refl, refl))
 
-token_clear : (t : Token) (rest : List ℕ) → IsToken t → Ends t rest → IsClear (token_text t ++ rest)
+pub token_clear : (t : Token) (rest : List ℕ) → IsToken t → Ends t rest → IsClear (token_text t ++ rest)
 token_clear (name x) rest h e = clear_letter x rest h.0
 token_clear (word x) rest h e = clear_letter x rest (among IsNamed words x words_named h).0
 token_clear (plain x) rest h e = clear_digit x rest h.0
@@ -222,7 +222,7 @@ token_clear (line x) rest h e = line_clear x h rest
 taken_clear : (bytes rest : List ℕ) (t : Lexeme) → Takes bytes t rest → IsClear (token_text t.token ++ rest)
 taken_clear bytes rest t k = token_clear t.token rest k.fits k.ends
 
-one_token : (bytes a b : List ℕ) (t u : Lexeme) → Takes bytes t a → Takes bytes u b → (t ≡ u) × (a ≡ b)
+pub one_token : (bytes a b : List ℕ) (t u : Lexeme) → Takes bytes t a → Takes bytes u b → (t ≡ u) × (a ≡ b)
 one_token bytes a b t u k l =
     let g = one_gap k.gap l.gap (token_text t.token ++ a) (token_text u.token ++ b) k.space l.space (taken_clear bytes a t k) (taken_clear bytes b u l) (sym k.parts ∙ l.parts) in
     let f = one_front t.token u.token a b k.fits k.ends l.fits l.ends g.1 in
@@ -236,7 +236,7 @@ no_empty_token t rest h e q =
     absurd (cc)
 
 -- where only a gap is left no token stands
-none_at_end : (bytes rest : List ℕ) (last : List Piece) (t : Lexeme) → AllByRecursion IsPiece last → bytes ≡ gap_text last → Takes bytes t rest → ⊥
+pub none_at_end : (bytes rest : List ℕ) (last : List Piece) (t : Lexeme) → AllByRecursion IsPiece last → bytes ≡ gap_text last → Takes bytes t rest → ⊥
 none_at_end bytes rest last t all e k =
     let same : gap_text last ++ [] ≡ gap_text k.gap ++ (token_text t.token ++ rest) = append-nil (gap_text last) ∙ sym e ∙ k.parts in
     let g = one_gap last k.gap [] (token_text t.token ++ rest) all k.space (tt, refl) (taken_clear bytes rest t k) same in

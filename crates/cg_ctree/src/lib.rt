@@ -6,6 +6,6 @@ mod law;
 mod tree;
 mod why;
 
-pub use law::one_division;
+pub use law::{one_division, one_token};
 pub use tree::{CBody, CCase, CDecl, CFun, COp, COpnd, CPath, CProgram, CRhs, CStmt, CStruct, CTy};
 pub use why::Why;
