@@ -1,0 +1,4 @@
+pub mod Cuts
+pub mod Gaps
+pub mod Munch
+pub mod Walking
