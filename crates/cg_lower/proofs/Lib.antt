@@ -1,3 +1,5 @@
+pub mod BucketSteps
+pub mod CallSteps
 pub mod Contained
 pub mod Evaluations
 pub mod Frames

@@ -1,10 +1,13 @@
 //! Lowering: the C of a plain source, and that it gives what evaluation gives. docs/LANGUAGE.md, "Lowering", says it in words.
 #![tactic(auto)]
 
+mod calls;
 mod function;
+mod guess;
 mod law;
 mod order;
 mod program;
+mod ranks;
 mod terms;
 
 pub use function::lower_function;

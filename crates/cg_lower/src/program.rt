@@ -11,7 +11,8 @@ ghost use Rattle.cg_lower.specs.Printables.{CanBePrinted};
 ghost use Rattle.cg_lower.specs.Ranks.{bodies_of, IsFew, AllFew};
 
 use crate::function::lower_function;
-use crate::order::{in_order, ranks_of};
+use crate::order::in_order;
+use crate::ranks::ranks_of;
 use cg_base::{Items, Memory};
 use cg_ctree::{CFun, CProgram};
 use cg_typing::Checked;
