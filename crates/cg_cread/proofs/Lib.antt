@@ -1,0 +1,13 @@
+pub mod BodySound
+pub mod Complete
+pub mod Digits
+pub mod Known
+pub mod Lists
+pub mod One
+pub mod RightComplete
+pub mod RightSound
+pub mod Says
+pub mod Sound
+pub mod Steps
+pub mod Viable
+pub mod Walked

@@ -1,0 +1,9 @@
+pub mod Answers
+pub mod Bodies
+pub mod Heads
+pub mod Laws
+pub mod Machine
+pub mod Rights
+pub mod Statements
+pub mod Symbols
+pub mod Views

@@ -1,0 +1,17 @@
+//! Reads a C text: from its bytes to the program that they spell, or to the first token that no program goes on with.
+//! docs/LANGUAGE.md, "The C text", says what is spelled.
+#![tactic(auto)]
+
+mod body;
+mod fault;
+mod file;
+mod head;
+mod law;
+mod read;
+mod right;
+mod statement;
+mod symbol;
+
+pub use fault::CFault;
+pub use law::one_program;
+pub use read::read_c;

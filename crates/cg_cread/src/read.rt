@@ -1,0 +1,39 @@
+// The loop over the tokens of a C text.
+ghost use Rattle.std.specs.Prelude.{◌≡◌};
+ghost use Rattle.cg_cread.specs.Answers.{Answers};
+
+use crate::CFault;
+use crate::file::{Phase, conclude, is_open, step};
+use cg_base::Place;
+use cg_clexer::{Lexer, TokenKind};
+use cg_ctree::CProgram;
+use std::alloc::Global;
+use std::mem::drop;
+
+// What is read so far goes no further.
+fn unexpected(phase: Phase, place: Place) -> Result<CProgram, CFault>
+    ensures { result ≡ Err (CFault.Text place) }
+{
+    drop(phase);
+    Err(CFault::Text(place))
+}
+
+/// Reads a C text: the program that its bytes spell, or the place of the first token that no program of the subset goes on
+/// with, or of the end where none ends (docs/LANGUAGE.md, "The C text"). It takes time in proportion to the bytes.
+pub fn read_c(alloc: Global, bytes: &[u8]) -> Result<CProgram, CFault>
+    ensures { Answers bytes.now result }
+{
+    let mut lexer = Lexer::new(bytes);
+    let mut phase = Phase::Start;
+    loop {
+        let token = lexer.next();
+        match token.kind {
+            TokenKind::Unknown => return unexpected(phase, token.place),
+            TokenKind::End => return conclude(alloc, phase, token.place),
+            _ => phase = step(alloc, phase, &token)?,
+        }
+        if !is_open(&phase) {
+            return unexpected(phase, token.place);
+        }
+    }
+}
