@@ -1,6 +1,5 @@
 -- Calls, as equations.
-use Rattle.std.proofs.Common.{◌≡◌, ℕ, ◌<◌, Some, None, List, [], ◌∷◌, ◌++◌, map, refl, sym, ap, ◌∙◌, Bor, Vec, Err, ◌%◌, ◌^◌}
-use Rattle.std.specs.declared.alloc.Global.{Global}
+use Rattle.std.proofs.Common.{◌≡◌, ℕ, ◌<◌, Some, None, List, [], ◌∷◌, ◌++◌, map, refl, sym, ap, ◌∙◌, Bor, Err, ◌%◌, ◌^◌}
 use Rattle.cg_base.specs.Words.{bits}
 use Rattle.cg_ctree.specs.declared.tree.CBody.{CBody}
 use Rattle.cg_ctree.specs.declared.tree.CFun.{CFun}
@@ -20,9 +19,7 @@ use Rattle.cg_cmachine.specs.declared.machine.Kont.{Kont}
 use Rattle.cg_cmachine.specs.declared.machine.Machine.{Machine}
 use Rattle.cg_cmachine.specs.declared.machine.Kont.TheVariants.{Into, Aside}
 use Rattle.cg_cmachine.specs.declared.machine.Run.{Run}
-use Rattle.cg_cmachine.specs.declared.operands.Slot.{Slot}
 use Rattle.cg_cmachine.specs.Machine.{assigned, simple, calls, given, called, prepared, block, on_kont, waits, Enters, Went}
-use Rattle.cg_cmachine.specs.Views.{frame_of}
 use Rattle.cg_cmachine.proofs.Depth.{calls_fixed}
 use Rattle.cg_cmachine.proofs.Steps.{waits_push, waits_stuck}
 
@@ -72,38 +69,38 @@ module _ (run : Run) where
   prepared_ok name os vs frame left e = rw e refl
 
   -- what waits for a call
-  pub waits_into : (fs gs : List Kont) (p : Bor CPath) (saved : Vec Slot Global) (u : Bor CTy) (ss : Bor (List CStmt)) (t : CTy) (o : Outcome Flow)
+  pub waits_into : (fs gs : List Kont) (p : Bor CPath) (saved : Frame) (u : Bor CTy) (ss : Bor (List CStmt)) (t : CTy) (o : Outcome Flow)
       → gs ≡ fs ++ Into p saved u ss ∷ []
-      → waits run gs t o ≡ waits run fs u.now (onward (bind (returned t o) (λ v left. assigned (write p.now v (frame_of saved.items)) left)) (block run u.now ss.now))
+      → waits run gs t o ≡ waits run fs u.now (onward (bind (returned t o) (λ v left. assigned (write p.now v saved) left)) (block run u.now ss.now))
   unfolding on_kont
   waits_into fs gs p saved u ss t o e = ap (λ z. waits run z t o) e ∙ ap (λ k. k t o) (waits_push run fs (Into p saved u ss))
 
-  pub waits_aside : (fs gs : List Kont) (saved : Vec Slot Global) (u : Bor CTy) (ss : Bor (List CStmt)) (t : CTy) (o : Outcome Flow)
+  pub waits_aside : (fs gs : List Kont) (saved : Frame) (u : Bor CTy) (ss : Bor (List CStmt)) (t : CTy) (o : Outcome Flow)
       → gs ≡ fs ++ Aside saved u ss ∷ []
-      → waits run gs t o ≡ waits run fs u.now (onward (bind (returned t o) (λ v left. done (goes (frame_of saved.items)) left)) (block run u.now ss.now))
+      → waits run gs t o ≡ waits run fs u.now (onward (bind (returned t o) (λ v left. done (goes saved) left)) (block run u.now ss.now))
   unfolding on_kont
   waits_aside fs gs saved u ss t o e = ap (λ z. waits run z t o) e ∙ ap (λ k. k t o) (waits_push run fs (Aside saved u ss))
 
   -- a call that is entered
-  pub into_goes : (fs gs : List Kont) (p : Bor CPath) (saved frame inner dest : Vec Slot Global) (u : Bor CTy) (ss : Bor (List CStmt)) (t : CTy) (body : List CStmt) (o : Outcome Value) (left : ℕ)
-      → gs ≡ fs ++ Into p saved u ss ∷ [] → saved ≡ frame → dest ≡ inner → o ≡ returned t (block run t body (frame_of inner.items) left)
-      → waits run gs t (block run t body (frame_of dest.items) left)
-      ≡ waits run fs u.now (onward (bind o (λ v left. assigned (write p.now v (frame_of frame.items)) left)) (block run u.now ss.now))
+  pub into_goes : (fs gs : List Kont) (p : Bor CPath) (saved frame inner dest : Frame) (u : Bor CTy) (ss : Bor (List CStmt)) (t : CTy) (body : List CStmt) (o : Outcome Value) (left : ℕ)
+      → gs ≡ fs ++ Into p saved u ss ∷ [] → saved ≡ frame → dest ≡ inner → o ≡ returned t (block run t body inner left)
+      → waits run gs t (block run t body dest left)
+      ≡ waits run fs u.now (onward (bind o (λ v left. assigned (write p.now v frame) left)) (block run u.now ss.now))
   into_goes fs gs p saved frame inner dest u ss t body o left e s d h =
-      ap (λ z. waits run gs t (block run t body (frame_of z.items) left)) d
-      ∙ waits_into fs gs p saved u ss t (block run t body (frame_of inner.items) left) e
-      ∙ ap (λ z. waits run fs u.now (onward (bind (returned t (block run t body (frame_of inner.items) left)) (λ v left. assigned (write p.now v (frame_of z.items)) left)) (block run u.now ss.now))) s
-      ∙ ap (λ z. waits run fs u.now (onward (bind z (λ v left. assigned (write p.now v (frame_of frame.items)) left)) (block run u.now ss.now))) (sym h)
+      ap (λ z. waits run gs t (block run t body z left)) d
+      ∙ waits_into fs gs p saved u ss t (block run t body inner left) e
+      ∙ ap (λ z. waits run fs u.now (onward (bind (returned t (block run t body inner left)) (λ v left. assigned (write p.now v z) left)) (block run u.now ss.now))) s
+      ∙ ap (λ z. waits run fs u.now (onward (bind z (λ v left. assigned (write p.now v frame) left)) (block run u.now ss.now))) (sym h)
 
-  pub aside_goes : (fs gs : List Kont) (saved frame inner dest : Vec Slot Global) (u : Bor CTy) (ss : Bor (List CStmt)) (t : CTy) (body : List CStmt) (o : Outcome Value) (left : ℕ)
-      → gs ≡ fs ++ Aside saved u ss ∷ [] → saved ≡ frame → dest ≡ inner → o ≡ returned t (block run t body (frame_of inner.items) left)
-      → waits run gs t (block run t body (frame_of dest.items) left)
-      ≡ waits run fs u.now (onward (bind o (λ v left. done (goes (frame_of frame.items)) left)) (block run u.now ss.now))
+  pub aside_goes : (fs gs : List Kont) (saved frame inner dest : Frame) (u : Bor CTy) (ss : Bor (List CStmt)) (t : CTy) (body : List CStmt) (o : Outcome Value) (left : ℕ)
+      → gs ≡ fs ++ Aside saved u ss ∷ [] → saved ≡ frame → dest ≡ inner → o ≡ returned t (block run t body inner left)
+      → waits run gs t (block run t body dest left)
+      ≡ waits run fs u.now (onward (bind o (λ v left. done (goes frame) left)) (block run u.now ss.now))
   aside_goes fs gs saved frame inner dest u ss t body o left e s d h =
-      ap (λ z. waits run gs t (block run t body (frame_of z.items) left)) d
-      ∙ waits_aside fs gs saved u ss t (block run t body (frame_of inner.items) left) e
-      ∙ ap (λ z. waits run fs u.now (onward (bind (returned t (block run t body (frame_of inner.items) left)) (λ v left. done (goes (frame_of z.items)) left)) (block run u.now ss.now))) s
-      ∙ ap (λ z. waits run fs u.now (onward (bind z (λ v left. done (goes (frame_of frame.items)) left)) (block run u.now ss.now))) (sym h)
+      ap (λ z. waits run gs t (block run t body z left)) d
+      ∙ waits_aside fs gs saved u ss t (block run t body inner left) e
+      ∙ ap (λ z. waits run fs u.now (onward (bind (returned t (block run t body inner left)) (λ v left. done (goes z) left)) (block run u.now ss.now))) s
+      ∙ ap (λ z. waits run fs u.now (onward (bind z (λ v left. done (goes frame) left)) (block run u.now ss.now))) (sym h)
 
   -- a call that isn't entered
   pub not_entered : (m : Machine) (fs : List Kont) (u : CTy) (left : ℕ) (o : Outcome Value) (fault : RunFault) (f : Value → ℕ → Outcome Flow) (g : Frame → ℕ → Outcome Flow)

@@ -1,6 +1,5 @@
 -- Statements, and where they end, as equations.
-use Rattle.std.proofs.Common.{◌≡◌, ℕ, zero, suc, ◌+◌, ◌<◌, ◌≤◌, List, [], ◌∷◌, ◌++◌, map, refl, sym, ap, ◌∙◌, arith, Bor, Vec}
-use Rattle.std.specs.declared.alloc.Global.{Global}
+use Rattle.std.proofs.Common.{◌≡◌, ℕ, zero, suc, ◌+◌, ◌<◌, ◌≤◌, List, [], ◌∷◌, ◌++◌, map, refl, sym, ap, ◌∙◌, arith, Bor}
 use Rattle.cg_ctree.specs.declared.tree.CCase.{CCase}
 use Rattle.cg_ctree.specs.declared.tree.COpnd.{COpnd}
 use Rattle.cg_ctree.specs.declared.tree.CPath.{CPath}
@@ -14,9 +13,7 @@ use Rattle.cg_ctree.specs.Trees.{Stmt, stmt_of, case_of, assign, branch, while, 
 use Rattle.cg_cmachine.specs.declared.machine.Kont.{Kont}
 use Rattle.cg_cmachine.specs.declared.machine.Kont.TheVariants.{After, Again, Into, Aside}
 use Rattle.cg_cmachine.specs.declared.machine.Run.{Run}
-use Rattle.cg_cmachine.specs.declared.operands.Slot.{Slot}
 use Rattle.cg_cmachine.specs.Machine.{Cont, assigned, calls, given, called, prepared, stmt, block, cases, loop, tested, on_kont, waits}
-use Rattle.cg_cmachine.specs.Views.{frame_of}
 use Rattle.cg_cmachine.proofs.Depth.{calls_fixed, turns_fixed}
 use Rattle.cg_cmachine.proofs.Steps.{waits_push, waits_stuck, waits_needs, waits_none, block_none, block_some, assigned_ok, assigned_no}
 
@@ -118,12 +115,12 @@ module _ (run : Run) where
   waits_pop fs gs f t o e = sym (ap (λ z. waits run z t o) e ∙ ap (λ k. k t o) (waits_push run fs f))
 
   -- statements end
-  pub end_into : (fs : List Kont) (p : Bor CPath) (saved : Vec Slot Global) (u : Bor CTy) (ss : Bor (List CStmt)) (t : CTy) (frame : Frame) (left : ℕ)
+  pub end_into : (fs : List Kont) (p : Bor CPath) (saved : Frame) (u : Bor CTy) (ss : Bor (List CStmt)) (t : CTy) (frame : Frame) (left : ℕ)
       → on_kont run (Into p saved u ss) (waits run fs) t (done (goes frame) left) ≡ stuck NoReturn
   unfolding on_kont
   end_into fs p saved u ss t frame left = waits_stuck run fs u.now NoReturn
 
-  pub end_aside : (fs : List Kont) (saved : Vec Slot Global) (u : Bor CTy) (ss : Bor (List CStmt)) (t : CTy) (frame : Frame) (left : ℕ)
+  pub end_aside : (fs : List Kont) (saved : Frame) (u : Bor CTy) (ss : Bor (List CStmt)) (t : CTy) (frame : Frame) (left : ℕ)
       → on_kont run (Aside saved u ss) (waits run fs) t (done (goes frame) left) ≡ stuck NoReturn
   unfolding on_kont
   end_aside fs saved u ss t frame left = waits_stuck run fs u.now NoReturn
@@ -167,14 +164,14 @@ module _ (run : Run) where
   unfolding on_kont
   back_again k o body ss t n left = refl
 
-  pub back_into : (k : Cont) (p : Bor CPath) (saved : Vec Slot Global) (u : Bor CTy) (ss : Bor (List CStmt)) (t : CTy) (n left : ℕ)
+  pub back_into : (k : Cont) (p : Bor CPath) (saved : Frame) (u : Bor CTy) (ss : Bor (List CStmt)) (t : CTy) (n left : ℕ)
       → on_kont run (Into p saved u ss) k t (done (back n) left)
-      ≡ k u.now (onward (assigned (write p.now (as_value t n) (frame_of saved.items)) left) (block run u.now ss.now))
+      ≡ k u.now (onward (assigned (write p.now (as_value t n) saved) left) (block run u.now ss.now))
   unfolding on_kont
   back_into k p saved u ss t n left = refl
 
-  pub back_aside : (k : Cont) (saved : Vec Slot Global) (u : Bor CTy) (ss : Bor (List CStmt)) (t : CTy) (n left : ℕ)
-      → on_kont run (Aside saved u ss) k t (done (back n) left) ≡ k u.now (block run u.now ss.now (frame_of saved.items) left)
+  pub back_aside : (k : Cont) (saved : Frame) (u : Bor CTy) (ss : Bor (List CStmt)) (t : CTy) (n left : ℕ)
+      → on_kont run (Aside saved u ss) k t (done (back n) left) ≡ k u.now (block run u.now ss.now saved left)
   unfolding on_kont
   back_aside k saved u ss t n left = refl
 

@@ -1,6 +1,5 @@
 -- Variables and frames.
-use Rattle.std.proofs.Common.{◌≡◌, ℕ, zero, suc, ◌+◌, ◌<◌, ◌≤◌, Bool, true, false, Some, None, List, [], ◌∷◌, length, get_or, set, map, refl, sym, ap, ◌∙◌, subst, ⊎_elim, arith, bytes_eq, cond, nat_lt, ◌^◌}
-use Rattle.std.proofs.lemmas.Bool.{cases_lt}
+use Rattle.std.proofs.Common.{◌≡◌, ℕ, zero, suc, ◌≤◌, Bool, true, false, Some, List, [], ◌∷◌, length, get_or, set, map, refl, sym, ap, ◌∙◌, arith, cond, nat_lt, ◌^◌}
 use Rattle.std.proofs.lemmas.List.{length-map}
 use Rattle.cg_base.specs.Words.{bits}
 use Rattle.cg_ctree.specs.declared.tree.CDecl.{CDecl}
@@ -11,7 +10,7 @@ use Rattle.cg_ctree.specs.declared.why.Why.{Why}
 use Rattle.cg_ctree.specs.declared.why.Why.TheVariants.{KindsDiffer}
 use Rattle.cg_ctree.specs.Runs as runs
 use Rattle.cg_ctree.specs.Runs.{Judged, ok, no, on, Value, literal, typed, same_word, Variable, Frame, look, judge, judge_all, number_of, as_value, give, unset, enter, filled}
-use Rattle.cg_cmachine.specs.declared.operands.Slot.{Slot}
+use Rattle.cg_cmachine.specs.declared.slots.Slot.{Slot}
 use Rattle.cg_cmachine.specs.declared.operands.Scalar.{Scalar}
 use Rattle.cg_cmachine.specs.Views.{First, with_number, variable_of, frame_of, value_of}
 
@@ -30,31 +29,6 @@ pub none_there : {A : Type 0} (xs : List A) → length xs ≤ 0 → xs ≡ []
 none_there [] h = refl
 none_there (x ∷ xs) h = absurd (omega arith)
 
--- the first of a name
-pub first_at : (x : List ℕ) (fr : Frame) (i : ℕ) → ((k : ℕ) (d : Variable) → k < i → bytes_eq x (get_or fr k d).name ≡ false) → i < length fr → ((d : Variable) → bytes_eq x (get_or fr i d).name ≡ true) → First x fr i
-first_at x [] i h lt e = absurd (omega arith)
-first_at x (v ∷ fr) zero h lt e = record { within = lt; found = λ d. rw (e v) refl; stored = λ d u. rw (e v) refl }
-first_at x (v ∷ fr) (suc i) h lt e =
-    let r = first_at x fr i (λ k d k'. h (suc k) d (omega arith)) (omega arith) e in
-    let n : bytes_eq x v.name ≡ false = h 0 v (omega arith) in
-    record { within = lt; found = λ d. rw n (r.found d); stored = λ d u. rw n (ap (λ z. v ∷ z) (r.stored d u)) }
-
-pub not_there : (x : List ℕ) (fr : Frame) → ((k : ℕ) (d : Variable) → k < length fr → bytes_eq x (get_or fr k d).name ≡ false) → look x fr ≡ None
-not_there x [] h = refl
-not_there x (v ∷ fr) h = rw (h 0 v (omega arith)) (not_there x fr (λ k d k'. h (suc k) d (omega arith)))
-
-pub named_at : (x : List ℕ) (vs : List Slot) (i : ℕ) (d : Variable) (d' : Slot) (b : Bool) → i < length vs → bytes_eq x (get_or vs i d').decl.now.name ≡ b → bytes_eq x (get_or (frame_of vs) i d).name ≡ b
-named_at x [] i d d' b h e = absurd (omega arith)
-named_at x (v ∷ vs) zero d d' b h e = e
-named_at x (v ∷ vs) (suc i) d d' b h e = named_at x vs i d d' b (omega arith) e
-
-pub names_more : (x : List ℕ) (fr : Frame) (i : ℕ) → ((k : ℕ) (d : Variable) → k < i → bytes_eq x (get_or fr k d).name ≡ false) → ((d : Variable) → bytes_eq x (get_or fr i d).name ≡ false) → (k : ℕ) (d : Variable) → k < i + 1 → bytes_eq x (get_or fr k d).name ≡ false
-names_more x fr i h e k d lt =
-    ⊎_elim
-    (λ l. h k d l)
-    (λ l. let q : i ≡ k = omega arith in subst (λ z. bytes_eq x (get_or fr z d).name ≡ false) q (e d))
-    (cases_lt k i)
-
 frame_at : (vs : List Slot) (i : ℕ) (d : Slot) → get_or (frame_of vs) i (variable_of d) ≡ variable_of (get_or vs i d)
 frame_at [] i d = refl
 frame_at (v ∷ vs) zero d = refl
@@ -65,21 +39,24 @@ frame_set [] i v = refl
 frame_set (w ∷ vs) zero v = refl
 frame_set (w ∷ vs) (suc i) v = ap (λ z. variable_of w ∷ z) (frame_set vs i v)
 
--- what an assignment does with the variable that is found
-pub write_in : (p : CPath) (vs : List Slot) (i : ℕ) (d v : Slot) (val : Value) (n : ℕ) → p.members ≡ [] → p.arrow ≡ false → First p.base (frame_of vs) i → v ≡ get_or vs i d → give v.decl.now.ty val ≡ ok n
-    → runs.write p val (frame_of vs) ≡ ok (frame_of (set vs i (record { decl = v.decl; value = Some n })))
-write_in p vs i d v val n m a f e g =
-    let at' : get_or (frame_of vs) i (variable_of d) ≡ variable_of v = frame_at vs i d ∙ ap variable_of (sym e) in
-    let l : look p.base (frame_of vs) ≡ Some (variable_of v) = f.found (variable_of d) ∙ ap Some at' in
-    let s : runs.set p.base n (frame_of vs) ≡ frame_of (set vs i (record { decl = v.decl; value = Some n })) =
-    f.stored (variable_of d) n ∙ ap (λ z. set (frame_of vs) i (with_number z n)) at' ∙ sym (frame_set vs i (record { decl = v.decl; value = Some n })) in
+-- the variable that is found
+pub found_in : (x : List ℕ) (vs : List Slot) (fr : Frame) (i : ℕ) (v : Slot) → frame_of vs ≡ fr → First x fr i → v ≡ get_or vs i v → Some (variable_of v) ≡ look x fr
+found_in x vs fr i v view f e = sym (f.found (variable_of v) ∙ ap (λ fr. Some (get_or fr i (variable_of v))) (sym view) ∙ ap Some (frame_at vs i v ∙ ap variable_of (sym e)))
+
+-- what an assignment does with it
+pub write_in : (p : CPath) (vs : List Slot) (fr : Frame) (i : ℕ) (v : Slot) (val : Value) (n : ℕ) → p.members ≡ [] → p.arrow ≡ false → frame_of vs ≡ fr → First p.base fr i → v ≡ get_or vs i v
+    → give v.decl.now.ty val ≡ ok n → runs.write p val fr ≡ ok (frame_of (set vs i (record { decl = v.decl; value = Some n })))
+write_in p vs fr i v val n m a view f e g =
+    let at' : get_or (frame_of vs) i (variable_of v) ≡ variable_of v = frame_at vs i v ∙ ap variable_of (sym e) in
+    let s : runs.set p.base n fr ≡ frame_of (set vs i (record { decl = v.decl; value = Some n })) =
+    f.stored (variable_of v) n ∙ ap (λ z. set z i (with_number (get_or z i (variable_of v)) n)) (sym view) ∙ ap (λ z. set (frame_of vs) i (with_number z n)) at' ∙ sym (frame_set vs i (record { decl = v.decl; value = Some n })) in
+    let l = sym (found_in p.base vs fr i v view f e) in
     rw (m, a, l, g, s) refl
 
-pub write_not : (p : CPath) (vs : List Slot) (i : ℕ) (d v : Slot) (val : Value) (w : Why) → p.members ≡ [] → p.arrow ≡ false → First p.base (frame_of vs) i → v ≡ get_or vs i d → give v.decl.now.ty val ≡ no w
-    → runs.write p val (frame_of vs) ≡ no w
-write_not p vs i d v val w m a f e g =
-    let at' : get_or (frame_of vs) i (variable_of d) ≡ variable_of v = frame_at vs i d ∙ ap variable_of (sym e) in
-    let l : look p.base (frame_of vs) ≡ Some (variable_of v) = f.found (variable_of d) ∙ ap Some at' in
+pub write_not : (p : CPath) (vs : List Slot) (fr : Frame) (i : ℕ) (v : Slot) (val : Value) (w : Why) → p.members ≡ [] → p.arrow ≡ false → frame_of vs ≡ fr → First p.base fr i → v ≡ get_or vs i v
+    → give v.decl.now.ty val ≡ no w → runs.write p val fr ≡ no w
+write_not p vs fr i v val w m a view f e g =
+    let l = sym (found_in p.base vs fr i v view f e) in
     rw (m, a, l, g) refl
 
 -- other numbers of arguments than of parameters

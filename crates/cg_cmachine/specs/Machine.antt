@@ -20,7 +20,7 @@ use Rattle.cg_cmachine.specs.declared.machine.Next.{Next}
 use Rattle.cg_cmachine.specs.declared.machine.Next.TheVariants.{Goes, Back}
 use Rattle.cg_cmachine.specs.declared.machine.Run.{Run}
 use Rattle.cg_cmachine.specs.declared.operands.Scalar.{Scalar}
-use Rattle.cg_cmachine.specs.Views.{frame_of, value_of}
+use Rattle.cg_cmachine.specs.Views.{value_of}
 
 -- what is assigned, where it isn't a call
 abbrev pub simple : Frame → CRhs → Judged Value
@@ -84,9 +84,9 @@ module _ (run : Run) where
   on_kont (After rest) k t o = k t (onward o (block t rest.now))
   on_kont (Again opnd body rest) k t o = k t (onward (onward o (loop t opnd.now body.now)) (block t rest.now))
   on_kont (Into path frame u rest) k t o =
-      k u.now (onward (bind (returned t o) (λ v left. assigned (write path.now v (frame_of frame.items)) left)) (block u.now rest.now))
+      k u.now (onward (bind (returned t o) (λ v left. assigned (write path.now v frame) left)) (block u.now rest.now))
   on_kont (Aside frame u rest) k t o =
-      k u.now (onward (bind (returned t o) (λ v left. done (goes (frame_of frame.items)) left)) (block u.now rest.now))
+      k u.now (onward (bind (returned t o) (λ v left. done (goes frame) left)) (block u.now rest.now))
 
   abbrev pub waits_from : Cont → List Kont → Cont
   waits_from k [] = k
@@ -98,7 +98,7 @@ module _ (run : Run) where
 
   -- what the state gives
   abbrev pub said : Machine → Next → Outcome Value
-  said m Goes = waits m.stack.items m.ty.now (block m.ty.now m.stmts.now (frame_of m.frame.items) m.left)
+  said m Goes = waits m.stack.items m.ty.now (block m.ty.now m.stmts.now m.frame m.left)
   said m (Back n) = waits m.stack.items m.ty.now (done (back n) m.left)
 
   -- a step goes on with what is to come, or says why there is nothing to go on with
@@ -114,7 +114,7 @@ module _ (run : Run) where
 
   -- the beginning of a call
   abbrev pub Enters : ℕ → Outcome Value → Result Entered RunFault → Type 0
-  Enters left o (Ok e) = o ≡ returned e.ty.now (block e.ty.now e.stmts.now (frame_of e.frame.items) left)
+  Enters left o (Ok e) = o ≡ returned e.ty.now (block e.ty.now e.stmts.now e.frame left)
   Enters left o (Err (Stuck why)) = o ≡ stuck why
   Enters left o (Err Budget) = ⊥
   Enters left o (Err Memory) = Unit {0}

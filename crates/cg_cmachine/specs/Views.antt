@@ -10,13 +10,17 @@ use Rattle.cg_cmachine.specs.declared.fault.RunFault.{RunFault}
 use Rattle.cg_cmachine.specs.declared.fault.RunFault.TheVariants.{Stuck, Budget, Memory}
 use Rattle.cg_cmachine.specs.declared.operands.Scalar.{Scalar}
 use Rattle.cg_cmachine.specs.declared.operands.Scalar.TheVariants.{Literal, Typed}
-use Rattle.cg_cmachine.specs.declared.operands.Slot.{Slot}
+use Rattle.cg_cmachine.specs.declared.slots.Slot.{Slot}
 
 abbrev pub variable_of : Slot → Variable
 variable_of s = record { name = s.decl.now.name; ty = s.decl.now.ty; scalar = s.value }
 
 abbrev pub frame_of : List Slot → Frame
 frame_of = map variable_of
+
+-- the names of a frame's variables
+abbrev pub names_in : Frame → List (List ℕ)
+names_in frame = map (λ variable. variable.name) frame
 
 abbrev pub value_of : Scalar → Value
 value_of (Literal n) = literal n

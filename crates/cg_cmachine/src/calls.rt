@@ -5,93 +5,88 @@ ghost use Rattle.std.specs.Prelude.{◌≡◌, ◌<◌, ◌≤◌, ◌+◌, ℕ,
 ghost use Rattle.cg_ctree.specs.Runs.{bind, crun, done, find, goes, write as write_of};
 ghost use Rattle.cg_ctree.specs.Trees.{function_of, program_of};
 ghost use Rattle.cg_cmachine.specs.Machine.{Enters, Follows, assigned, called, given, prepared, weight};
-ghost use Rattle.cg_cmachine.specs.Views.{frame_of, value_of};
+ghost use Rattle.cg_cmachine.specs.Views.{value_of};
 
 use crate::RunFault;
 use crate::frames::{enter, fill, judge_all};
 use crate::machine::{Entered, Kont, Machine, Next, Run, assign};
-use crate::operands::{Scalar, Slot};
+use crate::operands::Scalar;
+use crate::slots::Frame;
 use cg_base::Name;
-use cg_ctree::{CFun, COpnd, CPath, CProgram, CRhs, Why};
+use cg_ctree::{COpnd, CPath, CRhs, Why};
 use std::alloc::Global;
 
-/// The first function of a name, found by a walk.
-fn find_function<'a>(program: &'a CProgram, name: &Name) -> Option<&'a CFun>
-    ensures { option_map (λ f. function_of f.now) result ≡ find name.now (map function_of program.now.funs) }
-{
-    for function in program.funs.as_slice() {
-        if name.bytes() == function.name.bytes() {
-            return Some(function);
-        }
-    }
-    None
-}
-
 /// Enters a function with these values.
-fn begin<'a>(
+fn begin<'i, 'a>(
     alloc: Global,
-    run: &Run<'a>,
+    run: &Run<'i, 'a>,
     name: &Name,
     scalars: &[Scalar],
-) -> Result<Entered<'a>, RunFault>
+) -> Result<Entered<'i, 'a>, RunFault>
     ensures { (left : ℕ) → Enters run.now left (called run.now name.now (map value_of scalars.now) left) result }
 {
-    let Some(function) = find_function(run.program, name) else {
+    let Some(callee) = run.program.find(name) else {
         return Err(RunFault::Stuck(Why::NoFunction));
     };
-    let Some(body) = &function.body else {
+    let Some(body) = &callee.function.body else {
         return Err(RunFault::Stuck(Why::NoBody));
     };
-    let frame = enter(
+    let slots = enter(
         alloc,
-        function.params.as_slice(),
+        callee.function.params.as_slice(),
         body.locals.as_slice(),
         scalars,
     )?;
     Ok(Entered {
-        ty: &function.ty,
+        ty: &callee.function.ty,
         stmts: body.stmts.as_slice(),
-        frame,
+        frame: Frame {
+            slots,
+            names: callee.names,
+        },
     })
 }
 
 /// Enters a run's own function with its one word.
-pub(crate) fn start<'a>(
+pub(crate) fn start<'i, 'a>(
     alloc: Global,
-    run: &Run<'a>,
+    run: &Run<'i, 'a>,
     name: &Name,
     arg: u64,
-) -> Result<Entered<'a>, RunFault>
+) -> Result<Entered<'i, 'a>, RunFault>
     ensures { Enters run.now run.now.budget (crun run.now.budget (program_of run.now.program.now) name.now (arg ∷ [])) result }
 {
-    let Some(function) = find_function(run.program, name) else {
+    let Some(callee) = run.program.find(name) else {
         return Err(RunFault::Stuck(Why::NoFunction));
     };
-    let Some(body) = &function.body else {
+    let Some(body) = &callee.function.body else {
         return Err(RunFault::Stuck(Why::NoBody));
     };
-    let frame = fill(
+    let slots = fill(
         alloc,
-        function.params.as_slice(),
+        callee.function.params.as_slice(),
         body.locals.as_slice(),
         arg,
     )?;
     Ok(Entered {
-        ty: &function.ty,
+        ty: &callee.function.ty,
         stmts: body.stmts.as_slice(),
-        frame,
+        frame: Frame {
+            slots,
+            names: callee.names,
+        },
     })
 }
 
 /// Enters a function with what these operands are.
-fn prepare<'a>(
+fn prepare<'i, 'a>(
     alloc: Global,
-    run: &Run<'a>,
-    frame: &Vec<Slot<'_>>,
+    run: &Run<'i, 'a>,
+    frame: &Frame<'_, '_>,
     name: &Name,
     opnds: &[COpnd],
-) -> Result<Entered<'a>, RunFault>
-    ensures { (left : ℕ) → Enters run.now left (prepared run.now name.now opnds.now (frame_of frame.now.items) left) result }
+) -> Result<Entered<'i, 'a>, RunFault>
+    ensures { (left : ℕ) → Enters run.now left (prepared run.now name.now opnds.now frame.now left) result }
 {
     match judge_all(alloc, frame, opnds) {
         Err(fault) => Err(fault),
@@ -100,16 +95,16 @@ fn prepare<'a>(
 }
 
 /// A call whose value is assigned, and whose step is counted.
-fn call_into<'a>(
+fn call_into<'i, 'a>(
     alloc: Global,
-    run: &Run<'a>,
-    m: &mut Machine<'a>,
+    run: &Run<'i, 'a>,
+    m: &mut Machine<'i, 'a>,
     path: &'a CPath,
     name: &Name,
     opnds: &[COpnd],
 ) -> Result<Next, RunFault>
-    ensures gives { Follows run.now m.old (bind (prepared run.now name.now opnds.now (frame_of m.old.frame.items) m.old.left)
-        (λ v left. assigned (write_of path.now v (frame_of m.old.frame.items)) left)) m.new result }
+    ensures gives { Follows run.now m.old (bind (prepared run.now name.now opnds.now m.old.frame m.old.left)
+        (λ v left. assigned (write_of path.now v m.old.frame) left)) m.new result }
     ensures falls { IfOk result (λ next. weight m.new ≤ weight m.old + 1) }
     ensures within { m.new.left ≡ m.old.left }
 {
@@ -126,15 +121,15 @@ fn call_into<'a>(
 }
 
 /// A call as a statement, whose step is counted.
-pub(crate) fn call_aside<'a>(
+pub(crate) fn call_aside<'i, 'a>(
     alloc: Global,
-    run: &Run<'a>,
-    m: &mut Machine<'a>,
+    run: &Run<'i, 'a>,
+    m: &mut Machine<'i, 'a>,
     name: &Name,
     opnds: &[COpnd],
 ) -> Result<Next, RunFault>
-    ensures gives { Follows run.now m.old (bind (prepared run.now name.now opnds.now (frame_of m.old.frame.items) m.old.left)
-        (λ v left. done (goes (frame_of m.old.frame.items)) left)) m.new result }
+    ensures gives { Follows run.now m.old (bind (prepared run.now name.now opnds.now m.old.frame m.old.left)
+        (λ v left. done (goes m.old.frame) left)) m.new result }
     ensures falls { IfOk result (λ next. weight m.new ≤ weight m.old + 1) }
     ensures within { m.new.left ≡ m.old.left }
 {
@@ -151,16 +146,16 @@ pub(crate) fn call_aside<'a>(
 }
 
 /// An assignment, whose step is counted.
-pub(crate) fn assign_any<'a>(
+pub(crate) fn assign_any<'i, 'a>(
     alloc: Global,
-    run: &Run<'a>,
-    m: &mut Machine<'a>,
+    run: &Run<'i, 'a>,
+    m: &mut Machine<'i, 'a>,
     path: &'a CPath,
     rhs: &'a CRhs,
 ) -> Result<Next, RunFault>
     requires small { m.old.left < run.now.budget }
-    ensures gives { Follows run.now m.old (bind (given run.now rhs.now (frame_of m.old.frame.items) m.old.left)
-        (λ v left. assigned (write_of path.now v (frame_of m.old.frame.items)) left)) m.new result }
+    ensures gives { Follows run.now m.old (bind (given run.now rhs.now m.old.frame m.old.left)
+        (λ v left. assigned (write_of path.now v m.old.frame) left)) m.new result }
     ensures falls { IfOk result (λ next. weight m.new ≤ weight m.old + 1) }
     ensures within { m.new.left ≡ m.old.left }
 {

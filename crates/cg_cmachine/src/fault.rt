@@ -1,13 +1,17 @@
 // Why a run has no value.
 use cg_ctree::Why;
 use std::alloc::{AllocError, AllocFailed};
+use thiserror::Error;
 
 /// Why a run has no value (docs/LANGUAGE.md, "The C subset"): it is stuck, it needs more steps than its budget, or memory is
 /// wanting.
-#[derive(Clone, Copy, Debug, PartialEq, Eq)]
+#[derive(Clone, Copy, Debug, PartialEq, Eq, Error)]
 pub enum RunFault {
+    #[error("stuck")]
     Stuck(Why),
+    #[error("more steps are needed")]
     Budget,
+    #[error("out of memory")]
     Memory,
 }
 

@@ -5,10 +5,12 @@
 mod calls;
 mod fault;
 mod frames;
+mod index;
 mod machine;
 mod operands;
 mod run;
 mod running;
+mod slots;
 mod words;
 
 pub use fault::RunFault;

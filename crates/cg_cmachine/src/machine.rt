@@ -5,43 +5,45 @@ ghost use Rattle.std.specs.Prelude.{◌≡◌, ◌<◌, ◌≤◌, ◌+◌, ℕ,
 ghost use Rattle.cg_ctree.specs.Runs.{back, bind, choose, done, goes, judge as judge_of, lift, number_of as the_number, give as give_of, write as write_of};
 ghost use Rattle.cg_cmachine.specs.Machine.{Follows, Went, assigned, block, cases, first_case, simple, tested, waits, on_kont, weight};
 ghost use Rattle.cg_ctree.specs.declared.tree.CRhs.TheVariants.{Binary, Conv};
-ghost use Rattle.cg_cmachine.specs.Views.{Gives, frame_of, value_of};
+ghost use Rattle.cg_cmachine.specs.Views.{Gives, value_of};
 
 use crate::RunFault;
 use crate::frames::write;
-use crate::operands::{Scalar, Slot, compute, flip, give, judge, number_of};
+use crate::index::Indexed;
+use crate::operands::{Scalar, compute, flip, give, judge, number_of};
+use crate::slots::Frame;
 use crate::words::wrapped;
 use cg_base::Word;
-use cg_ctree::{CCase, COp, COpnd, CPath, CProgram, CRhs, CStmt, CTy, Why};
+use cg_ctree::{CCase, COp, COpnd, CPath, CRhs, CStmt, CTy, Why};
 
-/// What is run, and with how many steps at most.
+/// What is run, and with how many steps at most. The program lives for `'a`, its index for `'i`.
 #[derive(Clone, Copy)]
-pub(crate) struct Run<'a> {
-    pub program: &'a CProgram,
+pub(crate) struct Run<'i, 'a> {
+    pub program: &'i Indexed<'a>,
     pub budget: u64,
 }
 
 /// What waits for the end of the statements at hand.
 #[derive(Drop)]
-pub(crate) enum Kont<'a> {
+pub(crate) enum Kont<'i, 'a> {
     /// These statements are next.
     After(&'a [CStmt]),
     /// A loop's test is next, and then, behind the loop, these statements.
     Again(&'a COpnd, &'a [CStmt], &'a [CStmt]),
     /// What the function returns is assigned in the caller's frame; then the caller's type and statements.
-    Into(&'a CPath, Vec<Slot<'a>>, &'a CTy, &'a [CStmt]),
+    Into(&'a CPath, Frame<'i, 'a>, &'a CTy, &'a [CStmt]),
     /// What the function returns is let go; then the caller's frame, type and statements.
-    Aside(Vec<Slot<'a>>, &'a CTy, &'a [CStmt]),
+    Aside(Frame<'i, 'a>, &'a CTy, &'a [CStmt]),
 }
 
 /// The type of the function that runs, its statements that are next, its frame, what waits, the innermost last, and the steps
 /// that are left.
 #[derive(Drop)]
-pub(crate) struct Machine<'a> {
+pub(crate) struct Machine<'i, 'a> {
     pub ty: &'a CTy,
     pub stmts: &'a [CStmt],
-    pub frame: Vec<Slot<'a>>,
-    pub stack: Vec<Kont<'a>>,
+    pub frame: Frame<'i, 'a>,
+    pub stack: Vec<Kont<'i, 'a>>,
     pub left: u64,
 }
 
@@ -54,15 +56,19 @@ pub(crate) enum Next {
 
 /// A function that is entered: its type, its statements and its frame.
 #[derive(Drop)]
-pub(crate) struct Entered<'a> {
+pub(crate) struct Entered<'i, 'a> {
     pub ty: &'a CTy,
     pub stmts: &'a [CStmt],
-    pub frame: Vec<Slot<'a>>,
+    pub frame: Frame<'i, 'a>,
 }
 
 /// Other statements come first.
-fn descend<'a>(run: &Run<'a>, m: &mut Machine<'a>, stmts: &'a [CStmt]) -> Result<Next, RunFault>
-    ensures gives { Follows run.now m.old (block run.now m.old.ty.now stmts.now (frame_of m.old.frame.items) m.old.left) m.new result }
+fn descend<'i, 'a>(
+    run: &Run<'i, 'a>,
+    m: &mut Machine<'i, 'a>,
+    stmts: &'a [CStmt],
+) -> Result<Next, RunFault>
+    ensures gives { Follows run.now m.old (block run.now m.old.ty.now stmts.now m.old.frame m.old.left) m.new result }
     ensures falls { IfOk result (λ next. weight m.new ≤ weight m.old + 1) }
     ensures within { m.new.left ≡ m.old.left }
 {
@@ -72,16 +78,16 @@ fn descend<'a>(run: &Run<'a>, m: &mut Machine<'a>, stmts: &'a [CStmt]) -> Result
 }
 
 /// An `if`, whose step is counted.
-pub(crate) fn branch<'a>(
-    run: &Run<'a>,
-    m: &mut Machine<'a>,
+pub(crate) fn branch<'i, 'a>(
+    run: &Run<'i, 'a>,
+    m: &mut Machine<'i, 'a>,
     opnd: &'a COpnd,
     yes: &'a [CStmt],
     no: &'a [CStmt],
 ) -> Result<Next, RunFault>
-    ensures gives { Follows run.now m.old (lift (judge_of (frame_of m.old.frame.items) opnd.now) (λ v. choose (the_number v)
-        (block run.now m.old.ty.now yes.now (frame_of m.old.frame.items) m.old.left)
-        (block run.now m.old.ty.now no.now (frame_of m.old.frame.items) m.old.left))) m.new result }
+    ensures gives { Follows run.now m.old (lift (judge_of m.old.frame opnd.now) (λ v. choose (the_number v)
+        (block run.now m.old.ty.now yes.now m.old.frame m.old.left)
+        (block run.now m.old.ty.now no.now m.old.frame m.old.left))) m.new result }
     ensures falls { IfOk result (λ next. weight m.new ≤ weight m.old + 1) }
     ensures within { m.new.left ≡ m.old.left }
 {
@@ -98,13 +104,13 @@ pub(crate) fn branch<'a>(
 }
 
 /// The test of a loop, whose step is counted.
-pub(crate) fn test<'a>(
-    run: &Run<'a>,
-    m: &mut Machine<'a>,
+pub(crate) fn test<'i, 'a>(
+    run: &Run<'i, 'a>,
+    m: &mut Machine<'i, 'a>,
     opnd: &'a COpnd,
     body: &'a [CStmt],
 ) -> Result<Next, RunFault>
-    ensures gives { Follows run.now m.old (tested run.now m.old.ty.now opnd.now body.now (frame_of m.old.frame.items) m.old.left) m.new result }
+    ensures gives { Follows run.now m.old (tested run.now m.old.ty.now opnd.now body.now m.old.frame m.old.left) m.new result }
     ensures falls { IfOk result (λ next. weight m.new ≤ weight m.old + 1) }
     ensures within { m.new.left ≡ m.old.left }
 {
@@ -134,14 +140,14 @@ fn find_case<'a>(number: u64, arms: &'a [CCase]) -> Option<&'a [CStmt]>
 }
 
 /// A `switch`, whose step is counted.
-pub(crate) fn switch<'a>(
-    run: &Run<'a>,
-    m: &mut Machine<'a>,
+pub(crate) fn switch<'i, 'a>(
+    run: &Run<'i, 'a>,
+    m: &mut Machine<'i, 'a>,
     opnd: &'a COpnd,
     arms: &'a [CCase],
 ) -> Result<Next, RunFault>
-    ensures gives { Follows run.now m.old (lift (judge_of (frame_of m.old.frame.items) opnd.now) (λ v.
-        cases run.now m.old.ty.now (the_number v) arms.now (frame_of m.old.frame.items) m.old.left)) m.new result }
+    ensures gives { Follows run.now m.old (lift (judge_of m.old.frame opnd.now) (λ v.
+        cases run.now m.old.ty.now (the_number v) arms.now m.old.frame m.old.left)) m.new result }
     ensures falls { IfOk result (λ next. weight m.new ≤ weight m.old + 1) }
     ensures within { m.new.left ≡ m.old.left }
 {
@@ -155,12 +161,12 @@ pub(crate) fn switch<'a>(
 }
 
 /// A `return`, whose step is counted.
-pub(crate) fn give_back<'a>(
-    run: &Run<'a>,
-    m: &mut Machine<'a>,
+pub(crate) fn give_back<'i, 'a>(
+    run: &Run<'i, 'a>,
+    m: &mut Machine<'i, 'a>,
     opnd: &'a COpnd,
 ) -> Result<Next, RunFault>
-    ensures gives { Follows run.now m.old (lift (judge_of (frame_of m.old.frame.items) opnd.now) (λ v.
+    ensures gives { Follows run.now m.old (lift (judge_of m.old.frame opnd.now) (λ v.
         lift (give_of m.old.ty.now v) (λ n. done (back n) m.old.left))) m.new result }
     ensures falls { IfOk result (λ next. weight m.new ≤ weight m.old + 1) }
     ensures within { m.new.left ≡ m.old.left }
@@ -176,14 +182,14 @@ pub(crate) fn give_back<'a>(
 
 /// An operation on two operands.
 fn binary(
-    frame: &Vec<Slot<'_>>,
+    frame: &Frame<'_, '_>,
     outer: Word,
     inner: Word,
     op: COp,
     left: &COpnd,
     right: &COpnd,
 ) -> Result<Scalar, Why>
-    ensures { Gives value_of (simple (frame_of frame.now.items) (Binary outer inner op left.now right.now)) result }
+    ensures { Gives value_of (simple frame.now (Binary outer inner op left.now right.now)) result }
 {
     match judge(frame, left) {
         Err(why) => Err(why),
@@ -195,8 +201,8 @@ fn binary(
 }
 
 /// A conversion of an operand.
-fn convert(frame: &Vec<Slot<'_>>, word: Word, opnd: &COpnd) -> Result<Scalar, Why>
-    ensures { Gives value_of (simple (frame_of frame.now.items) (Conv word opnd.now)) result }
+fn convert(frame: &Frame<'_, '_>, word: Word, opnd: &COpnd) -> Result<Scalar, Why>
+    ensures { Gives value_of (simple frame.now (Conv word opnd.now)) result }
 {
     match judge(frame, opnd) {
         Err(why) => Err(why),
@@ -205,8 +211,8 @@ fn convert(frame: &Vec<Slot<'_>>, word: Word, opnd: &COpnd) -> Result<Scalar, Wh
 }
 
 /// What is assigned, where it isn't a call.
-fn right(frame: &Vec<Slot<'_>>, rhs: &CRhs) -> Result<Scalar, Why>
-    ensures { Gives value_of (simple (frame_of frame.now.items) rhs.now) result }
+fn right(frame: &Frame<'_, '_>, rhs: &CRhs) -> Result<Scalar, Why>
+    ensures { Gives value_of (simple frame.now rhs.now) result }
 {
     match rhs {
         CRhs::Opnd(opnd) => judge(frame, opnd),
@@ -227,14 +233,14 @@ fn right(frame: &Vec<Slot<'_>>, rhs: &CRhs) -> Result<Scalar, Why>
 }
 
 /// An assignment of other than a call, whose step is counted.
-pub(crate) fn assign<'a>(
-    run: &Run<'a>,
-    m: &mut Machine<'a>,
+pub(crate) fn assign<'i, 'a>(
+    run: &Run<'i, 'a>,
+    m: &mut Machine<'i, 'a>,
     path: &CPath,
     rhs: &CRhs,
 ) -> Result<Next, RunFault>
-    ensures gives { Follows run.now m.old (lift (simple (frame_of m.old.frame.items) rhs.now) (λ v.
-        assigned (write_of path.now v (frame_of m.old.frame.items)) m.old.left)) m.new result }
+    ensures gives { Follows run.now m.old (lift (simple m.old.frame rhs.now) (λ v.
+        assigned (write_of path.now v m.old.frame) m.old.left)) m.new result }
     ensures falls { IfOk result (λ next. weight m.new ≤ weight m.old + 1) }
     ensures within { m.new.left ≡ m.old.left }
 {

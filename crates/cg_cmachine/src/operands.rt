@@ -5,20 +5,12 @@ ghost use Rattle.std.specs.Prelude.{◌≡◌, ◌<◌, ◌%◌, ◌^◌, [], �
 ghost use Rattle.cg_base.specs.Words.{bits};
 ghost use Rattle.cg_ctree.specs.Runs as runs;
 ghost use Rattle.cg_ctree.specs.Runs.{ok, no, typed};
-ghost use Rattle.cg_cmachine.specs.Views.{variable_of, frame_of, value_of, Gives, Tries};
+ghost use Rattle.cg_cmachine.specs.Views.{value_of, Gives};
 
-use crate::RunFault;
+use crate::slots::Frame;
 use crate::words::{complement, fits, operate, same, wrapped};
-use cg_base::{Name, Word};
-use cg_ctree::{CDecl, COp, COpnd, CPath, CTy, Why};
-use std::alloc::Global;
-
-/// A variable of a frame: its declaration, and its number, where it is set.
-#[derive(Clone, Copy)]
-pub(crate) struct Slot<'a> {
-    pub decl: &'a CDecl,
-    pub value: Option<u64>,
-}
+use cg_base::Word;
+use cg_ctree::{COp, COpnd, CPath, CTy, Why};
 
 /// A number of every word that it is in range of, or one of a word.
 #[derive(Clone, Copy)]
@@ -35,18 +27,6 @@ pub(crate) fn number_of(scalar: Scalar) -> u64
         Scalar::Literal(number) => number,
         Scalar::Typed(_, number) => number,
     }
-}
-
-/// The first variable of a name, found by a walk.
-fn look<'a>(frame: &[Slot<'a>], name: &Name) -> Option<Slot<'a>>
-    ensures { option_map variable_of result ≡ runs.look name.now (frame_of frame.now) }
-{
-    for slot in frame {
-        if name.bytes() == slot.decl.name.bytes() {
-            return Some(*slot);
-        }
-    }
-    None
 }
 
 /// A scalar that is read at a type.
@@ -69,21 +49,21 @@ fn read(ty: &CTy, value: Option<u64>) -> Result<Scalar, Why>
 }
 
 /// What stands at a path.
-fn judge_path(frame: &Vec<Slot<'_>>, path: &CPath) -> Result<Scalar, Why>
-    ensures { Gives value_of (runs.judge_path (frame_of frame.now.items) path.now path.now.members) result }
+fn judge_path(frame: &Frame<'_, '_>, path: &CPath) -> Result<Scalar, Why>
+    ensures { Gives value_of (runs.judge_path frame.now path.now path.now.members) result }
 {
     if path.members.len() > 0 || path.arrow {
         return Err(Why::KindsDiffer);
     }
-    match look(frame, &path.base) {
+    match frame.look(&path.base) {
         None => Err(Why::KindsDiffer),
         Some(slot) => read(&slot.decl.ty, slot.value),
     }
 }
 
 /// An operand.
-pub(crate) fn judge(frame: &Vec<Slot<'_>>, opnd: &COpnd) -> Result<Scalar, Why>
-    ensures { Gives value_of (runs.judge (frame_of frame.now.items) opnd.now) result }
+pub(crate) fn judge(frame: &Frame<'_, '_>, opnd: &COpnd) -> Result<Scalar, Why>
+    ensures { Gives value_of (runs.judge frame.now opnd.now) result }
 {
     match opnd {
         COpnd::Number(number) => Ok(Scalar::Literal(*number)),

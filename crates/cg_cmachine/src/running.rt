@@ -4,14 +4,15 @@
 ghost use Rattle.std.specs.Prelude.{◌≡◌, ◌<◌, ◌≤◌, ◌+◌, suc, [], IfOk, length};
 ghost use Rattle.cg_ctree.specs.Runs.{as_value, back as back_of, done, goes, onward, write as write_of};
 ghost use Rattle.cg_cmachine.specs.Machine.{Ends, Follows, Went, assigned, block, on_kont, said, stmt as stmt_at, waits, weight};
-ghost use Rattle.cg_cmachine.specs.Views.{frame_of, value_of};
+ghost use Rattle.cg_cmachine.specs.Views.{value_of};
 ghost use Rattle.cg_cmachine.specs.declared.machine.Next.TheVariants.{Goes};
 
 use crate::RunFault;
 use crate::calls::{assign_any, call_aside};
 use crate::frames::write;
 use crate::machine::{Kont, Machine, Next, Run, branch, give_back, switch, test};
-use crate::operands::{Scalar, Slot};
+use crate::operands::Scalar;
+use crate::slots::Frame;
 use cg_ctree::{CPath, CStmt, CTy, Why};
 use std::alloc::Global;
 
@@ -26,14 +27,14 @@ fn returned(ty: &CTy, number: u64) -> Scalar
 }
 
 /// A statement, whose step is counted.
-fn begin<'a>(
+fn begin<'i, 'a>(
     alloc: Global,
-    run: &Run<'a>,
-    m: &mut Machine<'a>,
+    run: &Run<'i, 'a>,
+    m: &mut Machine<'i, 'a>,
     stmt: &'a CStmt,
 ) -> Result<Next, RunFault>
     requires small { m.old.left < run.now.budget }
-    ensures gives { Follows run.now m.old (stmt_at run.now m.old.ty.now stmt.now (frame_of m.old.frame.items) (suc m.old.left)) m.new result }
+    ensures gives { Follows run.now m.old (stmt_at run.now m.old.ty.now stmt.now m.old.frame (suc m.old.left)) m.new result }
     ensures falls { IfOk result (λ next. weight m.new ≤ weight m.old + 1) }
     ensures within { m.new.left ≡ m.old.left }
 {
@@ -48,9 +49,13 @@ fn begin<'a>(
 }
 
 /// The statements of what waited are next, or its loop's test is.
-fn carry_on<'a>(run: &Run<'a>, m: &mut Machine<'a>, kont: Kont<'a>) -> Result<Next, RunFault>
+fn carry_on<'i, 'a>(
+    run: &Run<'i, 'a>,
+    m: &mut Machine<'i, 'a>,
+    kont: Kont<'i, 'a>,
+) -> Result<Next, RunFault>
     requires small { m.old.left ≤ run.now.budget }
-    ensures gives { Went run.now m.new (on_kont run.now kont.entry (waits run.now m.old.stack.items) m.old.ty.now (done (goes (frame_of m.old.frame.items)) m.old.left)) result }
+    ensures gives { Went run.now m.new (on_kont run.now kont.entry (waits run.now m.old.stack.items) m.old.ty.now (done (goes m.old.frame) m.old.left)) result }
     ensures falls { IfOk result (λ next. weight m.new ≤ weight m.old) }
     ensures within { m.new.left ≤ m.old.left }
 {
@@ -73,9 +78,9 @@ fn carry_on<'a>(run: &Run<'a>, m: &mut Machine<'a>, kont: Kont<'a>) -> Result<Ne
 }
 
 /// The statements at hand are done.
-fn end<'a>(run: &Run<'a>, m: &mut Machine<'a>) -> Result<Next, RunFault>
+fn end<'i, 'a>(run: &Run<'i, 'a>, m: &mut Machine<'i, 'a>) -> Result<Next, RunFault>
     requires small { m.old.left ≤ run.now.budget }
-    ensures gives { Went run.now m.new (waits run.now m.old.stack.items m.old.ty.now (done (goes (frame_of m.old.frame.items)) m.old.left)) result }
+    ensures gives { Went run.now m.new (waits run.now m.old.stack.items m.old.ty.now (done (goes m.old.frame) m.old.left)) result }
     ensures falls { IfOk result (λ next. weight m.new < weight m.old) }
     ensures within { m.new.left ≤ m.old.left }
 {
@@ -86,7 +91,7 @@ fn end<'a>(run: &Run<'a>, m: &mut Machine<'a>) -> Result<Next, RunFault>
 }
 
 /// One step, or where statements end.
-fn step<'a>(alloc: Global, run: &Run<'a>, m: &mut Machine<'a>) -> Result<Next, RunFault>
+fn step<'i, 'a>(alloc: Global, run: &Run<'i, 'a>, m: &mut Machine<'i, 'a>) -> Result<Next, RunFault>
     requires small { m.old.left ≤ run.now.budget }
     ensures gives { Went run.now m.new (said run.now m.old Goes) result }
     ensures falls { IfOk result (λ next. weight m.new < weight m.old) }
@@ -106,16 +111,16 @@ fn step<'a>(alloc: Global, run: &Run<'a>, m: &mut Machine<'a>) -> Result<Next, R
 }
 
 /// A number is returned to a caller, which assigns it.
-fn back_into<'a>(
-    run: &Run<'a>,
-    m: &mut Machine<'a>,
+fn back_into<'i, 'a>(
+    run: &Run<'i, 'a>,
+    m: &mut Machine<'i, 'a>,
     path: &'a CPath,
-    frame: Vec<Slot<'a>>,
+    frame: Frame<'i, 'a>,
     ty: &'a CTy,
     stmts: &'a [CStmt],
     number: u64,
 ) -> Result<Next, RunFault>
-    ensures gives { Went run.now m.new (waits run.now m.old.stack.items ty.now (onward (assigned (write_of path.now (as_value m.old.ty.now number) (frame_of frame.entry.items)) m.old.left) (block run.now ty.now stmts.now))) result }
+    ensures gives { Went run.now m.new (waits run.now m.old.stack.items ty.now (onward (assigned (write_of path.now (as_value m.old.ty.now number) frame.entry) m.old.left) (block run.now ty.now stmts.now))) result }
     ensures falls { IfOk result (λ next. weight m.new ≤ weight m.old) }
     ensures within { m.new.left ≡ m.old.left }
 {
@@ -132,10 +137,10 @@ fn back_into<'a>(
 }
 
 /// A number is returned to what waits.
-fn back<'a>(
-    run: &Run<'a>,
-    m: &mut Machine<'a>,
-    kont: Kont<'a>,
+fn back<'i, 'a>(
+    run: &Run<'i, 'a>,
+    m: &mut Machine<'i, 'a>,
+    kont: Kont<'i, 'a>,
     number: u64,
 ) -> Result<Next, RunFault>
     ensures gives { Went run.now m.new (on_kont run.now kont.entry (waits run.now m.old.stack.items) m.old.ty.now (done (back_of number) m.old.left)) result }
@@ -156,10 +161,10 @@ fn back<'a>(
 }
 
 /// Runs to the end: what is returned, and the steps that are left.
-pub(crate) fn go_on<'a>(
+pub(crate) fn go_on<'i, 'a>(
     alloc: Global,
-    run: &Run<'a>,
-    start: Machine<'a>,
+    run: &Run<'i, 'a>,
+    start: Machine<'i, 'a>,
 ) -> Result<(Scalar, u64), RunFault>
     requires small { start.left ≤ run.now.budget }
     ensures ends { Ends (said run.now start.entry Goes) result }
