@@ -4,6 +4,7 @@ pub mod Contained
 pub mod Evaluations
 pub mod Frames
 pub mod LowerSteps
+pub mod MoveSteps
 pub mod Names
 pub mod OrderSteps
 pub mod ProgramSteps

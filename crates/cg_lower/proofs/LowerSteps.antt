@@ -10,10 +10,10 @@ use Rattle.cg_core.specs.declared.term.Term.{Term}
 use Rattle.cg_core.specs.declared.term.Typed.{Typed}
 use Rattle.cg_core.specs.Kernels.{the_core}
 use Rattle.cg_core.specs.Terms.{Note, Tree, term, Shape, fun, op, app, lets, Trees, none, more, to_trees}
-use Rattle.cg_ctree.specs.declared.tree.COp.TheVariants.{Add as Plus}
+use Rattle.cg_cgen.specs.Code.{op_code}
 use Rattle.cg_ctree.specs.declared.tree.COpnd.{COpnd}
 use Rattle.cg_ctree.specs.declared.tree.COpnd.TheVariants.{Path}
-use Rattle.cg_ctree.specs.declared.tree.CRhs.TheVariants.{Binary, Call}
+use Rattle.cg_ctree.specs.declared.tree.CRhs.TheVariants.{Call}
 use Rattle.cg_ctree.specs.declared.tree.CStmt as statement
 use Rattle.cg_ctree.specs.declared.tree.CStmt.{CStmt}
 use Rattle.cg_ctree.specs.declared.tree.CStmt.TheVariants as statements
@@ -28,7 +28,7 @@ unfolding digits
 argument_is = refl
 
 sum_count : (k : ℕ) (a b : Low) → a.count ≡ length a.code → b.count ≡ length b.code → (low_sum k a b).count ≡ length (low_sum k a b).code
-sum_count k a b e f = omega (arith, e, f, length-append (a.code ++ b.code) (assign (path (local (k + (a.count + b.count)))) (Binary U32 U32 Plus a.value b.value) ∷ []), length-append a.code b.code)
+sum_count k a b e f = omega (arith, e, f, length-append (a.code ++ b.code) (op_code Add U32 (path (local (k + (a.count + b.count)))) a.value b.value), length-append a.code b.code)
 
 let_count : (a b : Low) → a.count ≡ length a.code → b.count ≡ length b.code → (low_let a b).count ≡ length (low_let a b).code
 let_count a b e f = omega (arith, e, f, length-append a.code b.code)
@@ -96,15 +96,15 @@ two_more : (xs ys zs s : List Stmt) → ((xs ++ ys) ++ zs) ++ s ≡ xs ++ ((ys +
 two_more xs ys zs s = ap (λ z. z ++ s) (append_assoc xs ys zs) ∙ append_assoc xs (ys ++ zs) s
 
 sum_after : (old mid new last : List CStmt) (l r p : Place) (a b : Low) → After old mid l a → After mid new r b
-    → map stmt_of last ≡ map stmt_of new ++ assign (path (local (length new))) (Binary U32 U32 Plus (operand_of l) (operand_of r)) ∷ [] → operand_of p ≡ Path (path (local (length new)))
+    → map stmt_of last ≡ map stmt_of new ++ op_code Add U32 (path (local (length new))) (operand_of l) (operand_of r) → operand_of p ≡ Path (path (local (length new)))
     → length new ≡ length old + (a.count + b.count) → After old last p (low_sum (length old) a b)
 sum_after old mid new last l r p a b f g e v n = record {
   value = v ∙ ap (λ z. Path (path (local z))) n;
-  code = e ∙ ap (λ z. map stmt_of new ++ assign (path (local z)) (Binary U32 U32 Plus (operand_of l) (operand_of r)) ∷ []) n
-      ∙ ap (λ o. map stmt_of new ++ assign (path (local (length old + (a.count + b.count)))) (Binary U32 U32 Plus o (operand_of r)) ∷ []) f.value
-      ∙ ap (λ o. map stmt_of new ++ assign (path (local (length old + (a.count + b.count)))) (Binary U32 U32 Plus a.value o) ∷ []) g.value
-      ∙ ap (λ z. z ++ assign (path (local (length old + (a.count + b.count)))) (Binary U32 U32 Plus a.value b.value) ∷ []) (g.code ∙ ap (λ z. z ++ b.code) f.code)
-      ∙ two_more (map stmt_of old) a.code b.code (assign (path (local (length old + (a.count + b.count)))) (Binary U32 U32 Plus a.value b.value) ∷ []);
+  code = e ∙ ap (λ z. map stmt_of new ++ op_code Add U32 (path (local z)) (operand_of l) (operand_of r)) n
+      ∙ ap (λ o. map stmt_of new ++ op_code Add U32 (path (local (length old + (a.count + b.count)))) o (operand_of r)) f.value
+      ∙ ap (λ o. map stmt_of new ++ op_code Add U32 (path (local (length old + (a.count + b.count)))) a.value o) g.value
+      ∙ ap (λ z. z ++ op_code Add U32 (path (local (length old + (a.count + b.count)))) a.value b.value) (g.code ∙ ap (λ z. z ++ b.code) f.code)
+      ∙ two_more (map stmt_of old) a.code b.code (op_code Add U32 (path (local (length old + (a.count + b.count)))) a.value b.value);
 }
 
 let_after : (old mid new : List CStmt) (l p : Place) (e b : Low) → After old mid l e → After mid new p b → After old new p (low_let e b)
@@ -146,7 +146,7 @@ after_call old new last os f l p (term note _) x c a e v = absurd (cc)
 -- a sum, whose operands are lowered
 pub after_sum : (old mid new last : List CStmt) (os : List COpnd) (l r p : Place) (a b : Tree Note)
     → After old mid l (low (length old) os a) → After mid new r (low (length mid) os b)
-    → map stmt_of last ≡ map stmt_of new ++ assign (path (local (length new))) (Binary U32 U32 Plus (operand_of l) (operand_of r)) ∷ [] → operand_of p ≡ Path (path (local (length new)))
+    → map stmt_of last ≡ map stmt_of new ++ op_code Add U32 (path (local (length new))) (operand_of l) (operand_of r) → operand_of p ≡ Path (path (local (length new)))
     → After old last p (low_sum (length old) (low (length old) os a) (low (length old + (low (length old) os a).count) os b))
 after_sum old mid new last os l r p a b f g e v = sum_after old mid new last l r p A B f g' e v n
   where

@@ -7,10 +7,9 @@ use Rattle.cg_base.specs.declared.place.Place.{Place}
 use Rattle.cg_base.specs.Types.{word as word_type}
 use Rattle.cg_core.specs.declared.op.Op.TheVariants.{Add as Plus}
 use Rattle.cg_core.specs.Terms.{Note, Tree, term, Shape, var, lit, fun, op, app, lets, none, more}
-use Rattle.cg_ctree.specs.declared.tree.COp.TheVariants.{Add}
 use Rattle.cg_ctree.specs.declared.tree.COpnd.{COpnd}
 use Rattle.cg_ctree.specs.declared.tree.COpnd.TheVariants.{Number}
-use Rattle.cg_ctree.specs.declared.tree.CRhs.TheVariants.{Binary, Call}
+use Rattle.cg_ctree.specs.declared.tree.CRhs.TheVariants.{Call}
 use Rattle.cg_ctree.specs.Runs.{Frame, set}
 use Rattle.cg_ctree.specs.Trees.{assign, Program}
 use Rattle.cg_value.specs.Values.{Val, number, function, gone}
@@ -19,7 +18,7 @@ use Rattle.cg_lower.specs.Lowered.{local, path, function_name, Low, leaf, low_su
 use Rattle.cg_lower.specs.Simulated.{IsWordTerm}
 use Rattle.cg_lower.proofs.Names.{older}
 use Rattle.cg_lower.proofs.Frames.{HasVar, Grows, grows_refl, grows_on, Has, Under, under_more, Holds, holds_later, holds_number, Kept, kept, Env, env_later, env_push, env_at}
-use Rattle.cg_lower.proofs.Steps.{Runs, runs_none, runs_on, runs_sum, Answers, runs_call}
+use Rattle.cg_lower.proofs.Steps.{Runs, runs_none, runs_on, sum_code, sum_gives, runs_sum, Answers, runs_call}
 use Rattle.cg_lower.proofs.Evaluations.{gives_is, paid_is}
 use Rattle.cg_lower.proofs.Evaluations as parts
 
@@ -80,6 +79,7 @@ module _ (p : Program) where
       let r = (a.result + b.result) % 2 ^ 32 in
       let there : HasVar b.frame (local to) = b.grows.vars (local to) (a.grows.vars (local to) (has to (omega arith) (omega arith))) in
       let first : Holds b.frame A.value a.result = holds_later (k + A.count) a.frame b.frame A.value a.result b.grows a.under a.holds in
+      let C = sum_gives to A.value B.value in
       let K : Kept k fr (set (local to) r b.frame) to r =
       kept k fr b.frame to r (omega arith) (omega (arith, bound)) (grows_on k (k + A.count) fr a.frame b.frame (omega arith) a.grows b.grows) there (sum_small a.result b.result) in
       record {
@@ -88,9 +88,9 @@ module _ (p : Program) where
         cost = 1 + a.cost + b.cost;
         paid = omega (arith, a.paid, b.paid);
         frame = set (local to) r b.frame;
-        steps = a.steps + b.steps + 1;
-        within = omega (arith, a.within, b.within);
-        runs = runs_on p (A.code ++ B.code) (assign (path (local to)) (Binary U32 U32 Add A.value B.value) ∷ []) fr b.frame (set (local to) r b.frame) (a.steps + b.steps) 1
+        steps = a.steps + b.steps + C.steps;
+        within = omega (arith, a.within, b.within, C.within);
+        runs = runs_on p (A.code ++ B.code) (sum_code to A.value B.value) fr b.frame (set (local to) r b.frame) (a.steps + b.steps) C.steps
             (runs_on p A.code B.code fr a.frame b.frame a.steps b.steps a.runs b.runs)
             (runs_sum p to A.value B.value b.frame a.result b.result first b.holds there);
         grows = K.grows;

@@ -1,12 +1,14 @@
 -- Runs of lowered statements, and how they join.
 use Rattle.std.proofs.Common.{◌≡◌, ℕ, suc, ◌+◌, ◌%◌, ◌^◌, ◌<◌, ◌≤◌, List, [], ◌∷◌, ◌++◌, refl, sym, ap, ◌∙◌, subst, arith}
-use Rattle.std.proofs.Math.Nat.{mod-eq_of_lt, mod-mod}
 use Rattle.cg_base.specs.declared.kind.Word.TheVariants.{U32}
-use Rattle.cg_ctree.specs.declared.tree.COp.TheVariants.{Add}
+use Rattle.cg_cgen.proofs.Computing.{op_code_computes}
+use Rattle.cg_cgen.specs.Code.{op_code}
+use Rattle.cg_cgen.specs.Computed.{Gives, IsNumber, IsVariable}
+use Rattle.cg_core.specs.declared.op.Op.TheVariants.{Add}
 use Rattle.cg_ctree.specs.declared.tree.COpnd.{COpnd}
 use Rattle.cg_ctree.specs.declared.tree.CPath.{CPath}
 use Rattle.cg_ctree.specs.declared.tree.CRhs.{CRhs}
-use Rattle.cg_ctree.specs.declared.tree.CRhs.TheVariants.{Binary, Call}
+use Rattle.cg_ctree.specs.declared.tree.CRhs.TheVariants.{Call}
 use Rattle.cg_ctree.specs.declared.tree.CTy.{CTy}
 use Rattle.cg_ctree.specs.Runs.{ok, Value, typed, Frame, set, give, write, Outcome, done, stuck, needs, Flow, goes, back, onward, lift, bind, Calls, right, run_stmt, run_block, calls_in}
 use Rattle.cg_ctree.specs.Trees.{Stmt, assign, return', to_block, Program}
@@ -72,23 +74,27 @@ runs_assign p to rhs fr fr' v n h w =
           (assigned (calls_in p m) m to rhs fr fr' v (n + b') b' (h m (n + b') b' refl (omega arith)) w));
     }
 
--- a sum of words
-sum_is : (x y : ℕ) → x < 2 ^ 32 → y < 2 ^ 32 → (x % 2 ^ 32 + y % 2 ^ 32) % 2 ^ 32 % 2 ^ 32 ≡ (x + y) % 2 ^ 32
-sum_is x y h k =
-    mod-mod (x % 2 ^ 32 + y % 2 ^ 32) (2 ^ 32)
-    ∙ ap (λ z. (z + y % 2 ^ 32) % 2 ^ 32) (mod-eq_of_lt h)
-    ∙ ap (λ z. (x + z) % 2 ^ 32) (mod-eq_of_lt k)
+-- the C of a sum
+abbrev pub sum_code : ℕ → COpnd → COpnd → List Stmt
+sum_code to o o' = op_code Add U32 (path (local to)) o o'
 
-right_sum : (c : Calls) (o o' : COpnd) (fr : Frame) (x y b : ℕ) → Holds fr o x → Holds fr o' y → right c (Binary U32 U32 Add o o') fr b ≡ done (typed U32 ((x + y) % 2 ^ 32)) b
-right_sum c o o' fr x y b h k =
-    rw (h.judged, k.judged, h.counts, k.counts) (ap (λ z. done (typed U32 z) b) (sum_is x y h.small k.small))
+pub sum_gives : (to : ℕ) (o o' : COpnd) → Gives U32 (path (local to)) o o' (λ a b. (a + b) % 2 ^ 32) (sum_code to o o')
+sum_gives to o o' = op_code_computes Add U32 (path (local to)) o o'
+
+is_number : (fr : Frame) (o : COpnd) (n : ℕ) → Holds fr o n → IsNumber U32 fr o n
+is_number fr o n h = record { value = h.value; judged = h.judged; given = h.given }
+
+is_variable : (fr : Frame) (to : ℕ) → HasVar fr (local to) → IsVariable U32 fr (path (local to))
+is_variable fr to v = record { no_arrow = refl; no_members = refl; variable = v.var; found = v.found; is_word = v.is_word }
 
 pub runs_sum : (p : Program) (to : ℕ) (o o' : COpnd) (fr : Frame) (x y : ℕ) → Holds fr o x → Holds fr o' y → HasVar fr (local to)
-    → Runs p (assign (path (local to)) (Binary U32 U32 Add o o') ∷ []) fr 1 (set (local to) ((x + y) % 2 ^ 32) fr)
+    → Runs p (sum_code to o o') fr (sum_gives to o o').steps (set (local to) ((x + y) % 2 ^ 32) fr)
 runs_sum p to o o' fr x y h k v =
-    runs_assign p (path (local to)) (Binary U32 U32 Add o o') fr (set (local to) ((x + y) % 2 ^ 32) fr) (typed U32 ((x + y) % 2 ^ 32)) 0
-    (λ m b b' e le. let q : b ≡ b' = omega arith in right_sum (calls_in p m) o o' fr x y b h k ∙ ap (done (typed U32 ((x + y) % 2 ^ 32))) q)
-    (write_local fr (local to) (typed U32 ((x + y) % 2 ^ 32)) ((x + y) % 2 ^ 32) v refl)
+    record {
+      by = λ m b b' e le.
+          subst (λ z. run_block (calls_in p m) m word (to_block (sum_code to o o')) fr z ≡ done (goes (set (local to) ((x + y) % 2 ^ 32) fr)) b') (sym e)
+          ((sum_gives to o o').runs (calls_in p m) m word fr b' x y (is_number fr o x h) (is_number fr o' y k) (is_variable fr to v));
+    }
 
 -- what a call of a function on the number x does in so many steps, where budget and depth suffice
 pub record Answers (p : Program) (f : List ℕ) (x steps r : ℕ) : Type 0 where

@@ -6,12 +6,12 @@ use Rattle.cg_base.specs.declared.fun.Fun.TheVariants.{User}
 use Rattle.cg_base.specs.declared.kind.Word.TheVariants.{U32}
 use Rattle.cg_core.specs.declared.op.Op.TheVariants.{Add as Plus}
 use Rattle.cg_core.specs.Terms.{Note, Tree, term, Shape, var, lit, fun, op, app, lets, none, more}
+use Rattle.cg_cgen.specs.Code.{op_code}
 use Rattle.cg_ctree.specs.declared.tree.CDecl.{CDecl}
-use Rattle.cg_ctree.specs.declared.tree.COp.TheVariants.{Add}
 use Rattle.cg_ctree.specs.declared.tree.COpnd.{COpnd}
 use Rattle.cg_ctree.specs.declared.tree.COpnd.TheVariants.{Number, Path}
 use Rattle.cg_ctree.specs.declared.tree.CPath.{CPath}
-use Rattle.cg_ctree.specs.declared.tree.CRhs.TheVariants.{Binary, Call}
+use Rattle.cg_ctree.specs.declared.tree.CRhs.TheVariants.{Call}
 use Rattle.cg_ctree.specs.declared.tree.CTy.{CTy}
 use Rattle.cg_ctree.specs.declared.tree.CTy.TheVariants.{Word}
 use Rattle.cg_ctree.specs.Trees.{Stmt, assign, return', to_block, Function, Program}
@@ -57,20 +57,20 @@ abbrev pub literal : Option ℕ → ℕ
 literal None = 0
 literal (Some n) = n
 
--- what is assigned to the next local, after some code
-abbrev pub assigned : ℕ → ℕ → List Stmt → Stmt → Low
-assigned k count code s = record { value = Path (path (local (k + count))); count = count + 1; code = code ++ s ∷ [] }
+-- what sets the next local, after some code
+abbrev pub assigned : ℕ → ℕ → List Stmt → List Stmt → Low
+assigned k count code stmts = record { value = Path (path (local (k + count))); count = count + 1; code = code ++ stmts }
 
 -- a sum, a `let` and a call, of their lowered parts
 abbrev pub low_sum : ℕ → Low → Low → Low
 low_sum k a b =
-    assigned k (a.count + b.count) (a.code ++ b.code) (assign (path (local (k + (a.count + b.count)))) (Binary U32 U32 Add a.value b.value))
+    assigned k (a.count + b.count) (a.code ++ b.code) (op_code Plus U32 (path (local (k + (a.count + b.count)))) a.value b.value)
 
 abbrev pub low_let : Low → Low → Low
 low_let e b = record { value = b.value; count = e.count + b.count; code = e.code ++ b.code }
 
 abbrev pub low_call : ℕ → ℕ → Low → Low
-low_call k f x = assigned k x.count x.code (assign (path (local (k + x.count))) (Call (function_name f) (x.value ∷ [])))
+low_call k f x = assigned k x.count x.code (assign (path (local (k + x.count))) (Call (function_name f) (x.value ∷ [])) ∷ [])
 
 -- A term whose variables stand at these operands and whose locals are counted from k on.
 unfoldable mutual

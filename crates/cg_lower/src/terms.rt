@@ -1,24 +1,26 @@
 // The C of a plain source's functions.
 #![tactic(auto, unfolding(crate::specs::Lowered::low, crate::specs::Lowered::low_shape, crate::proofs::LowerSteps::size), using(crate::proofs::LowerSteps::lower_steps))]
 
-ghost use Rattle.std.specs.Prelude.{◌≡◌, ◌+◌, ◌++◌, [], ◌∷◌, length, map, get_or, IfOk};
+ghost use Rattle.std.specs.Prelude.{◌≡◌, ◌+◌, ◌++◌, [], ◌∷◌, length, map, get_or, IfOk, OnOk};
 ghost use Rattle.cg_core.specs.Kernels.{the_core};
 ghost use Rattle.cg_core.specs.Terms.{to_trees};
 ghost use Rattle.cg_ctree.specs.Trees.{stmt_of};
 ghost use Rattle.cg_core.specs.declared.op.Op.TheVariants.{Add};
 ghost use Rattle.cg_core.specs.Terms.{op as op_of, app as app_of};
-ghost use Rattle.cg_ctree.specs.declared.tree.COp.TheVariants.{Add as Plus};
 ghost use Rattle.cg_ctree.specs.declared.tree.COpnd.TheVariants.{Number, Path};
-ghost use Rattle.cg_ctree.specs.declared.tree.CRhs.TheVariants.{Binary, Call};
+ghost use Rattle.cg_ctree.specs.declared.tree.CRhs.TheVariants.{Call};
 ghost use Rattle.cg_ctree.specs.Trees.{assign as assign_of};
+ghost use Rattle.cg_cgen.specs.Code.{op_code};
 ghost use Rattle.cg_base.specs.declared.kind.Word.TheVariants.{U32};
 ghost use Rattle.cg_lower.specs.Lowered.{low, low_shape, low_let, literal as literal_of, path as path_of, local as local_of, function_name as function_name_of};
 ghost use Rattle.cg_lower.specs.Places.{operand_of, After, Lowers, called_in};
 
 use cg_base::{Fun, Items, Memory, Name, Word};
+use cg_cgen::op_stmts;
 use cg_core::{Form, Op, Term, Typed};
-use cg_ctree::{COp, COpnd, CPath, CRhs, CStmt};
+use cg_ctree::{COpnd, CPath, CRhs, CStmt};
 use std::alloc::Global;
+use std::mem;
 
 /// Where the value of a term stands: a number, the argument, or a local.
 #[derive(Clone, Copy, Debug, PartialEq, Eq)]
@@ -92,13 +94,28 @@ fn literal(number: Option<u64>) -> Place
     Place::Number(number.unwrap_or(0))
 }
 
-// The right side of a sum.
-fn sum(alloc: Global, left: Place, right: Place) -> Result<CRhs, Memory>
-    ensures { IfOk result (λ r. r ≡ Binary U32 U32 Plus (operand_of left) (operand_of right)) }
+// Moves statements behind others.
+fn append(code: &mut Items<CStmt>, mut stmts: Items<CStmt>) -> Result<(), Memory>
+    ensures { OnOk result (code.new ≡ code.old ++ stmts) }
 {
+    for stmt in stmts.as_mut_slice() {
+        code.push(mem::replace(stmt, CStmt::Return(COpnd::Number(0))))?;
+    }
+    Ok(())
+}
+
+// Adds two places into the next local.
+fn add(alloc: Global, code: &mut Items<CStmt>, left: Place, right: Place) -> Result<Place, Memory>
+    ensures code { IfOk result (λ place. map stmt_of code.new ≡ map stmt_of code.old ++ op_code Add U32 (path_of (local_of (length code.old))) (operand_of left) (operand_of right)) }
+    ensures place { IfOk result (λ place. operand_of place ≡ Path (path_of (local_of (length code.old)))) }
+{
+    let at = code.len();
+    let target = path(local(alloc, at)?, alloc);
     let left = operand(alloc, left)?;
     let right = operand(alloc, right)?;
-    Ok(CRhs::Binary(Word::U32, Word::U32, COp::Add, left, right))
+    let stmts = op_stmts(alloc, Op::Add, Word::U32, target, left, right)?;
+    append(code, stmts)?;
+    Ok(Place::Local(at))
 }
 
 // The right side of a call.
@@ -148,7 +165,7 @@ fn lower_sum(
         [left, right] => {
             let left = lower_term(alloc, code, scope, left)?;
             let right = lower_term(alloc, code, scope, right)?;
-            assign(alloc, code, sum(alloc, left, right)?)
+            add(alloc, code, left, right)
         }
         _ => Ok(Place::Number(0)),
     }

@@ -27,12 +27,12 @@ lower_sum-lower_term-requires-in-len2 t c =
     let e = size_two c.args.operands.now c.left-item.result c.right-item.result c.in-len2.len_at_least c.in-len2.len_below c.left-item.is c.right-item.is in
     grind (arith, c.decreases)
 
-pub lower_sum-returns-in_ok-sum-in-len2-clause-code : goal.lower_sum-returns-in_ok-sum-in-len2-clause-code
+pub lower_sum-returns-in_ok-right-in-len2-clause-code : goal.lower_sum-returns-in_ok-right-in-len2-clause-code
 unfolding low
-lower_sum-returns-in_ok-sum-in-len2-clause-code t c =
+lower_sum-returns-in_ok-right-in-len2-clause-code t c =
     let e = two_terms c.args.operands.now c.left-item.result c.right-item.result c.in-len2.len_at_least c.in-len2.len_below c.left-item.is c.right-item.is in
-    let h = after_sum c.args.code.now c.lower_term.new.code c.lower_term-in-len2.new.code c.assign.new.code (map operand_of c.args.scope.now.items) c.in_ok-left-in-len2.left c.in_ok-right-in-len2.right in
-    grind (arith, h, c.assign.ensures, c.in_ok-left-in-len2.ensures, c.in_ok-right-in-len2.ensures, c.in_ok-sum-in-len2.ensures)
+    let h = after_sum c.args.code.now c.lower_term.new.code c.lower_term-in-len2.new.code c.add.new.code (map operand_of c.args.scope.now.items) c.in_ok-left-in-len2.left c.in_ok-right-in-len2.right in
+    grind (arith, h, c.add.ensures, c.in_ok-left-in-len2.ensures, c.in_ok-right-in-len2.ensures)
 
 pub lower_sum-returns-in_default-clause-code : goal.lower_sum-returns-in_default-clause-code
 lower_sum-returns-in_default-clause-code t c =
