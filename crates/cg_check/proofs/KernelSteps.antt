@@ -59,9 +59,10 @@ pub kept_of : (kernel : Kernel) (cores : List (Option (Term Typed))) (trees : Li
     → AreKept (kernel_of kernel) (kernel_of kernel) (map maybe_core cores) (map maybe_tree trees)
 kept_of kernel cores trees small accepted c t = rw c (rw t (kept (kernel_of kernel) small accepted))
 
-pub is_checked : (kernel : Kernel) (checked : Checked) → IsAcceptedKernel (kernel_of kernel) → kernel_in checked ≡ kernel
+pub is_checked : (kernel : Kernel) (checked : Checked) → IsSmallKernel (kernel_of kernel) → IsAcceptedKernel (kernel_of kernel) → kernel_in checked ≡ kernel
     → map maybe_core (cores_in checked) ≡ map (function_core (kernel_of kernel)) (kernel_of kernel)
     → map maybe_tree (trees_in checked) ≡ map (function_tree (kernel_of kernel)) (kernel_of kernel) → IsChecked kernel checked
-is_checked kernel checked accepted same cores trees = record { accepted = accepted; same = same; cores = cores; trees = trees }
+is_checked kernel checked small accepted same cores trees =
+    record { accepted = accepted; same = same; cores = cores; trees = trees; kept = kept_of kernel (cores_in checked) (trees_in checked) small accepted cores trees }
 
 pub ruleset kernel_steps = (judged, kept_of, is_checked, from_here, small_body)

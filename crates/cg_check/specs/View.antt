@@ -9,7 +9,7 @@ use Rattle.cg_core.specs.Kernels.{Function, kernel_of}
 use Rattle.cg_typing.specs.declared.checked.Checked.{Checked}
 use Rattle.cg_typing.specs.Accepted.{IsAcceptedKernel}
 use Rattle.cg_typing.specs.Holds.{kernel_in, cores_in, trees_in}
-use Rattle.cg_typing.specs.Kept.{maybe_core, maybe_tree}
+use Rattle.cg_typing.specs.Kept.{AreKept, maybe_core, maybe_tree}
 use Rattle.cg_faults.specs.Faults.{kernel_events, first_failing}
 use Rattle.cg_faults.specs.declared.rule.Rule.{Rule}
 use Rattle.cg_check.specs.declared.pass.Got.{Got as Got'}
@@ -54,6 +54,8 @@ pub record IsChecked (kernel : Kernel) (checked : Checked) : Type 0 where
   pub same : kernel_in checked ≡ kernel
   pub cores : map maybe_core (cores_in checked) ≡ map (function_core (kernel_of kernel)) (kernel_of kernel)
   pub trees : map maybe_tree (trees_in checked) ≡ map (function_tree (kernel_of kernel)) (kernel_of kernel)
+  -- these are cores that the rules derive
+  pub kept : AreKept (kernel_of kernel) (kernel_of kernel) (map maybe_core (cores_in checked)) (map maybe_tree (trees_in checked))
 
 -- what the checker's answer says of a kernel: it is accepted and kept, or refused by a rule at a place, unless memory is wanting
 abbrev pub Judges : Kernel → Result Checked Refusal → Type 0

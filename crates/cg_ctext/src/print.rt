@@ -28,6 +28,7 @@ fn text_of(alloc: Global, program: &CProgram) -> Result<Vec<u8>, Memory>
 pub fn print_c(alloc: Global, program: &CProgram) -> Result<Vec<u8>, Memory>
     requires printable { IsPrintable (program_of program.now) }
     ensures spells { IfOk result (λ text. CSpells text.items (program_of program.now)) }
+    ensures exactly { IfOk result (λ text. text.items ≡ printed (program_of program.now)) }
     ensures begins { IfOk result (λ text. BeginsWith first_line text.items) }
 {
     let text = text_of(alloc, program)?;

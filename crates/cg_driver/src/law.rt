@@ -2,8 +2,8 @@
 ghost use Rattle.std.specs.Prelude.{◌≡◌, ◌≢◌, ◌⊎◌, ℕ, List, None, Some};
 ghost use Rattle.cg_outside.specs.Held.{bytes_at};
 ghost use Rattle.cg_outside.specs.Memory.{honest_held, honest_taken};
-ghost use Rattle.cg_driver.specs.Words.{texts, checked_file};
-ghost use Rattle.cg_driver.specs.Answer.{Says, Answers, Decides};
+ghost use Rattle.cg_words.specs.Words.{texts, command_of, check, run as run_of};
+ghost use Rattle.cg_driver.specs.Says.{Says, Answers, CheckStatus, RunStatus, Decides};
 
 use crate::{Status, cogent};
 use cg_outside::{HonestFiles, HonestSink};
@@ -28,13 +28,15 @@ pub fn honest_cogent(
     ensures no_read_fault { result ≢ Status.ReadFault }
     ensures no_write_fault { result ≢ Status.WriteFault }
 
-    // Of a file that is to be checked, the status is exactly what the rules say of its bytes.
-    ensures decides { (file : List ℕ) → checked_file (texts words.now) ≡ Some file
-        → Decides (bytes_at (honest_held files.old) file) result ⊎ (result ≡ Status.Memory) }
+    // The status is exactly what the bytes of the files say, want of memory apart.
+    ensures checks { (file : List ℕ) → command_of (texts words.now) ≡ Some (check file)
+        → Decides (CheckStatus (bytes_at (honest_held files.old) file)) result ⊎ (result ≡ Status.Memory) }
+    ensures runs { (file entry heap : List ℕ) (steps : ℕ) → command_of (texts words.now) ≡ Some (run_of file entry heap steps)
+        → Decides (RunStatus (bytes_at (honest_held files.old) file) (bytes_at (honest_held files.old) heap) entry steps) result ⊎ (result ≡ Status.Memory) }
 
     // All other words are refused, and they alone.
-    ensures usage { result ≡ Status.Usage → checked_file (texts words.now) ≡ None }
-    ensures other_words { checked_file (texts words.now) ≡ None → (result ≡ Status.Usage) ⊎ (result ≡ Status.Memory) }
+    ensures usage { result ≡ Status.Usage → command_of (texts words.now) ≡ None }
+    ensures other_words { command_of (texts words.now) ≡ None → (result ≡ Status.Usage) ⊎ (result ≡ Status.Memory) }
 {
     cogent(alloc, words, files, out)
 }

@@ -1,12 +1,17 @@
-//! The top call: words, a read, a verdict and one write. docs/LANGUAGE.md says what the commands do and print.
+//! The top call: words, reads, a verdict and one write. docs/LANGUAGE.md says what the commands do and print.
 #![tactic(auto)]
 
+mod call;
+mod check;
+mod execute;
+mod judge;
 mod law;
+mod lines;
+mod plan;
 mod report;
 mod run;
 mod status;
-mod words;
 
+pub use call::cogent;
 pub use law::honest_cogent;
-pub use run::cogent;
 pub use status::Status;

@@ -13,3 +13,4 @@ mod terms;
 pub use function::lower_function;
 pub use law::{lowering_is_printable, lowering_simulates, plain_bodies_are_words};
 pub use program::lower;
+pub use terms::function_name;

@@ -48,8 +48,9 @@ pub(crate) fn local(alloc: Global, at: usize) -> Result<Name, Memory>
     Name::new(alloc, format!(in alloc; "x{at}")?.as_bytes())
 }
 
-/// The name of the function at a position.
-pub(crate) fn function_name(alloc: Global, at: u32) -> Result<Name, Memory>
+/// The name of the C function of a position: `f` and the position in decimal digits (docs/LANGUAGE.md, "Lowering"). The one error
+/// is want of memory.
+pub fn function_name(alloc: Global, at: u32) -> Result<Name, Memory>
     ensures { IfOk result (λ name. name ≡ function_name_of at) }
 {
     Name::new(alloc, format!(in alloc; "f{at}")?.as_bytes())

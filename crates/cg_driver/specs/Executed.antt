@@ -1,0 +1,51 @@
+-- What the two runs of a function give, as the code has them.
+use Rattle.std.specs.Prelude.{◌≡◌, ℕ, ◌+◌, List, [], ◌∷◌, map, Option, Some}
+use Rattle.cg_base.specs.declared.fun.Fun.TheVariants.{User}
+use Rattle.cg_base.specs.declared.kind.Word.TheVariants.{U32}
+use Rattle.cg_core.specs.Kernels.{Function}
+use Rattle.cg_core.specs.Terms.{Note, Tree}
+use Rattle.cg_ctree.specs.declared.tree.CProgram.{CProgram}
+use Rattle.cg_ctree.specs.Runs.{crun, done, typed}
+use Rattle.cg_ctree.specs.Spells.{CSpells}
+use Rattle.cg_ctree.specs.Trees.{Program, program_of}
+use Rattle.cg_eval.specs.Evaluation.{evaluation}
+use Rattle.cg_eval.specs.Machine.{table_of}
+use Rattle.cg_lower.specs.Lowered.{function_name}
+use Rattle.cg_lower.specs.Plainly.{Simulates}
+use Rattle.cg_typing.specs.declared.checked.Checked.{Checked}
+use Rattle.cg_typing.specs.Holds.{cores_in}
+use Rattle.cg_typing.specs.Kept.{maybe_core}
+use Rattle.cg_value.specs.Values.{Val, number, function}
+use Rattle.cg_driver.specs.declared.status.Status.{Status}
+use Rattle.cg_driver.specs.declared.status.Status.TheVariants.{Done, StepLimit}
+use Rattle.cg_driver.specs.Judged.{functions_in}
+use Rattle.cg_driver.specs.Lines.{step_limit_line}
+use Rattle.cg_driver.specs.Run.{emitted, budget, Runs, RunsOut}
+
+-- the cores of a checked source
+abbrev pub cores_of : Checked → List (Option (Tree Note))
+cores_of checked = map maybe_core (cores_in checked)
+
+-- the program is the one that the C text spells, and gives what evaluation gives
+pub record Emits (checked : Checked) (program : CProgram) : Type 0 where
+  pub spelled : CSpells (emitted (functions_in checked) (cores_of checked)) (program_of program)
+  pub simulates : Simulates checked (program_of program)
+
+-- evaluation gives this value at this cost, within the steps
+abbrev pub Gives : Checked → ℕ → ℕ → ℕ → Val → ℕ → Type 0
+Gives checked at arg steps value cost = evaluation (table_of (cores_in checked)) steps (function (User at) []) (number arg) ≡ Some (value, cost)
+
+-- the run of the C text ends within its budget with this number, which is what evaluation gave
+pub record Machines (checked : Checked) (at arg : ℕ) (value : Val) (cost result taken : ℕ) : Type 0 where
+  pub program : Program
+  pub spelled : CSpells (emitted (functions_in checked) (cores_of checked)) program
+  pub left : ℕ
+  pub ends : crun (budget cost) program (function_name at) (arg ∷ []) ≡ done (typed U32 result) left
+  pub counted : taken + left ≡ budget cost
+  pub equal : value ≡ number result
+
+-- what both runs say
+abbrev pub Executes : List Function → ℕ → ℕ → ℕ → Status → List ℕ → Type 0
+Executes functions at arg steps Done text = Runs functions at arg steps text
+Executes functions at arg steps StepLimit text = RunsOut functions at arg steps × (text ≡ step_limit_line steps)
+Executes functions at arg steps _ text = ⊥

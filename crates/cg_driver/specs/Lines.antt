@@ -1,0 +1,45 @@
+-- The lines that are printed (docs/LANGUAGE.md, "Commands").
+use Rattle.std.specs.Prelude.{ℕ, List, ◌++◌, codes, count_by, decimal, is_some, length}
+use Rattle.cg_core.specs.Kernels.{Function}
+use Rattle.cg_value.specs.Printed.{printed}
+use Rattle.cg_value.specs.Values.{Val}
+
+-- the usage text
+abbrev pub usage_text : List ℕ
+usage_text = codes "usage: cogent check FILE\n       cogent run FILE ENTRY HEAPFILE [--steps N]\n"
+
+-- what `check` prints of an accepted source: how many functions have a definition
+abbrev pub ok_line : List Function → List ℕ
+ok_line functions = codes "ok: " ++ decimal (count_by (λ f. is_some f.body) functions) ++ codes " functions\n"
+
+-- the refusals, with the name of the file
+abbrev pub not_built_line : List ℕ → List ℕ
+not_built_line file = file ++ codes ": F1 form not built\n"
+
+abbrev pub not_accepted_line : List ℕ → List ℕ
+not_accepted_line file = file ++ codes ": F2 not accepted\n"
+
+abbrev pub no_entry_line : List ℕ → List ℕ
+no_entry_line file = file ++ codes ": E1 no such function\n"
+
+abbrev pub no_heap_text_line : List ℕ → List ℕ
+no_heap_text_line heap = heap ++ codes ": H1 not in the heap grammar\n"
+
+abbrev pub out_of_range_line : List ℕ → List ℕ
+out_of_range_line heap = heap ++ codes ": H5 number out of range\n"
+
+-- a file that can't be read, a limit, and the step limit
+abbrev pub unread_line : List ℕ → List ℕ
+unread_line name = name ++ codes ": cannot be read\n"
+
+abbrev pub limit_line : List ℕ → List ℕ
+limit_line name = codes "limit: " ++ name ++ codes "\n"
+
+abbrev pub step_limit_line : ℕ → List ℕ
+step_limit_line steps = codes "step limit " ++ decimal steps ++ codes " reached\n"
+
+-- The seven lines of a run: what evaluation gives and what the C gives, what each costs, and how many cells were made, freed
+-- and kept.
+abbrev pub report : Val → Val → ℕ → ℕ → List ℕ → List ℕ → List ℕ → List ℕ
+report value result cost steps made freed kept =
+    codes "value: " ++ printed value ++ codes "\nc: " ++ printed result ++ codes "\ncost: " ++ decimal cost ++ codes "\nsteps: " ++ decimal steps ++ codes "\nnew: " ++ decimal (length made) ++ codes "\nfreed: " ++ decimal (length freed) ++ codes "\nkept: " ++ decimal (length kept) ++ codes "\n"

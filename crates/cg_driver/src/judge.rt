@@ -1,0 +1,63 @@
+// Judging a source.
+ghost use Rattle.std.specs.Prelude.{IfOk};
+ghost use Rattle.std.specs.List.{All};
+ghost use Rattle.cg_core.specs.Kernels.{kernel_of};
+ghost use Rattle.cg_core.specs.Small.{IsSmallKernel};
+ghost use Rattle.cg_surface.specs.Trees.{program_of, OnlySumsEntry};
+ghost use Rattle.cg_driver.specs.Answer.{RefusesSource};
+ghost use Rattle.cg_driver.specs.Judged.{IsCheckedKernel, IsCheckedProgram, IsCheckedSource, RefusesKernel, RefusesProgram};
+ghost use Rattle.cg_driver.specs.Reports.{Steps};
+
+use crate::lines::{beyond, not_accepted, not_built};
+use crate::report::Step;
+use cg_base::Memory;
+use cg_check::{Refusal, check};
+use cg_core::Kernel;
+use cg_parser::{ParseFault, parse};
+use cg_resolve::{Fault, resolve};
+use cg_surface::Program;
+use cg_typing::Checked;
+use std::alloc::Global;
+
+/// No source has more bytes.
+pub(crate) const SOURCE_LIMIT: usize = 1_048_576;
+
+/// Judges a kernel by the typing rules.
+fn judge_kernel(alloc: Global, file: &str, kernel: Kernel) -> Result<Step<Checked>, Memory>
+    requires { IsSmallKernel (kernel_of kernel) }
+    ensures { IfOk result (Steps (IsCheckedKernel (kernel_of kernel)) (RefusesKernel file.now (kernel_of kernel))) }
+{
+    match check(alloc, kernel) {
+        Ok(checked) => Ok(Step::Goes(checked)),
+        Err(Refusal::Rule(_, _)) => Ok(Step::Ends(not_accepted(alloc, file)?)),
+        Err(Refusal::Memory) => Err(Memory),
+    }
+}
+
+/// Judges a program: its names, and then its kernel.
+fn judge_program(alloc: Global, file: &str, program: &Program) -> Result<Step<Checked>, Memory>
+    requires { All OnlySumsEntry (program_of program.now) }
+    ensures { IfOk result (Steps (IsCheckedProgram (program_of program.now)) (RefusesProgram file.now (program_of program.now))) }
+{
+    match resolve(alloc, program) {
+        Ok(kernel) => judge_kernel(alloc, file, kernel),
+        Err(Fault::Memory) => Err(Memory),
+        Err(_) => Ok(Step::Ends(not_accepted(alloc, file)?)),
+    }
+}
+
+/// Judges a source: its size, the program that it spells, its depth, and whether that program is accepted.
+pub(crate) fn judge(alloc: Global, file: &str, source: &[u8]) -> Result<Step<Checked>, Memory>
+    ensures { IfOk result (Steps (IsCheckedSource source.now) (RefusesSource file.now source.now)) }
+{
+    if source.len() > SOURCE_LIMIT {
+        return Ok(Step::Ends(beyond(alloc, "source")?));
+    }
+    match parse(alloc, source) {
+        Ok(program) => judge_program(alloc, file, &program),
+        Err(ParseFault::S1(_)) => Ok(Step::Ends(not_built(alloc, file)?)),
+        Err(ParseFault::S3(_)) => Ok(Step::Ends(not_built(alloc, file)?)),
+        Err(ParseFault::Nesting) => Ok(Step::Ends(beyond(alloc, "nesting")?)),
+        Err(ParseFault::Memory) => Err(Memory),
+    }
+}
