@@ -1,6 +1,4 @@
 // Where the functions of a program, and the variables of each, are found by their names.
-#![tactic(auto, using(std::proofs::lemmas::Grind::common_steps))]
-
 ghost use Rattle.std.specs.Prelude.{◌≡◌, ◌++◌, map, None, IfOk, IfSome, MatchOption, OnOk, option_map};
 ghost use Rattle.cg_ctree.specs.Runs.{find};
 ghost use Rattle.cg_ctree.specs.Trees.{function_of};
