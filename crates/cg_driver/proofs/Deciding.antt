@@ -1,7 +1,6 @@
 -- From the answer of a call to what follows: where contents are told, which status the bytes of the files give, and that all in
 -- order gives status 0, unless memory runs out.
-use Rattle.std.proofs.Common.{◌≡◌, ◌⊎◌, ◌∙◌, ◌+◌, ◌<◌, ◌≤◌, ◌^◌, ℕ, Bool, true, false, List, [], ◌∷◌, Option, Some, None, take, length, refl, sym, ap, subst, inl, inr, arith}
-use Rattle.std.specs.Prelude.{◌↔◌}
+use Rattle.std.proofs.Common.{◌≡◌, ◌⊎◌, ◌∙◌, ◌+◌, ◌<◌, ◌≤◌, ℕ, true, false, List, [], ◌∷◌, Option, Some, None, take, length, refl, sym, ap, subst, inl, inr, arith}
 use Rattle.std.specs.Io.KnownBytes.{append_known}
 use Rattle.std.proofs.lemmas.List.{take_all, length-take}
 use Rattle.cg_base.specs.declared.fun.Fun.TheVariants.{User}
@@ -11,12 +10,10 @@ use Rattle.cg_core.specs.Kernels.{Function, Body}
 use Rattle.cg_core.specs.Terms.{Note, Tree}
 use Rattle.cg_eval.specs.Evaluation.{evaluation}
 use Rattle.cg_eval.specs.Plain.{plain_kernel}
-use Rattle.cg_heaptext.specs.HeapText.{HeapText}
 use Rattle.cg_heaptext.specs.Laws.{OneArgument}
 use Rattle.cg_outside.specs.Held.{Held, IsReadOf, bytes_at}
 use Rattle.cg_outside.specs.Causes.{Rose}
-use Rattle.cg_parser.specs.Grammar.{Spells}
-use Rattle.cg_parser.specs.Answers.{depth_limit, NoProgram}
+use Rattle.cg_parser.specs.Answers.{depth_limit}
 use Rattle.cg_parser.specs.Laws.{OneProgram}
 use Rattle.cg_surface.specs.Desugar.{functions_of}
 use Rattle.cg_surface.specs.Trees.{Entry, program_depth}
@@ -28,8 +25,8 @@ use Rattle.cg_value.specs.Values.{number, function}
 use Rattle.cg_words.specs.Words.{Command, check, run}
 use Rattle.cg_driver.specs.declared.status.Status.{Status}
 use Rattle.cg_driver.specs.declared.status.Status.TheVariants.{Done, Refused, Usage, ReadFault, WriteFault, Memory, StepLimit, HeapRefused, CertRefused, TooLarge}
-use Rattle.cg_driver.specs.Answer.{source_limit, heap_limit, Accepted, SpellsWithin, IsAcceptedSource, Refuses, not_built, not_accepted, Exceeds, too_long, too_deep, Judges, entry_at, IsReady, RefusesRun, of_source, not_plain, no_entry, RefusesHeap, no_heap_text, out_of_range, IsArgument, IsJudgedRun}
-use Rattle.cg_driver.specs.Run.{AreCores, table_in, Runs, RunsOut}
+use Rattle.cg_driver.specs.Answer.{source_limit, heap_limit, SpellsWithin, IsAcceptedSource, Refuses, not_built, not_accepted, Exceeds, too_long, too_deep, Judges, entry_at, IsReady, RefusesRun, of_source, not_plain, no_entry, RefusesHeap, no_heap_text, out_of_range, IsArgument, IsJudgedRun}
+use Rattle.cg_driver.specs.Run.{table_in, Runs, RunsOut}
 use Rattle.cg_driver.specs.Says.{ReadFails, of_source as source_fails, of_heap, SaysOf, Answers, IsVerdict, IsReadBy, IsTooLarge, IsRefused, CheckStatus, Ready, Evaluates, IsNotPlain, HasNoEntry, HasNoArgument, RunStatus, Decides}
 
 -- ---- what was read of files whose contents are told

@@ -1,26 +1,19 @@
 -- From the parts of the two runs of a function to what is said of them.
-use Rattle.std.proofs.Common.{◌≡◌, ◌<◌, ◌≤◌, ◌+◌, ◌*◌, ◌^◌, ℕ, zero, suc, true, List, [], ◌∷◌, Option, Some, None, Result, Ok, Err, length, map, refl, sym, ap, ◌∙◌, subst, arith, rules}
+use Rattle.std.proofs.Common.{◌≡◌, ℕ, zero, suc, List, [], ◌∷◌, Option, Some, None, Ok, Err, length, map, refl, sym, ap, ◌∙◌, subst, rules}
 use Rattle.cg_base.specs.declared.fun.Fun.TheVariants.{User}
-use Rattle.cg_base.specs.declared.kind.Word.TheVariants.{U32}
 use Rattle.cg_base.specs.declared.place.Place.{Place}
-use Rattle.cg_cmachine.specs.Answers.{Ran, EndsAfter}
-use Rattle.cg_cmachine.specs.declared.fault.RunFault.TheVariants.{Stuck, Budget}
 use Rattle.cg_core.specs.declared.term.Term.{Term}
 use Rattle.cg_core.specs.declared.term.Typed.{Typed}
-use Rattle.cg_core.specs.Kernels.{Function, kernel_of}
+use Rattle.cg_core.specs.Kernels.{kernel_of}
 use Rattle.cg_cread.specs.Answers.{Answers}
 use Rattle.cg_cread.specs.declared.fault.CFault.TheVariants.{Text}
 use Rattle.cg_ctext.specs.Printed.{printed}
 use Rattle.cg_ctree.specs.declared.tree.CProgram.{CProgram}
-use Rattle.cg_ctree.specs.declared.why.Why.{Why}
-use Rattle.cg_ctree.specs.Runs.{Outcome, Value, crun, done, typed}
 use Rattle.cg_ctree.specs.Spells.{CSpells}
 use Rattle.cg_ctree.specs.Trees.{Program, program_of}
 use Rattle.cg_eval.specs.Evaluation.{Table, evaluation}
-use Rattle.cg_eval.specs.Laws.{MoreBudget}
 use Rattle.cg_eval.specs.Machine.{table_of}
-use Rattle.cg_eval.specs.Plain.{plain_kernel}
-use Rattle.cg_lower.specs.Lowered.{lowered, function_name}
+use Rattle.cg_lower.specs.Lowered.{lowered}
 use Rattle.cg_lower.specs.Plainly.{Simulates}
 use Rattle.cg_lower.specs.Ranks.{bodies_of}
 use Rattle.cg_typing.specs.declared.checked.Checked.{Checked}
@@ -35,7 +28,7 @@ use Rattle.cg_driver.specs.Executed.{cores_of, Emits, Gives, Machines, Executes}
 use Rattle.cg_driver.specs.Judged.{functions_in, HoldsCores}
 use Rattle.cg_driver.specs.Lines.{report, step_limit_line}
 use Rattle.cg_driver.specs.Reports.{IsLine, Reports}
-use Rattle.cg_driver.specs.Run.{AreCores, bodies_in, table_in, emitted, budget, Runs, RunsOut}
+use Rattle.cg_driver.specs.Run.{bodies_in, table_in, emitted}
 use Rattle.cg_driver.proofs.Saying.{line_says}
 
 -- ---- the cores of a checked source, as the code keeps them and as plain trees
@@ -70,57 +63,6 @@ emits checked written read text bytes made exactly spells simulates same answer 
 
 pub unreadable : (text bytes : List ℕ) (p : Program) (place : Place) → CSpells text p → bytes ≡ text → Answers bytes (Err (Text place)) → ⊥
 unreadable text bytes p place spells same answer = answer.4 p (subst (λ b. CSpells b p) (sym same) spells)
-
--- ---- the machine
-
--- the steps of the C fit a word
-pub fits : MoreBudget → (checked : Checked) (at arg cost : ℕ) (v : Val) → (steps : ℕ) × (steps ≤ 2 ^ 40) × Gives checked at arg steps v cost → 32 * cost + 32 < 2 ^ 64
-fits law checked at arg cost v g =
-    let within = (law (table_of (cores_in checked)) g.0 g.0 cost (function (User at) []) (number arg) v g.2).0 in
-    omega (arith, within, g.1)
-
--- its run ends, with what evaluation gives
-record Ends (checked : Checked) (program : Program) (at arg : ℕ) (v : Val) (cost : ℕ) : Type 0 where
-  result : ℕ
-  equal : v ≡ number result
-  left : ℕ
-  ends : crun (budget cost) program (function_name at) (arg ∷ []) ≡ done (typed U32 result) left
-
-ends : (checked : Checked) (program : Program) (at arg cost : ℕ) (v : Val) → Simulates checked program → plain_kernel (functions_in checked) ≡ true → at < length (functions_in checked) → arg < 2 ^ 32
-    → (steps : ℕ) × (steps ≤ 2 ^ 40) × Gives checked at arg steps v cost → Ends checked program at arg v cost
-ends checked program at arg cost v s plain there word g =
-    let h = s plain at g.0 cost arg v there word g.2 in
-    record { result = h.0; equal = h.1; left = h.3; ends = h.4 }
-
-pub machines : (checked : Checked) (program : CProgram) (at arg cost : ℕ) (v : Val) → Emits checked program → plain_kernel (functions_in checked) ≡ true → at < length (functions_in checked) → arg < 2 ^ 32
-    → (steps : ℕ) × (steps ≤ 2 ^ 40) × Gives checked at arg steps v cost → (name : List ℕ) → name ≡ function_name at → (ran : ℕ × ℕ)
-    → Ran (crun (32 * cost + 32) (program_of program) name (arg ∷ [])) (32 * cost + 32) (Ok ran) → Machines checked at arg v cost ran.0 ran.1
-machines checked program at arg cost v e plain there word g name named ran h =
-    let run = ends checked (program_of program) at arg cost v e.simulates plain there word g in
-    let is : crun (32 * cost + 32) (program_of program) name (arg ∷ []) ≡ done (typed U32 run.result) run.left = ap (λ x. crun (32 * cost + 32) (program_of program) x (arg ∷ [])) named ∙ run.ends in
-    let after : EndsAfter (done (typed U32 run.result) run.left) (32 * cost + 32) ran.0 ran.1 = subst (λ (o : Outcome Value). EndsAfter o (32 * cost + 32) ran.0 ran.1) is h in
-    record {
-      program = program_of program;
-      spelled = e.spelled;
-      left = run.left;
-      ends = run.ends ∙ ap (λ n. done (typed U32 n) run.left) (sym after.0);
-      counted = after.1;
-      equal = run.equal ∙ ap number (sym after.0);
-    }
-
-module _ (checked : Checked) (program : CProgram) (at arg cost : ℕ) (v : Val) (e : Emits checked program) (plain : plain_kernel (functions_in checked) ≡ true) (there : at < length (functions_in checked)) (word : arg < 2 ^ 32)
-    (g : (steps : ℕ) × (steps ≤ 2 ^ 40) × Gives checked at arg steps v cost) (name : List ℕ) (named : name ≡ function_name at) where
-  pub not_stuck : (why : Why) → Ran (crun (32 * cost + 32) (program_of program) name (arg ∷ [])) (32 * cost + 32) (Err (Stuck why)) → ⊥
-  not_stuck why h =
-      let run = ends checked (program_of program) at arg cost v e.simulates plain there word g in
-      let is : crun (32 * cost + 32) (program_of program) name (arg ∷ []) ≡ done (typed U32 run.result) run.left = ap (λ x. crun (32 * cost + 32) (program_of program) x (arg ∷ [])) named ∙ run.ends in
-      absurd (cc)
-
-  pub no_budget : Ran (crun (32 * cost + 32) (program_of program) name (arg ∷ [])) (32 * cost + 32) (Err Budget) → ⊥
-  no_budget h =
-      let run = ends checked (program_of program) at arg cost v e.simulates plain there word g in
-      let is : crun (32 * cost + 32) (program_of program) name (arg ∷ []) ≡ done (typed U32 run.result) run.left = ap (λ x. crun (32 * cost + 32) (program_of program) x (arg ∷ [])) named ∙ run.ends in
-      absurd (cc)
 
 -- ---- what is said
 

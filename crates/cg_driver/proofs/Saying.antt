@@ -1,5 +1,5 @@
 -- From the parts of a call to what is said.
-use Rattle.std.proofs.Common.{◌≡◌, ◌⊎◌, inl, inr, ◌<◌, ◌≤◌, ◌+◌, ◌^◌, ℕ, Bool, true, false, cond, List, [], ◌∷◌, Option, Some, None, Result, Ok, Err, length, map, refl, sym, ap, ◌∙◌, subst, arith}
+use Rattle.std.proofs.Common.{◌≡◌, inl, inr, ◌<◌, ◌≤◌, ◌+◌, ◌^◌, ℕ, Bool, true, false, cond, List, [], ◌∷◌, Option, Some, None, Result, Ok, Err, length, map, refl, sym, ap, ◌∙◌, subst, arith}
 use Rattle.std.specs.Prelude.{codes, IfOk, string_bytes, nat_lt, not, position, bytes_eq}
 use Rattle.std.specs.Io.KnownBytes.{append_known}
 use Rattle.std.specs.List.{position_or_len}
@@ -27,12 +27,12 @@ use Rattle.cg_driver.specs.declared.report.Step.{Step}
 use Rattle.cg_driver.specs.declared.report.Step.TheVariants.{Goes, Ends as Ended}
 use Rattle.cg_driver.specs.declared.status.Status.{Status}
 use Rattle.cg_driver.specs.declared.status.Status.TheVariants.{Done, Refused, Usage, ReadFault, WriteFault, Memory, StepLimit, HeapRefused, CertRefused, TooLarge}
-use Rattle.cg_driver.specs.Answer.{source_limit, heap_limit, IsAcceptedProgram, IsAcceptedSource, not_accepted, too_deep, RefusesSource, Judges, entry_at, of_source, not_plain, no_entry, IsReady, out_of_range, IsJudgedRun}
-use Rattle.cg_driver.specs.Judged.{functions_in, IsCheckedKernel, IsCheckedProgram, IsCheckedSource, RefusesKernel, RefusesProgram, IsEntry, RefusesEntry, RefusesBytes}
+use Rattle.cg_driver.specs.Answer.{source_limit, heap_limit, IsAcceptedProgram, not_accepted, too_deep, RefusesSource, Judges, entry_at, of_source, not_plain, no_entry, IsReady, out_of_range}
+use Rattle.cg_driver.specs.Judged.{functions_in, IsCheckedKernel, IsCheckedProgram, IsCheckedSource, RefusesKernel, RefusesProgram, IsEntry, RefusesBytes}
 use Rattle.cg_driver.specs.Lines.{limit_line, out_of_range_line}
 use Rattle.cg_driver.specs.Reports.{IsLine, Reports, Steps}
 use Rattle.cg_driver.specs.Running.{SaysChecked, SaysSource}
-use Rattle.cg_driver.specs.Says.{SaysCheck, of_source as source_fails, of_heap, SaysRun, SaysOf, Answers, Ends}
+use Rattle.cg_driver.specs.Says.{SaysCheck, of_heap, SaysRun, SaysOf, Answers, Ends}
 
 -- a report of a line says what the line says
 pub line_says : (Q : Status → List ℕ → Type 0) (wanted : Status) (line : List ℕ) (r : Report) → IsLine wanted line r → Q wanted line → Reports Q r

@@ -1,5 +1,5 @@
 -- Which sources are accepted, which runs are ready, and what is said of each, with its status.
-use Rattle.std.specs.Prelude.{◌≡◌, ℕ, ◌<◌, ◌≤◌, ◌^◌, Bool, true, false, List, [], length, position, Option, Some, None, codes, bytes_eq}
+use Rattle.std.specs.Prelude.{◌≡◌, ℕ, ◌<◌, ◌≤◌, ◌^◌, true, false, List, [], length, position, Option, Some, None, codes, bytes_eq}
 use Rattle.cg_core.specs.Kernels.{Function}
 use Rattle.cg_eval.specs.Plain.{plain_kernel}
 use Rattle.cg_heaptext.specs.HeapText.{HeapText}
@@ -11,7 +11,7 @@ use Rattle.cg_surface.specs.Desugar.{name_faults, functions_of}
 use Rattle.cg_surface.specs.Circles.{mentions, NoCircle}
 use Rattle.cg_typing.specs.Accepted.{IsAcceptedKernel}
 use Rattle.cg_driver.specs.declared.status.Status.{Status}
-use Rattle.cg_driver.specs.declared.status.Status.TheVariants.{Done, Refused, Usage, ReadFault, WriteFault, Memory, StepLimit, HeapRefused, CertRefused, TooLarge}
+use Rattle.cg_driver.specs.declared.status.Status.TheVariants.{Done, Refused, StepLimit, HeapRefused, TooLarge}
 use Rattle.cg_driver.specs.Lines.{ok_line, not_built_line, not_accepted_line, no_entry_line, no_heap_text_line, out_of_range_line, limit_line, step_limit_line}
 use Rattle.cg_driver.specs.Run.{Runs, RunsOut}
 

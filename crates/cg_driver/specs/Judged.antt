@@ -1,8 +1,7 @@
 -- What the checker's answer and the parts of a run say, as the code has them.
-use Rattle.std.specs.Prelude.{◌≡◌, ℕ, ◌<◌, ◌≤◌, ◌^◌, Bool, true, false, List, length, map, Option, Some, None, codes, ◌⊎◌}
+use Rattle.std.specs.Prelude.{◌≡◌, ℕ, ◌<◌, ◌≤◌, true, false, List, length, map, Some, None, codes, ◌⊎◌}
 use Rattle.cg_core.specs.Kernels.{Function, kernel_of}
 use Rattle.cg_eval.specs.Plain.{plain_kernel}
-use Rattle.cg_outside.specs.Held.{Held, IsReadOf}
 use Rattle.cg_surface.specs.Trees.{Entry}
 use Rattle.cg_surface.specs.Desugar.{functions_of}
 use Rattle.cg_typing.specs.Accepted.{IsAcceptedKernel}

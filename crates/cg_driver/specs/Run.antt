@@ -1,5 +1,5 @@
 -- What a run of a plain source says, and why (docs/LANGUAGE.md, "Commands").
-use Rattle.std.specs.Prelude.{◌≡◌, ℕ, ◌+◌, ◌-◌, ◌*◌, ◌≤◌, List, [], ◌∷◌, length, false, Option, Some, None, slice_get}
+use Rattle.std.specs.Prelude.{◌≡◌, ℕ, ◌+◌, ◌*◌, List, [], ◌∷◌, length, false, Option, Some, None}
 use Rattle.cg_base.specs.declared.fun.Fun.TheVariants.{User}
 use Rattle.cg_base.specs.declared.kind.Word.TheVariants.{U32}
 use Rattle.cg_core.specs.Derivations.{Derivation}
@@ -14,7 +14,7 @@ use Rattle.cg_lower.specs.Lowered.{lowered, function_name}
 use Rattle.cg_typing.specs.Holds.{kept_at}
 use Rattle.cg_typing.specs.Kept.{AreKept}
 use Rattle.cg_value.specs.Values.{number, function, gone}
-use Rattle.cg_driver.specs.Lines.{report, step_limit_line}
+use Rattle.cg_driver.specs.Lines.{report}
 
 -- The cores of an accepted kernel, one for each function with a body: each erases to its body, and the typing rules derive it.
 -- There are no others (the law `one_core` of the checker).

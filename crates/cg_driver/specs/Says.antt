@@ -1,5 +1,5 @@
 -- What a call says and answers, and why.
-use Rattle.std.specs.Prelude.{◌≡◌, ◌↔◌, ℕ, ◌<◌, ◌≤◌, ◌^◌, Bool, true, false, List, [], length, take, Option, Some, None, ◌⊎◌, ⊤}
+use Rattle.std.specs.Prelude.{◌≡◌, ◌↔◌, ℕ, ◌<◌, ◌≤◌, ◌^◌, true, false, List, [], length, take, Option, Some, None, ◌⊎◌, ⊤}
 use Rattle.std.specs.Io.KnownBytes.{append_known}
 use Rattle.cg_core.specs.Kernels.{Function}
 use Rattle.cg_base.specs.declared.fun.Fun.TheVariants.{User}
@@ -15,7 +15,7 @@ use Rattle.cg_surface.specs.Trees.{Entry, program_depth}
 use Rattle.cg_value.specs.Values.{number, function}
 use Rattle.cg_words.specs.Words.{Command, check, run, command_of}
 use Rattle.cg_driver.specs.declared.status.Status.{Status}
-use Rattle.cg_driver.specs.declared.status.Status.TheVariants.{Done, Refused, Usage, ReadFault, WriteFault, Memory, StepLimit, HeapRefused, CertRefused, TooLarge}
+use Rattle.cg_driver.specs.declared.status.Status.TheVariants.{Done, Refused, Usage, ReadFault, WriteFault, Memory, StepLimit, HeapRefused, TooLarge}
 use Rattle.cg_driver.specs.Answer.{source_limit, heap_limit, Accepted, SpellsWithin, IsAcceptedSource, Exceeds, Judges, entry_at, IsReady, RefusesRun, IsArgument, IsJudgedRun}
 use Rattle.cg_driver.specs.Lines.{usage_text, unread_line}
 use Rattle.cg_driver.specs.Run.{AreCores, table_in, RunsOut}
