@@ -56,6 +56,7 @@ pub(crate) fn judge(alloc: Global, file: &str, source: &[u8]) -> Result<Step<Che
     match parse(alloc, source) {
         Ok(program) => judge_program(alloc, file, &program),
         Err(ParseFault::S1(_)) => Ok(Step::Ends(not_built(alloc, file)?)),
+        Err(ParseFault::S2(_)) => Ok(Step::Ends(not_built(alloc, file)?)),
         Err(ParseFault::S3(_)) => Ok(Step::Ends(not_built(alloc, file)?)),
         Err(ParseFault::Nesting) => Ok(Step::Ends(beyond(alloc, "nesting")?)),
         Err(ParseFault::Memory) => Err(Memory),

@@ -1,78 +1,95 @@
--- What the lexer cuts from the bytes that are left: white space, and what stands behind it.
-use Rattle.std.proofs.Common.{◌≡◌, ℕ, ◌+◌, ◌<◌, ◌≤◌, true, false, List, [], ◌∷◌, ◌++◌, length, take, drop, refl, sym, ap, ◌∙◌, subst, arith, length-append}
-use Rattle.std.specs.Prelude.{◌==◌}
-use Rattle.std.specs.List.{prefix_len}
-use Rattle.std.proofs.lemmas.List.{append-nil, take-append-drop, length-take-le}
+-- What the lexer cuts from the bytes that are left: a gap, and what stands behind it.
+use Rattle.std.proofs.Common.{◌≡◌, ℕ, ◌<◌, ◌≤◌, Bool, true, false, List, [], ◌∷◌, ◌++◌, length, take, drop, refl, sym, ap, ◌∙◌, subst, arith}
+use Rattle.std.specs.Prelude.{◌==◌, ◌||◌, Result, Err}
 use Rattle.std.proofs.lemmas.Bool.Decides.{nat_tests}
+use Rattle.std.proofs.lemmas.List.{append-nil, take-append-drop, length-take-le}
+use Rattle.std.proofs.Math.Seq.{take-append_seam}
 use Rattle.cg_base.specs.declared.place.Place.{Place}
+use Rattle.cg_base.specs.Bytes.{white}
+use Rattle.cg_base.specs.Places.{place_after}
+use Rattle.cg_base.proofs.Spans.{either_way}
+use Rattle.cg_lexer.specs.declared.token.Token.{Token}
 use Rattle.cg_lexer.specs.declared.token.TokenKind.{TokenKind}
 use Rattle.cg_lexer.specs.declared.token.TokenKind.TheVariants.{Lower, Upper, Number, Word, Sign, End}
-use Rattle.cg_base.specs.Bytes.{white, Each, Starts, Stops}
-use Rattle.cg_base.specs.Places.{place_after}
-use Rattle.cg_lexer.specs.Tokens.{Lexeme, Cursor, Takes, IsTextOf}
-use Rattle.cg_lexer.specs.Front.{token_length, kind_of}
-use Rattle.cg_lexer.specs.Next.{dark, IsUnknown, Finishes, Gives}
-use Rattle.cg_base.proofs.Spans.{one_span, front_passes}
-use Rattle.cg_lexer.proofs.Munch.{Stands, found, stands}
-use Rattle.cg_lexer.proofs.Division.{begins, dark_stops}
+use Rattle.cg_lexer.specs.declared.token.LexFault.{LexFault}
+use Rattle.cg_lexer.specs.declared.token.LexFault.TheVariants.{UnknownByte, OpenComment}
+use Rattle.cg_lexer.specs.Bytes.{dark}
+use Rattle.cg_lexer.specs.Gaps.{opens, dashes, block, gap_text, IsGap}
+use Rattle.cg_lexer.specs.Tokens.{IsTextOf, IsLongest, Lexeme, lexeme, Cursor, is_first, is_joined, Takes}
+use Rattle.cg_lexer.specs.Front.{piece_length, IsFullGap, token_length, front_length, kind_of}
+use Rattle.cg_lexer.specs.Next.{Leaves, Gives, stop_at, Next}
+use Rattle.cg_lexer.proofs.Gaps.{piece_stands}
+use Rattle.cg_lexer.proofs.Munch.{kind_is, some_text, text_within, stands, no_dashes}
 
--- white space, and behind it the token that stands there, if any
-pub record IsCut (bytes gap rest text after : List ℕ) : Type 0 where
-  pub parts : bytes ≡ gap ++ rest
-  pub space : Each white gap
-  pub stops : Stops white rest
-  pub token : rest ≡ text ++ after
-  pub long : length text ≡ token_length rest
-  pub stands : 0 < length text → Stands (kind_of text) text after
+-- ---- lengths
 
-pub white_within : (bytes : List ℕ) → prefix_len white bytes ≤ length bytes
-white_within bytes = (front_passes white bytes).2
-
-pub token_within : (bytes : List ℕ) → token_length bytes ≤ length bytes
-token_within bytes = (stands bytes).0
-
-cut_token : (rest : List ℕ) (n : ℕ) → n ≡ token_length rest → (rest ≡ take n rest ++ drop n rest) × (length (take n rest) ≡ token_length rest) × (0 < length (take n rest) → Stands (kind_of (take n rest)) (take n rest) (drop n rest))
-cut_token rest n e =
-    let s = stands rest in
-    let P : ℕ → Type 0 = λ m. (rest ≡ take m rest ++ drop m rest) × (length (take m rest) ≡ token_length rest) × (0 < length (take m rest) → Stands (kind_of (take m rest)) (take m rest) (drop m rest)) in
-    let l = length-take-le (token_length rest) rest s.0 in
-    subst P (sym e) (sym (take-append-drop (token_length rest) rest), l, λ some. s.1 (omega (arith, l)))
-
-cut_white : (bytes : List ℕ) (n : ℕ) → n ≡ prefix_len white bytes → (bytes ≡ take n bytes ++ drop n bytes) × Each white (take n bytes) × Stops white (drop n bytes)
-cut_white bytes n e =
-    let f = front_passes white bytes in
-    let P : ℕ → Type 0 = λ m. (bytes ≡ take m bytes ++ drop m bytes) × Each white (take m bytes) × Stops white (drop m bytes) in
-    subst P (sym e) (sym (take-append-drop (prefix_len white bytes) bytes), f.0, f.1)
-
-pub cut : (bytes gap rest text after : List ℕ) (n m : ℕ) → n ≡ prefix_len white bytes → gap ≡ take n bytes → rest ≡ drop n bytes → m ≡ token_length rest → text ≡ take m rest → after ≡ drop m rest → IsCut bytes gap rest text after
-cut bytes gap rest text after n m e g r f t a =
-    let w = cut_white bytes n e in
-    let k = cut_token rest m f in
-    record {
-      parts = w.0 ∙ (λ i. sym g i ++ sym r i);
-      space = subst (Each white) (sym g) w.1;
-      stops = subst (Stops white) (sym r) w.2;
-      token = k.0 ∙ (λ i. sym t i ++ sym a i);
-      long = ap length t ∙ k.1;
-      stands = rw (t, a) k.2;
-    }
+pub front_within : (bytes : List ℕ) → front_length bytes ≤ length bytes
+front_within bytes = either_way (λ (n : ℕ). n ≤ length bytes) (opens bytes) 0 (token_length bytes) (λ _. omega arith) (λ _. (stands bytes).0)
 
 is_empty : (xs : List ℕ) → (length xs == 0) ≡ true → xs ≡ []
 is_empty [] e = refl
 is_empty (x ∷ xs) e = absurd (grind (arith, nat_tests))
 
-is_some : (xs : List ℕ) → (length xs == 0) ≡ false → 0 < length xs
-is_some xs e = grind (arith, nat_tests)
+-- ---- the gap
 
-none_starts : (text : List ℕ) → Starts dark text → length text ≡ 0 → ⊥
-none_starts [] h n = h
-none_starts (b ∷ text) h n = omega arith
+-- the gap before what is left, and no piece is next
+pub record IsCut (old : Cursor) (gap rest : List ℕ) (place : Place) : Type 0 where
+  pub leaves : Leaves old rest place
+  pub text : gap ≡ gap_text leaves.gap
+  pub clear : piece_length rest ≡ 0
 
-starts_dark : (rest : List ℕ) → (length rest == 0) ≡ false → Stops white rest → Starts dark rest
-starts_dark [] some h = absurd (grind (arith, nat_tests))
-starts_dark (b ∷ rest) some h = rw h refl
+pub cut : (old : Cursor) (gap rest : List ℕ) (place : Place) (n : ℕ) → IsFullGap old.rest n → gap ≡ take n old.rest → rest ≡ drop n old.rest → place ≡ place_after old.place gap → IsCut old gap rest place
+cut old gap rest place n g e f p =
+    let text : gap ≡ gap_text g.front.pieces = e ∙ (λ i. take (g.front.long i) (g.front.parts i)) ∙ take-append_seam (gap_text g.front.pieces) (drop n old.rest) in
+    record {
+      leaves = record {
+        gap = g.front.pieces;
+        parts = g.front.parts ∙ ap (λ x. gap_text g.front.pieces ++ x) (sym f);
+        space = subst (IsGap g.front.pieces) (sym f) g.front.space;
+        stands = p ∙ ap (place_after old.place) text;
+      };
+      text = text;
+      clear = ap piece_length f ∙ g.stops;
+    }
 
--- the kind of a token isn't the end's
+-- ---- the token behind it
+
+-- a text of a token, the longest
+pub record IsFront (rest text after : List ℕ) : Type 0 where
+  pub parts : rest ≡ text ++ after
+  pub fits : IsTextOf (kind_of text) text
+  pub longest : IsLongest text after
+
+some_front : (rest text : List ℕ) (n : ℕ) → n ≡ front_length rest → text ≡ take n rest → (length text == 0) ≡ false → (opens rest ≡ false) × (0 < n) × (n ≡ token_length rest)
+some_front rest text n e t some =
+    let within : n ≤ length rest = subst (λ (m : ℕ). m ≤ length rest) (sym e) (front_within rest) in
+    let long : length text ≡ n = ap length t ∙ length-take-le n rest within in
+    let positive : 0 < n = grind (arith, nat_tests) in
+    go (opens rest) refl positive
+  where
+    go : (b : Bool) → opens rest ≡ b → 0 < n → (opens rest ≡ false) × (0 < n) × (n ≡ token_length rest)
+    go true o p = let zero : front_length rest ≡ 0 = rw o refl in absurd (omega arith)
+    go false o p = (o, p, e ∙ rw o refl)
+
+pub front : (rest text after : List ℕ) (n : ℕ) → piece_length rest ≡ 0 → n ≡ front_length rest → text ≡ take n rest → after ≡ drop n rest → (length text == 0) ≡ false → IsFront rest text after
+front rest text after n clear e t a some =
+    let s = some_front rest text n e t some in
+    let there = stands rest in
+    let within : n ≤ length rest = subst (λ (m : ℕ). m ≤ length rest) (sym s.2) there.0 in
+    let long : length text ≡ n = ap length t ∙ length-take-le n rest within in
+    let k = there.1 (omega (arith, s.1, s.2)) in
+    let is : text ≡ take (token_length rest) rest = t ∙ ap (λ m. take m rest) s.2 in
+    let fits : IsTextOf k.0 text = subst (IsTextOf k.0) (sym is) k.1 in
+    let parts : rest ≡ text ++ after = sym (take-append-drop n rest) ∙ (λ i. sym t i ++ sym a i) in
+    record {
+      parts = parts;
+      fits = subst (λ (x : TokenKind). IsTextOf x text) (kind_is k.0 text fits) fits;
+      longest = record {
+        no_comment = ap (λ x. opens x || dashes x) (sym parts) ∙ rw (s.0, no_dashes rest clear) refl;
+        longest = λ kind other more h q. omega (arith, text_within kind other more h, ap token_length (parts ∙ q), long, s.2);
+      };
+    }
+
 gives_token : (kind : TokenKind) (old new : Cursor) (t : Lexeme) → IsTextOf kind t.text → Takes old t new → Gives kind old t new
 gives_token Lower old new t f k = k
 gives_token Upper old new t f k = k
@@ -81,40 +98,64 @@ gives_token Word old new t f k = k
 gives_token Sign old new t f k = k
 gives_token End old new t f k = absurd f
 
-module _ (old : Cursor) (gap rest text after : List ℕ) (place behind : Place) (c : IsCut old.rest gap rest text after) (p : place ≡ place_after old.place gap) (q : behind ≡ place_after place text) where
-  pub takes : (kind : TokenKind) → kind ≡ kind_of text → (length text == 0) ≡ false → Gives kind old (record { kind = kind; text = text; place = place }) (record { rest = after; place = behind })
-  takes kind e some =
-      let s : Stands kind text after = subst (λ (k : TokenKind). Stands k text after) (sym e) (c.stands (is_some text some)) in
-      gives_token kind old (record { rest = after; place = behind }) (record { kind = kind; text = text; place = place }) s.0
-      (record { gap = gap; parts = c.parts ∙ ap (λ x. gap ++ x) c.token; space = c.space; stands = p; next = q; fits = s.0; ends = s.1 })
+pub takes : (old : Cursor) (gap rest text after : List ℕ) (place behind : Place) (n : ℕ) (kind : TokenKind) (first joined : Bool) → IsCut old gap rest place → n ≡ front_length rest → text ≡ take n rest → after ≡ drop n rest → (length text == 0) ≡ false
+    → kind ≡ kind_of text → first ≡ is_first old.behind gap → joined ≡ is_joined old.behind gap → behind ≡ place_after place text
+    → Gives kind old (record { kind = kind; text = text; place = place; first = first; joined = joined }) (record { rest = after; place = behind; behind = true })
+takes old gap rest text after place behind n kind first joined c e t a some k x y q =
+    let f = front rest text after n c.clear e t a some in
+    let fits : IsTextOf kind text = subst (λ (z : TokenKind). IsTextOf z text) (sym k) f.fits in
+    gives_token kind old (record { rest = after; place = behind; behind = true }) (record { kind = kind; text = text; place = place; first = first; joined = joined }) fits
+    (record {
+      gap = c.leaves.gap;
+      parts = c.leaves.parts ∙ ap (λ z. gap_text c.leaves.gap ++ z) f.parts;
+      space = subst (IsGap c.leaves.gap) f.parts c.leaves.space;
+      fits = fits;
+      longest = f.longest;
+      stands = c.leaves.stands;
+      first = x ∙ ap (is_first old.behind) c.text;
+      joined = y ∙ ap (is_joined old.behind) c.text;
+      next = q;
+      behind = refl;
+    })
 
-  -- what stands at the end
-  pub finishes : (length rest == 0) ≡ true → Finishes old (record { kind = End; text = text; place = place }) (record { rest = after; place = behind })
-  finishes none =
-      let r : rest ≡ [] = is_empty rest none in
-      let all : old.rest ≡ gap = c.parts ∙ ap (λ x. gap ++ x) r ∙ append-nil gap in
-      let n : length text + length after ≡ 0 = sym (length-append text after) ∙ ap length (sym c.token) ∙ ap length r in
-      let t : text ≡ [] = is_empty text (grind (arith, nat_tests)) in
-      let a : after ≡ [] = is_empty after (grind (arith, nat_tests)) in
+-- ---- where no token is found
+
+begins_dark : (b : ℕ) (rest : List ℕ) → piece_length (b ∷ rest) ≡ 0 → dark b ≡ true
+begins_dark b rest none = go (white b) refl
+  where
+    go : (w : Bool) → white b ≡ w → dark b ≡ true
+    go true w = let one : piece_length (b ∷ rest) ≡ 1 = rw w refl in absurd (omega arith)
+    go false w = rw w refl
+
+pub none_found : (rest : List ℕ) → front_length rest ≡ 0 → opens rest ≡ false → (kind : TokenKind) (text more : List ℕ) → IsTextOf kind text → rest ≡ text ++ more → ⊥
+none_found rest none o kind text more h e =
+    let zero : token_length rest ≡ 0 = sym (let is : front_length rest ≡ token_length rest = rw o refl in is) ∙ none in
+    omega (arith, zero, text_within kind text more h, ap token_length e, some_text kind text h)
+
+pub stops : (old : Cursor) (gap rest : List ℕ) (n : ℕ) (token : Token) → IsCut old gap rest token.place → n ≡ front_length rest → token.text.now ≡ take n rest → (length token.text.now == 0) ≡ true
+    → token.kind ≡ kind_of token.text.now → token.first ≡ is_first old.behind gap → token.joined ≡ is_joined old.behind gap → Next old (stop_at rest token) old
+stops old gap [] n token c e t none k x y =
+    let empty : token.text.now ≡ [] = is_empty token.text.now none in
+    let end : token.kind ≡ End = k ∙ ap kind_of empty in
+    let all : old.rest ≡ gap_text c.leaves.gap = c.leaves.parts ∙ append-nil (gap_text c.leaves.gap) in
+    let same : gap ≡ old.rest = c.text ∙ sym all in
+    subst (λ (z : TokenKind). Gives z old (lexeme token) old) (sym end) (
       record {
-        space = subst (Each white) (sym all) c.space;
-        empty = t;
-        stands = p ∙ ap (place_after old.place) (sym all);
-        stays = λ i. record { rest = a i; place = (q ∙ ap (place_after place) t) i };
-      }
-
-  no_token : (length text == 0) ≡ true → (t : Lexeme) (next : Cursor) → Takes old t next → ⊥
-  no_token none t next k =
-      let b : Starts dark t.text = begins old next t k in
-      let one = one_span white k.gap (t.text ++ next.rest) gap rest k.space (dark_stops t.text next.rest b) c.space c.stops (sym k.parts ∙ c.parts) in
-      let f = (found t.kind t.text next.rest k.fits k.ends).0 in
-      let n : length t.text ≡ 0 = sym f ∙ ap token_length one.1 ∙ sym c.long ∙ ap length (is_empty text none) in
-      none_starts t.text b n
-
-  pub stops_at : (length rest == 0) ≡ false → (length text == 0) ≡ true → (unknown : IsUnknown old place) × (◌≡◌ {A = Cursor} (record { rest = after; place = behind }) (record { rest = unknown.rest; place = place }))
-  stops_at some none =
-      let t : text ≡ [] = is_empty text none in
-      let a : after ≡ rest = sym (c.token ∙ ap (λ x. x ++ after) t) in (
-        record { gap = gap; rest = rest; parts = c.parts; space = c.space; stands = p; left = starts_dark rest some c.stops; none = no_token none },
-        (λ i. record { rest = a i; place = (q ∙ ap (place_after place) t) i }),
-      )
+        gap = c.leaves.gap;
+        parts = all;
+        space = c.leaves.space;
+        empty = empty;
+        stands = c.leaves.stands ∙ ap (place_after old.place) (sym all);
+        first = x ∙ ap (is_first old.behind) same;
+        joined = y ∙ ap (is_joined old.behind) same;
+      },
+      refl,
+    )
+stops old gap (b ∷ rest) n token c e t none k x y =
+    let all = b ∷ rest in
+    let within : n ≤ length all = subst (λ (m : ℕ). m ≤ length all) (sym e) (front_within all) in
+    let long : length token.text.now ≡ n = ap length t ∙ length-take-le n all within in
+    let zero : front_length all ≡ 0 = sym e ∙ sym long ∙ ap length (is_empty token.text.now none) in
+    either_way (λ (r : Result Token LexFault). Next old r old) (opens all) (Err (OpenComment token.place)) (Err (UnknownByte token.place))
+    (λ o. (record { rest = all; leaves = c.leaves; begins = o; unclosed = λ inside more h q. piece_stands (block inside) all more h q c.clear }, refl))
+    (λ o. (record { rest = all; leaves = c.leaves; left = begins_dark b rest c.clear; no_comment = (o, no_dashes all c.clear); no_token = none_found all zero o }, refl))

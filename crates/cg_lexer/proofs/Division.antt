@@ -1,112 +1,178 @@
 -- What follows from how sources are divided into tokens.
-use Rattle.std.proofs.Common.{◌≡◌, ℕ, ◌+◌, ◌<◌, Bool, false, List, [], ◌∷◌, ◌++◌, length, length-append, refl, sym, ap, ◌∙◌, subst, arith}
+use Rattle.std.proofs.Common.{◌≡◌, ℕ, ◌<◌, Bool, true, false, List, [], ◌∷◌, ◌++◌, length, drop, length-append, refl, sym, ap, ◌∙◌, subst, arith}
+use Rattle.std.specs.Prelude.{◌||◌, ◌==◌}
 use Rattle.std.proofs.lemmas.List.{append-nil}
+use Rattle.std.proofs.lemmas.Bool.Decides.{nat_tests}
 use Rattle.cg_base.specs.declared.place.Place.{Place}
-use Rattle.cg_base.specs.Bytes.{white, Each, Starts, Stops}
+use Rattle.cg_base.specs.Bytes.{white, Starts}
 use Rattle.cg_base.specs.Places.{place_after}
-use Rattle.cg_lexer.specs.Tokens.{Lexeme, Cursor, start, Takes, Divides, Lexes}
-use Rattle.cg_lexer.specs.Next.{dark, IsUnknown}
-use Rattle.cg_base.proofs.Spans.{one_span, not_all}
-use Rattle.cg_lexer.proofs.Munch.{found, one_front}
+use Rattle.cg_lexer.specs.declared.token.TokenKind.{TokenKind}
+use Rattle.cg_lexer.specs.declared.token.TokenKind.TheVariants.{Lower, Upper, Number, Word, Sign, End}
+use Rattle.cg_lexer.specs.declared.token.LexFault.{LexFault}
+use Rattle.cg_lexer.specs.declared.token.LexFault.TheVariants.{UnknownByte, OpenComment}
+use Rattle.cg_lexer.specs.Bytes.{dark}
+use Rattle.cg_lexer.specs.Gaps.{opens, Piece, blank, line, block, Inside, piece_text, gap_text, IsPiece, IsGap, IsSpace}
+use Rattle.cg_lexer.specs.Tokens.{IsTextOf, IsLongest, Lexeme, Cursor, start, is_first, is_joined, Takes, Divides, Lexes}
+use Rattle.cg_lexer.specs.Front.{piece_length}
+use Rattle.cg_lexer.specs.Next.{Leaves, IsUnknown, IsOpen, IsFault, Gives}
+use Rattle.cg_lexer.specs.Laws.{OneFault}
+use Rattle.cg_lexer.proofs.Gaps.{piece_there, one_gap}
+use Rattle.cg_lexer.proofs.Munch.{text_dark, some_text, clear, one_front}
 
--- bytes that begin with no white space
-abbrev IsDark : List ℕ → Type 0
-IsDark text = (b : ℕ) × (more : List ℕ) × (text ≡ b ∷ more) × (white b ≡ false)
-
-is_dark : (text : List ℕ) → Starts dark text → IsDark text
-is_dark [] h = absurd h
-is_dark (b ∷ more) h = (b, more, refl, grind arith)
-
--- white space doesn't reach such bytes
-no_white : (gap rest : List ℕ) → Starts dark rest → Each white (gap ++ rest) → ⊥
-no_white gap rest h all = let d = is_dark rest h in not_all white gap d.0 d.1 d.3 (subst (λ (x : List ℕ). Each white (gap ++ x)) d.2 all)
-
-pub dark_stops : (text rest : List ℕ) → Starts dark text → Stops white (text ++ rest)
-dark_stops text rest h = let d = is_dark text h in subst (λ (x : List ℕ). Stops white (x ++ rest)) (sym d.2) d.3
+-- ---- one token
 
 Starts-append : (p : ℕ → Bool) (text rest : List ℕ) → Starts p text → Starts p (text ++ rest)
 Starts-append p [] rest h = absurd h
 Starts-append p (b ∷ text) rest h = h
 
--- a token begins with no white space
-pub begins : (at after : Cursor) (t : Lexeme) → Takes at t after → Starts dark t.text
-begins at after t k = (found t.kind t.text after.rest k.fits k.ends).2
+-- neither white space nor a comment begins where a token does
+token_clear : (kind : TokenKind) (text rest : List ℕ) → IsTextOf kind text → IsLongest text rest → piece_length (text ++ rest) ≡ 0
+token_clear kind text rest f l = clear (text ++ rest) (Starts-append dark text rest (text_dark kind text f)) l.no_comment
 
--- a token leaves fewer bytes
-pub taken_shorter : (at after : Cursor) (t : Lexeme) → Takes at t after → length after.rest < length at.rest
-taken_shorter at after t k =
-    let d = is_dark t.text (begins at after t k) in
-    let n : length t.text ≡ length d.1 + 1 = ap length d.2 ∙ omega arith in
-    rw k.parts (omega (arith, n, length-append k.gap (t.text ++ after.rest), length-append t.text after.rest))
+taken_clear : (at after : Cursor) (t : Lexeme) → Takes at t after → piece_length (t.text ++ after.rest) ≡ 0
+taken_clear at after t k = token_clear t.kind t.text after.rest k.fits k.longest
 
 -- at a cursor stands at most one token, and one cursor stands behind it
 pub one_token : (at a b : Cursor) (t u : Lexeme) → Takes at t a → Takes at u b → (t ≡ u) × (a ≡ b)
 one_token at a b t u k l =
-    let g = one_span white k.gap (t.text ++ a.rest) l.gap (u.text ++ b.rest) k.space (dark_stops t.text a.rest (begins at a t k)) l.space (dark_stops u.text b.rest (begins at b u l)) (sym k.parts ∙ l.parts) in
-    let f = one_front t.kind u.kind t.text u.text a.rest b.rest k.fits k.ends l.fits l.ends g.1 in
+    let g = one_gap k.gap l.gap (t.text ++ a.rest) (u.text ++ b.rest) k.space l.space (taken_clear at a t k) (taken_clear at b u l) (sym k.parts ∙ l.parts) in
+    let f = one_front t.kind u.kind t.text u.text a.rest b.rest k.fits k.longest l.fits l.longest g.1 in
     let p : t.place ≡ u.place = k.stands ∙ ap (place_after at.place) g.0 ∙ sym l.stands in
+    let x : t.first ≡ u.first = k.first ∙ ap (is_first at.behind) g.0 ∙ sym l.first in
+    let y : t.joined ≡ u.joined = k.joined ∙ ap (is_joined at.behind) g.0 ∙ sym l.joined in
     let q : a.place ≡ b.place = k.next ∙ (λ i. place_after (p i) (f.1 i)) ∙ sym l.next in
-    ((λ i. record { kind = f.0 i; text = f.1 i; place = p i }), λ i. record { rest = f.2 i; place = q i })
+    let z : a.behind ≡ b.behind = k.behind ∙ sym l.behind in
+    ((λ i. record { kind = f.0 i; text = f.1 i; place = p i; first = x i; joined = y i }), λ i. record { rest = f.2 i; place = q i; behind = z i })
 
--- where only white space is left no token stands
-pub none_in_white : (at after : Cursor) (t : Lexeme) → Each white at.rest → Takes at t after → ⊥
-none_in_white at after t all k = no_white k.gap (t.text ++ after.rest) (Starts-append dark t.text after.rest (begins at after t k)) (subst (Each white) k.parts all)
+-- a token leaves fewer bytes
+pub shorter : (at after : Cursor) (t : Lexeme) → Takes at t after → length after.rest < length at.rest
+shorter at after t k =
+    omega (arith, some_text t.kind t.text k.fits, ap length k.parts, length-append (gap_text k.gap) (t.text ++ after.rest), length-append t.text after.rest)
+
+-- what isn't the end is a token
+pub takes : (kind : TokenKind) (old new : Cursor) (t : Lexeme) → (kind ≡ End → ⊥) → Gives kind old t new → Takes old t new
+takes Lower old new t h g = g
+takes Upper old new t h g = g
+takes (Number v) old new t h g = g
+takes Word old new t h g = g
+takes Sign old new t h g = g
+takes End old new t h g = absurd (h refl)
+
+-- ---- where no token stands
+
+-- what is left behind a gap where nothing is left but a gap
+left_nothing : (bytes rest : List ℕ) (gap : List Piece) → bytes ≡ gap_text gap ++ rest → IsGap gap rest → piece_length rest ≡ 0 → IsSpace bytes → rest ≡ []
+left_nothing bytes rest gap parts space clear s = (one_gap gap s.0 rest [] space s.2 clear refl (sym parts ∙ s.1 ∙ sym (append-nil (gap_text s.0)))).1
+
+-- where only white space and comments are left no token stands
+pub none_in_space : (at after : Cursor) (t : Lexeme) → IsSpace at.rest → Takes at t after → ⊥
+none_in_space at after t s k =
+    let none : t.text ++ after.rest ≡ [] = left_nothing at.rest (t.text ++ after.rest) k.gap k.parts k.space (taken_clear at after t k) s in
+    omega (arith, some_text t.kind t.text k.fits, ap length none, length-append t.text after.rest)
+
+no_piece : (n : ℕ) → (0 < n → ⊥) → n ≡ 0
+no_piece n h = go (n == 0) refl
+  where
+    go : (b : Bool) → (n == 0) ≡ b → n ≡ 0
+    go true e = grind (arith, nat_tests)
+    go false e = absurd (h (grind (arith, nat_tests)))
+
+-- a piece where a block comment opens is a block comment
+open_piece : (p : Piece) (rest more : List ℕ) → IsPiece p more → opens rest ≡ true → rest ≡ piece_text p ++ more → (inside : Inside) × (p ≡ block inside)
+open_piece (blank b) rest more h o e =
+    let first : opens (b ∷ more) ≡ true = ap opens (sym e) ∙ o in
+    absurd (white_opens b more h first)
+  where
+    white_opens : (c : ℕ) (xs : List ℕ) → white c ≡ true → opens (c ∷ xs) ≡ true → ⊥
+    white_opens c [] w x = grind (arith, nat_tests)
+    white_opens c (d ∷ xs) w x = grind (arith, nat_tests)
+open_piece (line text) rest more h o e = let no : opens (45 ∷ 45 ∷ (text ++ more)) ≡ true = ap opens (sym e) ∙ o in absurd (cc)
+open_piece (block inside) rest more h o e = (inside, refl)
+
+open_clear : (at : Cursor) (place : Place) (u : IsOpen at place) → piece_length u.rest ≡ 0
+open_clear at place u = no_piece (piece_length u.rest) (λ some.
+    let p = piece_there u.rest some in
+    let more = drop (piece_length u.rest) u.rest in
+    let b = open_piece p.0 u.rest more p.1 u.begins p.2 in
+    let Q : Piece → Type 0 = λ x. IsPiece x more in
+    u.unclosed b.0 more (subst Q b.1 p.1) (p.2 ∙ ap (λ x. piece_text x ++ more) b.1))
+
+unknown_clear : (at : Cursor) (place : Place) (u : IsUnknown at place) → piece_length u.rest ≡ 0
+unknown_clear at place u = clear u.rest u.left (rw (u.no_comment.0, u.no_comment.1) refl)
+
+-- what is left where a fault stands, and it alone
+taken_there : (at after : Cursor) (t : Lexeme) (rest : List ℕ) (place : Place) → Leaves at rest place → piece_length rest ≡ 0 → Takes at t after → rest ≡ t.text ++ after.rest
+taken_there at after t rest place l clear k = (one_gap l.gap k.gap rest (t.text ++ after.rest) l.space k.space clear (taken_clear at after t k) (sym l.parts ∙ k.parts)).1
+
+either_first : (a b : Bool) → (a || b) ≡ false → a ≡ false
+either_first true b e = cc
+either_first false b e = refl
+
+-- where a fault stands no token does
+pub none_at_fault : (at after : Cursor) (t : Lexeme) (f : LexFault) → IsFault at f → Takes at t after → ⊥
+none_at_fault at after t (UnknownByte place) u k =
+    u.no_token t.kind t.text after.rest k.fits (taken_there at after t u.rest place u.leaves (unknown_clear at place u) k)
+none_at_fault at after t (OpenComment place) u k =
+    let is : u.rest ≡ t.text ++ after.rest = taken_there at after t u.rest place u.leaves (open_clear at place u) k in
+    let no : opens u.rest ≡ false = ap opens is ∙ either_first _ _ k.longest.no_comment in
+    let yes = u.begins in
+    cc
+
+-- nor is all that is left white space and comments
+pub some_at_fault : (at : Cursor) (f : LexFault) → IsFault at f → IsSpace at.rest → ⊥
+some_at_fault at (UnknownByte place) u s =
+    let none : u.rest ≡ [] = left_nothing at.rest u.rest u.leaves.gap u.leaves.parts u.leaves.space (unknown_clear at place u) s in
+    subst (Starts dark) none u.left
+some_at_fault at (OpenComment place) u s =
+    let none : u.rest ≡ [] = left_nothing at.rest u.rest u.leaves.gap u.leaves.parts u.leaves.space (open_clear at place u) s in
+    let yes : opens [] ≡ true = ap opens (sym none) ∙ u.begins in
+    cc
+
+same_leaves : (at : Cursor) (rest rest' : List ℕ) (place place' : Place) (l : Leaves at rest place) (m : Leaves at rest' place') → piece_length rest ≡ 0 → piece_length rest' ≡ 0 → (rest ≡ rest') × (place ≡ place')
+same_leaves at rest rest' place place' l m c d =
+    let g = one_gap l.gap m.gap rest rest' l.space m.space c d (sym l.parts ∙ m.parts) in
+    (g.1, l.stands ∙ ap (place_after at.place) g.0 ∙ sym m.stands)
+
+not_both : (at : Cursor) (p q : Place) → IsUnknown at p → IsOpen at q → ⊥
+not_both at p q u o =
+    let same : u.rest ≡ o.rest = (same_leaves at u.rest o.rest p q u.leaves o.leaves (unknown_clear at p u) (open_clear at q o)).0 in
+    let no : opens o.rest ≡ false = ap opens (sym same) ∙ u.no_comment.0 in
+    let yes = o.begins in
+    cc
+
+-- at a cursor stands at most one fault
+same_fault : (at : Cursor) (f g : LexFault) → IsFault at f → IsFault at g → f ≡ g
+same_fault at (UnknownByte p) (UnknownByte q) u v = ap UnknownByte (same_leaves at u.rest v.rest p q u.leaves v.leaves (unknown_clear at p u) (unknown_clear at q v)).1
+same_fault at (UnknownByte p) (OpenComment q) u v = absurd (not_both at p q u v)
+same_fault at (OpenComment p) (UnknownByte q) u v = absurd (not_both at q p v u)
+same_fault at (OpenComment p) (OpenComment q) u v = ap OpenComment (same_leaves at u.rest v.rest p q u.leaves v.leaves (open_clear at p u) (open_clear at q v)).1
+
+pub one_fault : OneFault
+one_fault = record { same = same_fault; no_token = none_at_fault; no_end = some_at_fault }
+
+-- ---- lists of tokens
 
 -- a token more
-pub Divides-push : (at mid after : Cursor) (ts : List Lexeme) (t : Lexeme) → Divides at ts mid → Takes mid t after → Divides at (ts ++ t ∷ []) after
-Divides-push at mid after [] t d k = (after, subst (λ (x : Cursor). Takes x t after) (sym d) k, refl)
-Divides-push at mid after (u ∷ ts) t d k = (d.0, d.1, Divides-push d.0 mid after ts t d.2 k)
+pub divides_more : (ts : List Lexeme) (at mid after : Cursor) (t : Lexeme) → Divides at ts mid → Takes mid t after → Divides at (ts ++ t ∷ []) after
+divides_more [] at mid after t d k = (after, subst (λ (x : Cursor). Takes x t after) (sym d) k, refl)
+divides_more (u ∷ ts) at mid after t d k = (d.0, d.1, divides_more ts d.0 mid after t d.2 k)
 
--- the tokens that are left behind a cursor, and white space
-abbrev pub LeftAt : Cursor → List Lexeme → Type 0
-LeftAt mid more = (last : Cursor) × Divides mid more last × Each white last.rest
+-- each whole division goes on from the tokens that were taken so far
+pub goes_on : (front : List Lexeme) (from at last : Cursor) (ts : List Lexeme) → Divides from front at → Divides from ts last → IsSpace last.rest → (more : List Lexeme) × (ts ≡ front ++ more) × Divides at more last
+goes_on [] from at last ts d e s = (ts, refl, subst (λ (x : Cursor). Divides x ts last) d e)
+goes_on (t ∷ front) from at last [] d e s = absurd (none_in_space from d.0 t (subst (λ (x : Cursor). IsSpace x.rest) (sym e) s) d.1)
+goes_on (t ∷ front) from at last (u ∷ us) d e s =
+    let same = one_token from d.0 e.0 t u d.1 e.1 in
+    let r = goes_on front d.0 at last us d.2 (subst (λ (x : Cursor). Divides x us last) (sym same.1) e.2) s in
+    (r.0, (λ i. sym same.0 i ∷ r.1 i), r.2)
 
-prefix_from : (at mid last : Cursor) (front all : List Lexeme) → Divides at front mid → Divides at all last → Each white last.rest → (more : List Lexeme) × (all ≡ front ++ more) × LeftAt mid more
-prefix_from at mid last [] all d e end = (all, refl, (last, subst (λ (x : Cursor). Divides x all last) d e, end))
-prefix_from at mid last (t ∷ front) [] d e end = absurd (none_in_white at d.0 t (subst (λ (x : Cursor). Each white x.rest) (sym e) end) d.1)
-prefix_from at mid last (t ∷ front) (u ∷ all) d e end =
-    let one = one_token at d.0 e.0 t u d.1 e.1 in
-    let more = prefix_from d.0 mid last front all d.2 (subst (λ (x : Cursor). Divides x all last) (sym one.1) e.2) end in
-    (more.0, (λ i. sym one.0 i ∷ more.1 i), more.2)
-
--- what was taken is a front of all the tokens
-pub prefix : (bytes : List ℕ) (front all : List Lexeme) (mid : Cursor) → Divides (start bytes) front mid → Lexes bytes all → (more : List Lexeme) × (all ≡ front ++ more) × LeftAt mid more
-prefix bytes front all mid d l = prefix_from (start bytes) mid l.0 front all d l.1 l.2
-
-left_none : (mid : Cursor) (more : List Lexeme) → Each white mid.rest → LeftAt mid more → more ≡ []
-left_none mid [] all l = refl
-left_none mid (t ∷ more) all l = absurd (none_in_white mid l.1.0 t all l.1.1)
-
--- once only white space is left, all are taken
-pub whole : (bytes : List ℕ) (front all : List Lexeme) (mid : Cursor) → Divides (start bytes) front mid → Each white mid.rest → Lexes bytes all → all ≡ front
-whole bytes front all mid d end l =
-    let p = prefix bytes front all mid d l in
-    p.1 ∙ ap (λ (x : List Lexeme). front ++ x) (left_none mid p.0 end p.2) ∙ append-nil front
-
-pub whole_again : (bytes : List ℕ) (front : List Lexeme) (mid : Cursor) → Divides (start bytes) front mid → Each white mid.rest → Lexes bytes front
-whole_again bytes front mid d end = (mid, d, end)
-
-left_known : (mid : Cursor) (place : Place) (more : List Lexeme) → IsUnknown mid place → LeftAt mid more → ⊥
-left_known mid place [] u l = no_white u.gap u.rest u.left (subst (Each white) u.parts (subst (λ (x : Cursor). Each white x.rest) (sym l.1) l.2))
-left_known mid place (t ∷ more) u l = u.none t l.1.0 l.1.1
-
--- where a byte begins no token, there are no tokens of the whole
-pub unknown : (bytes : List ℕ) (front all : List Lexeme) (mid : Cursor) (place : Place) → Divides (start bytes) front mid → IsUnknown mid place → Lexes bytes all → ⊥
-unknown bytes front all mid place d u l = let p = prefix bytes front all mid d l in left_known mid place p.0 u p.2
-
-left_next : (mid after : Cursor) (t : Lexeme) (more : List Lexeme) → Takes mid t after → LeftAt mid more → (later : List Lexeme) × (more ≡ t ∷ later) × LeftAt after later
-left_next mid after t [] k l = absurd (none_in_white mid after t (subst (λ (x : Cursor). Each white x.rest) (sym l.1) l.2) k)
-left_next mid after t (u ∷ more) k l =
-    let one = one_token mid after l.1.0 t u k l.1.1 in
-    (more, (λ i. sym one.0 i ∷ more), (l.0, subst (λ (x : Cursor). Divides x more l.0) (sym one.1) l.1.2, l.2))
-
--- the next token is the next one of all
-pub next_token : (bytes : List ℕ) (front all : List Lexeme) (t : Lexeme) (mid after : Cursor) → Divides (start bytes) front mid → Takes mid t after → Lexes bytes all → (more : List Lexeme) × (all ≡ front ++ t ∷ more)
-next_token bytes front all t mid after d k l =
-    let p = prefix bytes front all mid d l in
-    let n = left_next mid after t p.0 k p.2 in
-    (n.0, p.1 ∙ ap (λ (x : List Lexeme). front ++ x) n.1)
+-- where only white space and comments are left no more tokens are
+pub no_more : (at last : Cursor) (ts : List Lexeme) → IsSpace at.rest → Divides at ts last → ts ≡ []
+no_more at last [] s d = refl
+no_more at last (t ∷ ts) s d = absurd (none_in_space at d.0 t s d.1)
 
 -- a source is one list of tokens at most
 pub one_division : (bytes : List ℕ) (ts us : List Lexeme) → Lexes bytes ts → Lexes bytes us → ts ≡ us
-one_division bytes ts us l m = sym (whole bytes ts us l.0 l.1 l.2 m)
+one_division bytes ts us l m =
+    let r = goes_on ts (start bytes) l.0 m.0 us l.1 m.1 m.2 in
+    sym (append-nil ts) ∙ ap (λ (x : List Lexeme). ts ++ x) (sym (no_more l.0 m.0 r.0 l.2 r.2)) ∙ sym r.1

@@ -1,3 +1,6 @@
 pub mod Cuts
 pub mod Division
+mod Example
+pub mod Gaps
 pub mod Munch
+pub mod Numbers

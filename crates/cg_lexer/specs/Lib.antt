@@ -1,4 +1,6 @@
 pub mod Bytes
+pub mod Numbers
+pub mod Gaps
 pub mod Tokens
 pub mod Front
 pub mod Next

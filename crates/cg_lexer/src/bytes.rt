@@ -1,10 +1,10 @@
 // Kinds of bytes, and how many of a kind stand in front.
-ghost use Rattle.std.specs.Prelude.{◌≡◌};
+ghost use Rattle.std.specs.Prelude.{◌≡◌, ◌≤◌, length};
 ghost use Rattle.std.specs.List.{prefix_len};
-ghost use Rattle.cg_base.specs.Bytes.{white, digit};
-ghost use Rattle.cg_lexer.specs.Bytes.{small, large, part_of_name};
+ghost use Rattle.cg_lexer.specs.Bytes.{small, large, part_of_name, inline};
+ghost use Rattle.cg_lexer.specs.Front.{short, middle, long};
 
-use cg_base::{is_digit, is_white};
+use cg_base::is_digit;
 
 pub(crate) fn is_small(byte: u8) -> bool
     ensures { result ≡ small byte }
@@ -24,12 +24,6 @@ fn is_part_of_name(byte: u8) -> bool
     is_small(byte) || is_large(byte) || is_digit(byte) || byte == b'\''
 }
 
-pub(crate) fn white_len(bytes: &[u8]) -> usize
-    ensures { result ≡ prefix_len white bytes.now }
-{
-    bytes.iter().take_while(|byte| is_white(**byte)).count()
-}
-
 pub(crate) fn name_len(bytes: &[u8]) -> usize
     ensures { result ≡ prefix_len part_of_name bytes.now }
 {
@@ -39,8 +33,39 @@ pub(crate) fn name_len(bytes: &[u8]) -> usize
         .count()
 }
 
-pub(crate) fn digit_len(bytes: &[u8]) -> usize
-    ensures { result ≡ prefix_len digit bytes.now }
+/// How many bytes stand before the end of the line.
+pub(crate) fn line_len(bytes: &[u8]) -> usize
+    ensures value { result ≡ prefix_len inline bytes.now }
+    ensures within { result ≤ length bytes.now }
 {
-    bytes.iter().take_while(|byte| is_digit(**byte)).count()
+    bytes.iter().take_while(|byte| **byte != b'\n').count()
+}
+
+/// Whether a byte is a sign.
+pub(crate) fn is_short(byte: u8) -> bool
+    ensures { result ≡ short byte }
+{
+    b"(){}[]<>=:!|,.+-*/%".contains(&byte)
+}
+
+/// Whether two bytes are one sign.
+pub(crate) fn is_middle(first: u8, second: u8) -> bool
+    ensures { result ≡ middle first second }
+{
+    match first {
+        b'#' => second == b'{',
+        b'<' | b'>' | b'=' | b'/' => second == b'=',
+        b':' => second == b'<',
+        b'-' => second == b'>',
+        b'.' | b'&' | b'|' => second == first,
+        _ => false,
+    }
+}
+
+/// Whether three bytes are one sign.
+pub(crate) fn is_long(first: u8, second: u8, third: u8) -> bool
+    ensures { result ≡ long first second third }
+{
+    let operator = second == b'&' || second == b'|' || second == b'^';
+    first == b'.' && operator && third == b'.'
 }

@@ -13,16 +13,20 @@ pub enum TokenKind {
     End,
 }
 
-/// A token, with its text in the source and the place of its first byte.
+/// A token: its text in the source; the place of its first byte; whether no token stands before it on its line; and whether no
+/// byte stands between it and the token before it. The first token of a source is not joined.
 #[derive(Clone, Copy, Debug)]
 pub struct Token<'a> {
     pub kind: TokenKind,
     pub text: &'a [u8],
     pub place: Place,
+    pub first: bool,
+    pub joined: bool,
 }
 
-/// Why no token can be read: a byte that begins none, at its place.
+/// Why no token can be read: a byte that begins none, at its place; or a comment that isn't closed, at its beginning.
 #[derive(Clone, Copy, Debug, PartialEq, Eq)]
 pub enum LexFault {
     UnknownByte(Place),
+    OpenComment(Place),
 }

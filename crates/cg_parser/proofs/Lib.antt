@@ -1,5 +1,4 @@
 pub mod Complete
-pub mod Lexed
 pub mod Mapped
 pub mod One
 pub mod Says

@@ -6,15 +6,15 @@ use Rattle.std.proofs.lemmas.Bool.{leb-true, leb-false}
 use Rattle.std.proofs.lemmas.List.{append-nil, map-append}
 use Rattle.cg_base.specs.declared.place.Place.{Place}
 use Rattle.cg_base.specs.Reader.{Reader, run as reader_run, Begins}
-use Rattle.cg_base.specs.Bytes.{Each, white}
 use Rattle.cg_base.specs.Places.{place_after}
+use Rattle.cg_lexer.specs.Gaps.{IsSpace}
 use Rattle.cg_lexer.specs.Tokens.{Lexeme, Cursor, start, Takes, Divides, Lexes}
 use Rattle.cg_lexer.specs.declared.token.TokenKind.{TokenKind}
 use Rattle.cg_lexer.specs.declared.token.TokenKind.TheVariants.{End}
 use Rattle.cg_lexer.specs.declared.token.LexFault.{LexFault}
-use Rattle.cg_lexer.specs.declared.token.LexFault.TheVariants.{UnknownByte}
-use Rattle.cg_lexer.specs.Next.{IsUnknown, Next, Gives, Finishes}
-use Rattle.cg_lexer.specs.Laws.{OneToken}
+use Rattle.cg_lexer.specs.declared.token.LexFault.TheVariants.{UnknownByte, OpenComment}
+use Rattle.cg_lexer.specs.Next.{IsFault, Next, Gives, Finishes}
+use Rattle.cg_lexer.proofs.Division.{one_token, none_in_space, none_at_fault, some_at_fault, divides_more, goes_on, no_more}
 use Rattle.cg_surface.specs.declared.program.Program.{Program}
 use Rattle.cg_surface.specs.Trees.{Entry, program_of, program_depth}
 use Rattle.cg_parser.specs.Symbols.{Seen, seen}
@@ -26,13 +26,12 @@ use Rattle.cg_parser.specs.Bounded.{Bounded, bounded, bounded_reader, within_pro
 use Rattle.cg_parser.specs.Answers.{depth_limit, Viable, at_token, at_end, Answers, lexer_fault}
 use Rattle.cg_parser.specs.Stages.{Concludes}
 use Rattle.cg_parser.specs.declared.fault.ParseFault.{ParseFault}
-use Rattle.cg_parser.specs.declared.fault.ParseFault.TheVariants.{S1, S3, Nesting, Memory}
+use Rattle.cg_parser.specs.declared.fault.ParseFault.TheVariants.{S1, S2, S3, Nesting, Memory}
 use Rattle.cg_parser.proofs.Short.{Stage, finish, step, run}
 use Rattle.cg_parser.proofs.Complete.{complete}
 use Rattle.cg_parser.proofs.Sound.{sound}
 use Rattle.cg_parser.proofs.Viable.{laws}
 use Rattle.cg_parser.proofs.Mapped.{option_map, bounded_run, bounded_finish, bounded_open}
-use Rattle.cg_parser.proofs.Lexed.{none_left, unknown_left, divides_more, goes_on}
 
 -- tokens one after another
 run_append : {S D : Type 0} (R : Reader S Seen D) (front more : List Seen) (s : S) → reader_run R s (front ++ more) ≡ reader_run R (reader_run R s front) more
@@ -82,24 +81,27 @@ plain_open ts s b e o = sym (bounded_open (run (Between []) ts)) ∙ ap (machine
 viable : (bytes : List ℕ) (at : Cursor) (s : Bounded) (g : Going bytes at s) → Viable bytes g.front at
 viable bytes at s g = record { divides = g.divides; begins = begun (map seen g.front) (plain_open (map seen g.front) s true g.state g.opened) }
 
-module _ (law : OneToken) (bytes : List ℕ) (at : Cursor) (s : Bounded) (g : Going bytes at s) where
+module _ (bytes : List ℕ) (at : Cursor) (s : Bounded) (g : Going bytes at s) where
   -- each division goes on from here
-  further : (ts : List Lexeme) → Lexes bytes ts → (last : Cursor) × (more : List Lexeme) × (ts ≡ g.front ++ more) × Divides at more last × Each white last.rest
-  further ts l = let r = goes_on law g.front (start bytes) at l.0 ts g.divides l.1 l.2 in (l.0, r.0, r.1, r.2, l.2)
+  further : (ts : List Lexeme) → Lexes bytes ts → (last : Cursor) × (more : List Lexeme) × (ts ≡ g.front ++ more) × Divides at more last × IsSpace last.rest
+  further ts l = let r = goes_on g.front (start bytes) at l.0 ts g.divides l.1 l.2 in (l.0, r.0, r.1, r.2, l.2)
 
-  unknown_ends : (place : Place) (more : List Lexeme) (last : Cursor) → IsUnknown at place → Divides at more last → Each white last.rest → ⊥
-  unknown_ends place [] last u d w = unknown_left at place (let P : Cursor → Type 0 = λ c. Each white c.rest in subst P (sym d) w) u
-  unknown_ends place (t ∷ more) last u d w = u.none t d.0 d.1
+  fault_ends : (f : LexFault) (more : List Lexeme) (last : Cursor) → IsFault at f → Divides at more last → IsSpace last.rest → ⊥
+  fault_ends f [] last u d w = some_at_fault at f u (let P : Cursor → Type 0 = λ c. IsSpace c.rest in subst P (sym d) w)
+  fault_ends f (t ∷ more) last u d w = none_at_fault at d.0 t f u d.1
 
-  -- at a byte that begins no token
-  pub unknown_answers : (place : Place) → IsUnknown at place → Answers bytes (Err (S1 place))
-  unknown_answers place u =
-      (g.front, at, viable bytes at s g, u, λ p spelled. let r = further spelled.0 spelled.1 in unknown_ends place r.1 r.0 u r.3 r.4)
+  no_program : (f : LexFault) → IsFault at f → (p : List Entry) → Spells bytes p → ⊥
+  no_program f u p spelled = let r = further spelled.0 spelled.1 in fault_ends f r.1 r.0 u r.3 r.4
 
-  token_ends : (t : Lexeme) (after : Cursor) (p : List Entry) (more : List Lexeme) (last : Cursor) → Takes at t after → (Begins SpellsTokens (map seen g.front ++ seen t ∷ []) → ⊥) → Divides at more last → Each white last.rest → SpellsTokens (map seen (g.front ++ more)) p → ⊥
-  token_ends t after p [] last k none d w sp = none_left at after t (let P : Cursor → Type 0 = λ c. Each white c.rest in subst P (sym d) w) k
+  -- where the lexer finds a fault
+  pub lexer_answers : (f : LexFault) → IsFault at f → Answers bytes (Err (lexer_fault f))
+  lexer_answers (UnknownByte place) u = (g.front, at, viable bytes at s g, u, no_program (UnknownByte place) u)
+  lexer_answers (OpenComment place) u = (g.front, at, viable bytes at s g, u, no_program (OpenComment place) u)
+
+  token_ends : (t : Lexeme) (after : Cursor) (p : List Entry) (more : List Lexeme) (last : Cursor) → Takes at t after → (Begins SpellsTokens (map seen g.front ++ seen t ∷ []) → ⊥) → Divides at more last → IsSpace last.rest → SpellsTokens (map seen (g.front ++ more)) p → ⊥
+  token_ends t after p [] last k none d w sp = none_in_space at after t (let P : Cursor → Type 0 = λ c. IsSpace c.rest in subst P (sym d) w) k
   token_ends t after p (u ∷ more) last k none d w sp =
-      let same : t ≡ u = (law at after d.0 t u k d.1).0 in
+      let same : t ≡ u = (one_token at after d.0 t u k d.1).0 in
       let parts : map seen (g.front ++ u ∷ more) ≡ (map seen g.front ++ seen t ∷ []) ++ map seen more = map-append seen g.front (u ∷ more) ∙ ap (λ x. map seen g.front ++ seen x ∷ map seen more) (sym same) ∙ sym (append_assoc (map seen g.front) (seen t ∷ []) (map seen more)) in
       none (map seen more, p, let P : List Seen → Type 0 = λ xs. SpellsTokens xs p in subst P parts sp)
 
@@ -114,16 +116,12 @@ module _ (law : OneToken) (bytes : List ℕ) (at : Cursor) (s : Bounded) (g : Go
         λ p spelled. let r = further spelled.0 spelled.1 in token_ends t after p r.1 r.0 k none r.3 r.4 (let P : List Lexeme → Type 0 = λ xs. SpellsTokens (map seen xs) p in subst P r.2 spelled.2),
       )
 
-  module _ (space : Each white at.rest) where
+  module _ (space : IsSpace at.rest) where
     lexed : Lexes bytes g.front
     lexed = (at, g.divides, space)
 
-    no_more : (more : List Lexeme) (last : Cursor) → Divides at more last → more ≡ []
-    no_more [] last d = refl
-    no_more (t ∷ more) last d = absurd (none_left at d.0 t space d.1)
-
     only : (ts : List Lexeme) → Lexes bytes ts → ts ≡ g.front
-    only ts l = let r = further ts l in r.2 ∙ ap (λ x. g.front ++ x) (no_more r.1 r.0 r.3) ∙ append-nil g.front
+    only ts l = let r = further ts l in r.2 ∙ ap (λ x. g.front ++ x) (no_more at r.0 r.1 space r.3) ∙ append-nil g.front
 
     spells_here : (p : List Entry) → Spells bytes p → SpellsTokens (map seen g.front) p
     spells_here p sp = let P : List Lexeme → Type 0 = λ xs. SpellsTokens (map seen xs) p in subst P (only sp.0 sp.1) sp.2
@@ -167,17 +165,18 @@ module _ (law : OneToken) (bytes : List ℕ) (at : Cursor) (s : Bounded) (g : Go
     pub end_answers : (place : Place) → place ≡ place_after at.place at.rest → (r : Result Program ParseFault) → Concludes (machine.finish bounded s) place r → Answers bytes r
     end_answers place e (Ok r) c = program_answers r _ refl (sym both ∙ c)
     end_answers place e (Err (S1 q)) c = absurd c
+    end_answers place e (Err (S2 q)) c = absurd c
     end_answers place e (Err (S3 q)) c = none_answers q (c.1 ∙ e) _ refl (sym both ∙ c.0)
     end_answers place e (Err Nesting) c = deep_answers _ refl (sym both ∙ c)
     end_answers place e (Err Memory) c = tt
 
--- at a byte that begins no token, as the lexer tells it
-pub fault_answers : OneToken → (bytes : List ℕ) (at next : Cursor) (s : Bounded) → Going bytes at s → (f : LexFault) → Next at (Err f) next → (r : Result Program ParseFault) → IsErrAnd r (λ e. e ≡ lexer_fault f) → Answers bytes r
-fault_answers law bytes at next s g (UnknownByte p) n (Ok x) h = absurd h
-fault_answers law bytes at next s g (UnknownByte p) n (Err e) h = let P : ParseFault → Type 0 = λ x. Answers bytes (Err x) in subst P (sym h) (unknown_answers law bytes at s g p n.0)
+-- where there is no token, as the lexer tells it
+pub fault_answers : (bytes : List ℕ) (at next : Cursor) (s : Bounded) → Going bytes at s → (f : LexFault) → Next at (Err f) next → (r : Result Program ParseFault) → IsErrAnd r (λ e. e ≡ lexer_fault f) → Answers bytes r
+fault_answers bytes at next s g f n (Ok x) h = absurd h
+fault_answers bytes at next s g f n (Err e) h = let P : ParseFault → Type 0 = λ x. Answers bytes (Err x) in subst P (sym h) (lexer_answers bytes at s g f n.0)
 
 -- at the end, as the lexer tells it
-pub finish_answers : OneToken → (bytes : List ℕ) (at next : Cursor) (s : Bounded) → Going bytes at s → (k : TokenKind) (t : Lexeme) → k ≡ End → Gives k at t next → (r : Result Program ParseFault) → Concludes (machine.finish bounded s) t.place r → Answers bytes r
-finish_answers law bytes at next s g k t e h r c =
-    let f : Finishes at t next = let P : TokenKind → Type 0 = λ x. Gives x at t next in subst P e h in
-    end_answers law bytes at s g f.space t.place f.stands r c
+pub finish_answers : (bytes : List ℕ) (at next : Cursor) (s : Bounded) → Going bytes at s → (k : TokenKind) (t : Lexeme) → k ≡ End → Gives k at t next → (r : Result Program ParseFault) → Concludes (machine.finish bounded s) t.place r → Answers bytes r
+finish_answers bytes at next s g k t e h r c =
+    let f : Finishes at t × (next ≡ at) = let P : TokenKind → Type 0 = λ x. Gives x at t next in subst P e h in
+    end_answers bytes at s g (f.0.gap, f.0.parts, f.0.space) t.place f.0.stands r c

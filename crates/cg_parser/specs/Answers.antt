@@ -2,18 +2,18 @@
 use Rattle.std.specs.Prelude.{◌≡◌, ℕ, ◌≤◌, ◌<◌, List, [], ◌∷◌, ◌++◌, map, Result, Ok, Err, ⊤}
 use Rattle.cg_base.specs.declared.place.Place.{Place}
 use Rattle.cg_base.specs.Reader.{Begins}
-use Rattle.cg_base.specs.Bytes.{Each, white}
 use Rattle.cg_base.specs.Places.{place_after}
+use Rattle.cg_lexer.specs.Gaps.{IsSpace}
 use Rattle.cg_lexer.specs.Tokens.{Lexeme, Cursor, start, Takes, Divides}
-use Rattle.cg_lexer.specs.Next.{IsUnknown}
+use Rattle.cg_lexer.specs.Next.{IsUnknown, IsOpen}
 use Rattle.cg_lexer.specs.declared.token.LexFault.{LexFault}
-use Rattle.cg_lexer.specs.declared.token.LexFault.TheVariants.{UnknownByte}
+use Rattle.cg_lexer.specs.declared.token.LexFault.TheVariants.{UnknownByte, OpenComment}
 use Rattle.cg_surface.specs.declared.program.Program.{Program}
 use Rattle.cg_surface.specs.Trees.{Entry, program_of, program_depth}
 use Rattle.cg_parser.specs.Symbols.{seen}
 use Rattle.cg_parser.specs.Grammar.{SpellsTokens, Spells}
 use Rattle.cg_parser.specs.declared.fault.ParseFault.{ParseFault}
-use Rattle.cg_parser.specs.declared.fault.ParseFault.TheVariants.{S1, S3, Nesting, Memory}
+use Rattle.cg_parser.specs.declared.fault.ParseFault.TheVariants.{S1, S2, S3, Nesting, Memory}
 
 -- no program has more depth
 abbrev pub depth_limit : ℕ
@@ -27,20 +27,22 @@ pub record Viable (bytes : List ℕ) (front : List Lexeme) (at : Cursor) : Type 
 -- at a cursor stands a token, at this place, that no program has behind the front; or the end, at which none ends
 pub data IsUnexpected (front : List Lexeme) (at : Cursor) (place : Place) : Type 0 where
   at_token : (t : Lexeme) (after : Cursor) → Takes at t after → place ≡ t.place → (Begins SpellsTokens (map seen front ++ seen t ∷ []) → ⊥) → IsUnexpected front at place
-  at_end : Each white at.rest → place ≡ place_after at.place at.rest → ((p : List Entry) → SpellsTokens (map seen front) p → ⊥) → IsUnexpected front at place
+  at_end : IsSpace at.rest → place ≡ place_after at.place at.rest → ((p : List Entry) → SpellsTokens (map seen front) p → ⊥) → IsUnexpected front at place
 
 -- a lexer's fault, as the parser tells it
 abbrev pub lexer_fault : LexFault → ParseFault
 lexer_fault (UnknownByte place) = S1 place
+lexer_fault (OpenComment place) = S2 place
 
 abbrev pub NoProgram : List ℕ → Type 0
 NoProgram bytes = (p : List Entry) → Spells bytes p → ⊥
 
 -- The answer is right: the program that is spelled, which is the only one; a depth that is passed; or the first place
--- where a byte begins no token (S1) or no program goes on (S3).
+-- where a byte begins no token (S1), a comment that isn't closed begins (S2) or no program goes on (S3).
 abbrev pub Answers : List ℕ → Result Program ParseFault → Type 0
 Answers bytes (Ok p) = Spells bytes (program_of p) × (program_depth (program_of p) ≤ depth_limit) × ((q : List Entry) → Spells bytes q → q ≡ program_of p)
 Answers bytes (Err (S1 place)) = (front : List Lexeme) × (at : Cursor) × Viable bytes front at × IsUnknown at place × NoProgram bytes
+Answers bytes (Err (S2 place)) = (front : List Lexeme) × (at : Cursor) × Viable bytes front at × IsOpen at place × NoProgram bytes
 Answers bytes (Err (S3 place)) = (front : List Lexeme) × (at : Cursor) × Viable bytes front at × IsUnexpected front at place × NoProgram bytes
 Answers bytes (Err Nesting) = (p : List Entry) × Spells bytes p × (depth_limit < program_depth p) × ((q : List Entry) → Spells bytes q → q ≡ p)
 Answers bytes (Err Memory) = ⊤

@@ -7,7 +7,7 @@ use Rattle.cg_parser.specs.Bounded.{Bounded}
 use Rattle.cg_parser.specs.Machine as machine
 use Rattle.cg_parser.specs.Stack.{Open, mode_of}
 use Rattle.cg_parser.specs.declared.fault.ParseFault.{ParseFault}
-use Rattle.cg_parser.specs.declared.fault.ParseFault.TheVariants.{S1, S3, Nesting, Memory}
+use Rattle.cg_parser.specs.declared.fault.ParseFault.TheVariants.{S1, S2, S3, Nesting, Memory}
 use Rattle.cg_parser.specs.declared.phase.Plain.{Plain}
 use Rattle.cg_parser.specs.declared.phase.Plain.TheVariants.{Named, Unit as UnitType}
 use Rattle.cg_parser.specs.declared.phase.TypeMode.{TypeMode}
@@ -55,6 +55,7 @@ state_of before Failed fs = machine.Failed
 abbrev pub Concludes : Option (Option (List Entry)) → Place → Result Program ParseFault → Type 0
 Concludes items place (Ok p) = items ≡ Some (Some (program_of p))
 Concludes items place (Err (S1 q)) = ⊥
+Concludes items place (Err (S2 q)) = ⊥
 Concludes items place (Err (S3 q)) = (items ≡ None) × (q ≡ place)
 Concludes items place (Err Nesting) = items ≡ Some None
 Concludes items place (Err Memory) = ⊤

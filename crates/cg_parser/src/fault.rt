@@ -5,14 +5,21 @@ ghost use Rattle.cg_parser.specs.declared.fault.ParseFault.TheVariants.{Memory a
 
 use cg_base::{Memory, Place};
 use cg_lexer::LexFault;
+use thiserror::Error;
 
-/// Why bytes are no program within the depth: S1, a byte begins no token; S3, no program goes on with the token there;
-/// a program is spelled whose depth passes 1,024; or memory is wanting.
-#[derive(Clone, Copy, Debug, PartialEq, Eq)]
+/// Why bytes are no program within the depth: S1, a byte begins no token; S2, a comment that begins there isn't closed; S3, no
+/// program goes on with the token there; a program is spelled whose depth passes 1,024; or memory is wanting.
+#[derive(Clone, Copy, Debug, PartialEq, Eq, Error)]
 pub enum ParseFault {
+    #[error("unknown byte")]
     S1(Place),
+    #[error("comment not closed")]
+    S2(Place),
+    #[error("unexpected token")]
     S3(Place),
+    #[error("nested too deeply")]
     Nesting,
+    #[error("out of memory")]
     Memory,
 }
 
@@ -25,11 +32,12 @@ impl From<Memory> for ParseFault {
 }
 
 impl From<LexFault> for ParseFault {
-    ghost from_gives = { λ unknown fault. fault ≡ lexer_fault unknown };
+    ghost from_gives = { λ lexed fault. fault ≡ lexer_fault lexed };
 
     fn from(fault: LexFault) -> ParseFault {
         match fault {
             LexFault::UnknownByte(place) => ParseFault::S1(place),
+            LexFault::OpenComment(place) => ParseFault::S2(place),
         }
     }
 }

@@ -12,7 +12,7 @@ use crate::frame::{Frame, Mode};
 use crate::item::{finish, step};
 use crate::phase::{Phase, TypeMode};
 use cg_base::{Items, Place};
-use cg_lexer::{Lexer, TokenKind, one_token};
+use cg_lexer::{Lexer, TokenKind};
 use cg_surface::Program;
 use smallvec::SmallVec;
 use std::alloc::Global;
@@ -52,7 +52,6 @@ fn conclude(
 pub fn parse(alloc: Global, bytes: &[u8]) -> Result<Program, ParseFault>
     ensures { Answers bytes.now result }
 {
-    one_token();
     let mut lexer = Lexer::new(bytes);
     let mut stack: SmallVec<Frame, 16> = SmallVec::new(alloc);
     let items = Items::new(alloc);
