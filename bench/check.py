@@ -1,5 +1,7 @@
 #!/usr/bin/env python3
-"""Times `check` on growing sources: seconds, megabytes, and the ratio at each doubling.
+"""Times `check` on growing sources, on one processor: seconds, megabytes, and the ratio at each doubling.
+
+Each time is the least of three. Memory is what /usr/bin/time says.
 
 usage: bench/check.py [PROGRAM]     PROGRAM is the built program (crates/cg_cli/out/cg_cli by default)
 """
@@ -24,33 +26,52 @@ def source(functions):
     return "".join(lines)
 
 
+def nested(lets, terms):
+    """One function of nested lets round a balanced sum of so many terms."""
+
+    def balanced(first, past):
+        if past - first == 1:
+            return "x" if first % 2 else f"y{lets - 1}"
+        middle = (first + past) // 2
+        return f"({balanced(first, middle)} + {balanced(middle, past)})"
+
+    bound = "".join(f" let y{i} = {f'y{i - 1}' if i else 'x'} + x in\n" for i in range(lets))
+    return f"f : U32 -> U32\nf x =\n{bound} {balanced(0, terms)}\n"
+
+
 def measure(text):
-    """Seconds and megabytes of one check."""
-    with tempfile.NamedTemporaryFile("w", suffix=".cg", delete=False) as file:
-        file.write(text)
-    begin = time.perf_counter()
-    child = subprocess.Popen([PROGRAM, "check", file.name], stdout=subprocess.PIPE)
-    printed = child.stdout.read().decode()
-    _, status, usage = os.wait4(child.pid, 0)
-    seconds = time.perf_counter() - begin
-    os.unlink(file.name)
-    return seconds, usage.ru_maxrss / 1024, printed.strip(), os.waitstatus_to_exitcode(status)
+    """Seconds and megabytes of one check, and what it printed, with its status."""
+    with tempfile.TemporaryDirectory() as folder:
+        with open(os.path.join(folder, "a.cg"), "w") as file:
+            file.write(text)
+        timed = ["/usr/bin/time", "-q", "-o", "memory", "-f", "%M", PROGRAM]
+        begin = time.perf_counter()
+        child = subprocess.run([*timed, "check", "a.cg"], stdout=subprocess.PIPE, cwd=folder)
+        seconds = time.perf_counter() - begin
+        with open(os.path.join(folder, "memory")) as file:
+            megabytes = int(file.read()) / 1024
+    return seconds, megabytes, child.stdout.decode().strip(), child.returncode
 
 
 def report(name, text, before):
-    seconds, megabytes, printed, status = measure(text)
+    seconds, megabytes, printed, status = min(measure(text) for _ in range(3))
     ratio = f"{seconds / before:5.2f}" if before else "     "
-    print(f"{name:>16} {len(text):>9} bytes {seconds:8.3f} s {megabytes:8.1f} MB {ratio}  {status} {printed}")
+    print(f"{name:>24} {len(text):>9} bytes {seconds:8.3f} s {megabytes:8.1f} MB {ratio}  {status} {printed}")
     return seconds
 
 
 def main():
     resource.setrlimit(resource.RLIMIT_CORE, (0, 0))
+    os.sched_setaffinity(0, {max(os.sched_getaffinity(0))})
     before = None
     for functions in (500, 1000, 2000, 4000, 8000, 16000):
         before = report(f"{functions} functions", source(functions), before)
     whole = source(30000)[: 1 << 20]
     report("1 MiB", whole[: whole.rindex("\nf") + 1], None)
+    before = None
+    for lets in (1, 225, 450, 900):
+        before = report(f"{lets} lets, 30000 terms", nested(lets, 30000), before)
+    report("900 lets, 60000 terms", nested(900, 60000), before)
 
 
 main()
