@@ -14,8 +14,8 @@ use Rattle.cg_lexer.specs.Tokens.{is_word, short_signs, middle_signs, long_signs
 
 -- ---- what stands before a token
 
--- how many bytes stand up to the end of a block comment whose inside goes on here, behind the ends of as many comments inside
--- it; more than there are where it isn't closed
+-- how many bytes there are up to and with the end of a block comment, from a place inside as many further comments that are
+-- open in it; more than are left where it isn't closed
 abbrev pub closing : ℕ → List ℕ → ℕ
 closing n [] = 1
 closing n (b ∷ []) = 2

@@ -22,7 +22,8 @@ fn stop<'a>(rest: &[u8], token: Token<'a>) -> Result<Token<'a>, LexFault>
     }
 }
 
-/// Reads a source token by token. A contract sees what is left of it, where that begins, and whether a token ends there.
+/// Reads a source token by token. A contract sees what is left of it, where that begins, and whether a token ends there. The
+/// last answer is kept, the end or a fault, once it was given.
 #[derive(Drop)]
 pub struct Lexer<'a> {
     rest: &'a [u8],
