@@ -9,7 +9,7 @@ use Rattle.cg_cread.proofs.Complete.{complete}
 use Rattle.cg_cread.proofs.Steps.{run}
 
 -- tokens spell at most one program
-pub one_tree : (ts : List Lexeme) (p q : Program) → SpellsTokens ts p → SpellsTokens ts q → p ≡ q
+one_tree : (ts : List Lexeme) (p q : Program) → SpellsTokens ts p → SpellsTokens ts q → p ≡ q
 one_tree ts p q sp sq =
     let a : finish (run Start ts) ≡ Some p = complete ts p sp in
     let b : finish (run Start ts) ≡ Some q = complete ts q sq in

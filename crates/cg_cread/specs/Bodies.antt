@@ -11,14 +11,14 @@ use Rattle.cg_cread.specs.declared.head.Signature.{Signature}
 use Rattle.cg_cread.specs.declared.statement.Statement.{Statement}
 use Rattle.cg_cread.specs.declared.statement.Statement.TheVariants.{Target, Returning}
 
--- a function so far: its head, and the locals and statements that are read
+-- a function so far: its head, and the locals and statements that are read ("The C text", `decl`)
 pub record Draft : Type 0 where
   pub head : Signature
   pub locals : List CDecl
   pub stmts : List Stmt
 
 -- where in a function's body the machine stands: before a local or the first statement; behind a local's type or behind its name;
--- before a statement that isn't the first; in a statement; or where nothing goes on
+-- before a statement that isn't the first; in a statement; or where nothing goes on ("The C text", `decl`)
 pub data Body : Type 0 where
   Locals : Draft → Body
   LocalTyped : Draft → Word → Body
@@ -27,18 +27,19 @@ pub data Body : Type 0 where
   InStatement : Draft → Statement → Body
   Stuck : Body
 
--- a function of which only the head is read
+-- a function of which only the head is read ("The C text", `decl`)
 abbrev pub draft : Signature → Draft
 draft s = record { head = s; locals = []; stmts = [] }
 
--- a local more, and a statement more
+-- a local more ("The C text", `decl`)
 abbrev pub with_local : Draft → CDecl → Draft
 with_local d l = record d { locals = d.locals ++ l ∷ [] }
 
+-- a statement more ("The C text", `decl`)
 abbrev pub with_statement : Draft → Stmt → Draft
 with_statement d s = record d { stmts = d.stmts ++ s ∷ [] }
 
--- the function that is read
+-- the function that is read ("The C text", `decl`)
 abbrev pub function_at : Draft → Function
 function_at d = record {
   ty = ty.Word d.head.word;
@@ -47,38 +48,38 @@ function_at d = record {
   body = Some (record { locals = d.locals; block = to_block d.stmts });
 }
 
--- before a statement
+-- before a statement ("The C text", `decl`)
 abbrev pub on_statement : Draft → Symbol → Body
 on_statement d (named x) = InStatement d (Target x)
 on_statement d returning = InStatement d Returning
 on_statement d y = Stuck
 
--- before a local or the first statement
+-- before a local or the first statement ("The C text", `decl`)
 abbrev pub on_local : Draft → Symbol → Body
 on_local d (typed w) = LocalTyped d w
 on_local d y = on_statement d y
 
--- behind the type of a local
+-- behind the type of a local ("The C text", `decl`)
 abbrev pub on_typed : Draft → Word → Symbol → Body
 on_typed d w (named x) = LocalNamed d w x
 on_typed d w y = Stuck
 
--- behind the name of a local
+-- behind the name of a local ("The C text", `decl`)
 abbrev pub on_named : Draft → Word → List ℕ → Symbol → Body
 on_named d w x semicolon = Locals (with_local d (decl_of w x))
 on_named d w x y = Stuck
 
--- behind the `;` of a statement
+-- behind the `;` of a statement ("The C text", `decl`)
 abbrev pub ended : Draft → Option Stmt → Body
 ended d None = Stuck
 ended d (Some s) = Statements (with_statement d s)
 
--- in a statement
+-- in a statement ("The C text", `decl`)
 abbrev pub inside : Draft → Statement → Symbol → Body
 inside d m semicolon = ended d (statement_end m)
 inside d m y = InStatement d (statement_step m y)
 
--- one symbol more of a body, without the `}` that ends it
+-- one symbol more of a body, without the `}` that ends it ("The C text", `decl`)
 abbrev pub body_step : Body → Symbol → Body
 body_step (Locals d) y = on_local d y
 body_step (LocalTyped d w) y = on_typed d w y
@@ -87,13 +88,13 @@ body_step (Statements d) y = on_statement d y
 body_step (InStatement d m) y = inside d m y
 body_step Stuck y = Stuck
 
--- the function that a `}` ends there, where it ends one
+-- the function that a `}` ends there, where it ends one ("The C text", `decl`)
 abbrev pub body_end : Body → Option Function
 body_end (Locals d) = Some (function_at d)
 body_end (Statements d) = Some (function_at d)
 body_end m = None
 
--- whether a body may still come of it
+-- whether a body may still come of it ("The C text", `decl`)
 abbrev pub body_is_open : Body → Bool
 body_is_open (InStatement d m) = statement_is_open m
 body_is_open Stuck = false

@@ -10,7 +10,7 @@ use cg_ctree::CProgram;
 use std::alloc::Global;
 use std::mem::drop;
 
-// What is read so far goes no further.
+// What is read so far is let go: nothing goes on with it at this place.
 fn unexpected(phase: Phase, place: Place) -> Result<CProgram, CFault>
     ensures { result ≡ Err (CFault.Text place) }
 {
@@ -18,8 +18,9 @@ fn unexpected(phase: Phase, place: Place) -> Result<CProgram, CFault>
     Err(CFault::Text(place))
 }
 
-/// Reads a C text: the program that its bytes spell, or the place of the first token that no program of the subset goes on
-/// with, or of the end where none ends (docs/LANGUAGE.md, "The C text"). It takes time in proportion to the bytes.
+/// Reads a C text (docs/LANGUAGE.md, "The C text"): the program that its bytes spell; or the place of the first token that no
+/// program of the subset goes on with, or of the end where none ends; or `Memory` where memory is wanting. It takes time in
+/// proportion to the bytes.
 pub fn read_c(alloc: Global, bytes: &[u8]) -> Result<CProgram, CFault>
     ensures { Answers bytes.now result }
 {

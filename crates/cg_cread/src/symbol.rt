@@ -31,7 +31,7 @@ pub(crate) enum Symbol<'a> {
     Other,
 }
 
-/// The symbol of a token.
+/// The symbol of a token. What is no token, `Unknown` and `End`, is taken for a sign with its text, as the lexer's words say.
 pub(crate) fn symbol_at<'a>(token: &Token<'a>) -> Symbol<'a>
     ensures { symbol_view result ≡ machine.symbol_of (lexeme token.now).token }
 {
