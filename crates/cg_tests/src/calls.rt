@@ -1,10 +1,16 @@
 // Each call that takes memory, once, where there is plenty.
+use crate::check::words_of;
 use cg_base::{Items, Kinds, Name, Part, Place, Sigil, Ty, Word};
+use cg_cgen::op_stmts;
 use cg_core::{At, Form, Fun, Op, Term, TyArg, Typed, erase};
+use cg_cread::read_c;
+use cg_ctree::{COpnd, CPath, CStmt};
 use cg_kinds::subst;
+use cg_lower::function_name;
 use cg_outside::{
     Failures, FileFault, Files, HonestFiles, HonestSink, MemoryFiles, MemorySink, Sink,
 };
+use cg_words::{Command, read_words};
 use std::alloc::Global;
 use std::test::Fail;
 
@@ -121,5 +127,48 @@ fn outside_calls_succeed(rt: HostRuntime) -> Result<(), Fail> {
     let mut honest_sink = HonestSink::new(alloc);
     honest_sink.write(b"3")?;
     assert_eq!(rt; honest_sink.bytes(), b"3".as_slice());
+    Ok(())
+}
+
+#[test]
+fn c_calls_succeed(rt: HostRuntime) -> Result<(), Fail> {
+    let alloc = rt.alloc();
+    assert_eq!(rt;
+        function_name(alloc, 4_294_967_295)?.bytes(),
+        b"f4294967295".as_slice()
+    );
+    let to = CPath {
+        base: Name::new(alloc, b"x")?,
+        arrow: false,
+        members: Items::new(alloc),
+    };
+    let (left, right) = (COpnd::Number(1), COpnd::Number(2));
+    let stmts = op_stmts(alloc, Op::Add, Word::U64, to, left, right)?;
+    assert!(rt; matches!(stmts.as_slice(), [CStmt::Assign(_, _)]));
+    let text = b"#include <stdint.h>\n#include \"cogent.h\"\n";
+    let Ok(program) = read_c(alloc, text) else {
+        panic!(rt; "no program")
+    };
+    assert_eq!(rt; program.funs.len(), 0);
+    Ok(())
+}
+
+#[test]
+fn words_calls_succeed(rt: HostRuntime) -> Result<(), Fail> {
+    let alloc = rt.alloc();
+    let words = words_of(alloc, &["run", "a", "--steps=007", "b", "c"])?;
+    match read_words(alloc, &words)? {
+        Some(
+            Command::Run {
+                file,
+                entry,
+                heap,
+                steps,
+            },
+        ) => assert_eq!(rt; (file, entry, heap, steps), ("a", "b", "c", 7)),
+        _ => panic!(rt; "no run"),
+    }
+    let words = words_of(alloc, &["check", "a", "b"])?;
+    assert!(rt; read_words(alloc, &words)?.is_none());
     Ok(())
 }

@@ -16,7 +16,8 @@ fn one_file(alloc: Global, source: &[u8]) -> Result<Vec<(Name, Vec<u8>)>, Fail> 
     Ok(files)
 }
 
-fn words_of(alloc: Global, words: &[&str]) -> Result<Vec<String>, Fail> {
+/// Words of the command line.
+pub(crate) fn words_of(alloc: Global, words: &[&str]) -> Result<Vec<String>, Fail> {
     let mut list = Vec::new(alloc);
     for word in words {
         list.push(String::from_str(alloc, *word)?)?;
@@ -65,7 +66,7 @@ fn judged(
 }
 
 /// Some copies of a text.
-fn copies(alloc: Global, text: &str, count: usize) -> Result<String, Fail> {
+pub(crate) fn copies(alloc: Global, text: &str, count: usize) -> Result<String, Fail> {
     let mut all = String::new(alloc);
     for _ in 0..count {
         all.push_str(text)?;
@@ -275,7 +276,7 @@ fn depth_is_limited(rt: HostRuntime) -> Result<(), Fail> {
 #[test]
 fn words_are_read(rt: HostRuntime) -> Result<(), Fail> {
     let alloc = rt.alloc();
-    let usage = "usage: cogent check FILE\n";
+    let usage = "usage: cogent check FILE\n       cogent run FILE ENTRY HEAPFILE [--steps N]\n";
     expect(&rt, alloc, &[], b"", 2, usage)?;
     expect(&rt, alloc, &["check"], b"", 2, usage)?;
     expect(&rt, alloc, &["check", "a.cg", "a.cg"], b"", 2, usage)?;

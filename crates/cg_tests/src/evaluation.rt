@@ -44,7 +44,11 @@ fn checked_program(rt: &impl Abort, alloc: Global, program: &Program) -> Result<
 }
 
 /// A source, read, resolved and checked.
-fn checked_source(rt: &impl Abort, alloc: Global, source: &str) -> Result<Checked, Fail> {
+pub(crate) fn checked_source(
+    rt: &impl Abort,
+    alloc: Global,
+    source: &str,
+) -> Result<Checked, Fail> {
     match parse(alloc, source.as_bytes()) {
         Ok(program) => checked_program(rt, alloc, &program),
         Err(_) => panic!(rt; "not spelled"),
@@ -201,7 +205,7 @@ fn the_c_of_a_function_is_made(rt: HostRuntime) -> Result<(), Fail> {
 }
 
 /// The C text of a plain source.
-fn printed(alloc: Global, checked: &Checked) -> Result<Vec<u8>, Fail>
+pub(crate) fn printed(alloc: Global, checked: &Checked) -> Result<Vec<u8>, Fail>
     requires plain { IsTrue (plain_kernel (kernel_of (kernel_in checked.now))) }
 {
     let program = lower(alloc, checked)?;
