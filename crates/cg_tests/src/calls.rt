@@ -1,5 +1,4 @@
 // Each call that takes memory, once, where there is plenty.
-use crate::check::words_of;
 use cg_base::{Items, Kinds, Name, Part, Place, Sigil, Ty, Word};
 use cg_cgen::op_stmts;
 use cg_core::{At, Form, Fun, Op, Term, TyArg, Typed, erase};
@@ -10,7 +9,6 @@ use cg_lower::function_name;
 use cg_outside::{
     Failures, FileFault, Files, HonestFiles, HonestSink, MemoryFiles, MemorySink, Sink,
 };
-use cg_words::{Command, read_words};
 use std::alloc::Global;
 use std::test::Fail;
 
@@ -150,25 +148,5 @@ fn c_calls_succeed(rt: HostRuntime) -> Result<(), Fail> {
         panic!(rt; "no program")
     };
     assert_eq!(rt; program.funs.len(), 0);
-    Ok(())
-}
-
-#[test]
-fn words_calls_succeed(rt: HostRuntime) -> Result<(), Fail> {
-    let alloc = rt.alloc();
-    let words = words_of(alloc, &["run", "a", "--steps=007", "b", "c"])?;
-    match read_words(alloc, &words)? {
-        Some(
-            Command::Run {
-                file,
-                entry,
-                heap,
-                steps,
-            },
-        ) => assert_eq!(rt; (file, entry, heap, steps), ("a", "b", "c", 7)),
-        _ => panic!(rt; "no run"),
-    }
-    let words = words_of(alloc, &["check", "a", "b"])?;
-    assert!(rt; read_words(alloc, &words)?.is_none());
     Ok(())
 }

@@ -1,13 +1,13 @@
 // C texts: what is printed is read back, and which texts are read.
-use crate::calling::{Outside, called};
 use crate::evaluation::{checked_source, printed};
-use crate::running::RUNS;
 use cg_base::{Name, Place};
 use cg_cmachine::run_words;
 use cg_cread::{CFault, read_c};
 use cg_ctree::CProgram;
+use cg_driver::cogent;
 use cg_eval::is_plain;
 use cg_lower::{function_name, lower};
+use cg_outside::{MemoryFiles, MemorySink};
 use std::alloc::Global;
 use std::process::Abort;
 use std::test::Fail;
@@ -35,6 +35,64 @@ fn fault_of(rt: &impl Abort, alloc: Global, text: &[u8]) -> Option<Place> {
     }
 }
 
+/// A sum, of cost 3.
+const NEXT: &str = "f : U32 -> U32\nf x = x + 1\n";
+
+/// Two calls, of cost 13.
+const TWICE: &str = "g : U32 -> U32\ng x = x + x\nf : U32 -> U32\nf x = let y = g x in g y\n";
+
+/// Sources, the position of `f`, an argument, and the value and the cost of `f` on it.
+const RUNS: [(&str, u32, u64, u64, u32); 14] = [
+    (NEXT, 0, 41, 42, 3),
+    (NEXT, 0, 4_294_967_295, 0, 3),
+    (NEXT, 0, 0, 1, 3),
+    (TWICE, 1, 3, 12, 13),
+    (TWICE, 1, 1_073_741_824, 0, 13),
+    (TWICE, 1, 4_294_967_295, 4_294_967_292, 13),
+    ("f : U32 -> U32\nf x = x\n", 0, 7, 7, 1),
+    ("f : U32 -> U32\nf x = ((x))\n", 0, 7, 7, 1),
+    ("f : U32 -> U32\nf x = 4294967295\n", 0, 7, 4_294_967_295, 1),
+    ("f : U32 -> U32\nf f = f + f + f\n", 0, 7, 21, 5),
+    ("f : U32 -> U32\nf x = let y = 1 in x + y + y\n", 0, 7, 9, 7),
+    (
+        "f : U32 -> U32\nf x = let x = x + 1 in let x = x + x in x\n",
+        0,
+        7,
+        16,
+        9,
+    ),
+    (
+        "f : U32 -> U32\nf x = g (g x) + g 1\ng : U32 -> U32\ng x = 5\n",
+        0,
+        7,
+        10,
+        12,
+    ),
+    (
+        "h : U32 -> U32\nh x = g x + x\nf : U32 -> U32\nf x = h (x + h x)\ng : U32 -> U32\ng y = y + 3\n",
+        1,
+        7,
+        51,
+        23,
+    ),
+];
+
+/// What `run` prints of a source and an argument.
+fn run_lines(alloc: Global, source: &str, arg: u64) -> Result<Vec<u8>, Fail> {
+    let heap = format!(in alloc; "arg = {arg}")?;
+    let mut held = Vec::new(alloc);
+    held.push((Name::new(alloc, b"a.cg")?, source.as_bytes().to_vec(alloc)?))?;
+    held.push((Name::new(alloc, b"h")?, heap.as_bytes().to_vec(alloc)?))?;
+    let mut words = Vec::new(alloc);
+    for word in ["run", "a.cg", "f", "h"] {
+        words.push(String::from_str(alloc, word)?)?;
+    }
+    let mut files = MemoryFiles::new(alloc, held, Vec::new(alloc));
+    let mut out = MemorySink::new(alloc, Vec::new(alloc));
+    let _ = cogent(alloc, &words, &mut files, &mut out);
+    Ok(out.bytes().to_vec(alloc)?)
+}
+
 /// Runs the C of a plain source, before it is printed and after it is read back, and sees that both give this value in the
 /// steps that `run` prints.
 fn runs_alike(
@@ -55,13 +113,7 @@ fn runs_alike(
     };
     assert_eq!(rt; before, Ok((word, steps)), "at {source}");
     assert_eq!(rt; word, value, "at {source}");
-    let heap = format!(in alloc; "arg = {arg}")?;
-    let outside = Outside {
-        source: source.as_bytes(),
-        heap: heap.as_bytes(),
-        failing: &[],
-    };
-    let (_, text) = called(alloc, &["run", "a.cg", "f", "h"], &outside)?;
+    let text = run_lines(alloc, source, arg)?;
     let lines = format!(in alloc;
         "value: {value}\nc: {value}\ncost: {cost}\nsteps: {steps}\nnew: 0\nfreed: 0\nkept: 0\n"
     )?;

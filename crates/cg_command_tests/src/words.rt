@@ -1,5 +1,7 @@
 // The words of `run`.
 use crate::calling::{NEXT, Outside, expect};
+use crate::check::words_of;
+use cg_words::{Command, read_words};
 use std::test::Fail;
 
 const USAGE: &str = "usage: cogent check FILE\n       cogent run FILE ENTRY HEAPFILE [--steps N]\n";
@@ -143,5 +145,25 @@ fn odd_words_are_names(rt: HostRuntime) -> Result<(), Fail> {
     for (words, code, printed) in ODD {
         expect(&rt, alloc, words, &outside, code, printed)?;
     }
+    Ok(())
+}
+
+#[test]
+fn words_calls_succeed(rt: HostRuntime) -> Result<(), Fail> {
+    let alloc = rt.alloc();
+    let words = words_of(alloc, &["run", "a", "--steps=007", "b", "c"])?;
+    match read_words(alloc, &words)? {
+        Some(
+            Command::Run {
+                file,
+                entry,
+                heap,
+                steps,
+            },
+        ) => assert_eq!(rt; (file, entry, heap, steps), ("a", "b", "c", 7)),
+        _ => panic!(rt; "no run"),
+    }
+    let words = words_of(alloc, &["check", "a", "b"])?;
+    assert!(rt; read_words(alloc, &words)?.is_none());
     Ok(())
 }

@@ -5,66 +5,6 @@ use std::alloc::Global;
 use std::process::Abort;
 use std::test::Fail;
 
-/// Two calls, of cost 13.
-const TWICE: &str = "g : U32 -> U32\ng x = x + x\nf : U32 -> U32\nf x = let y = g x in g y\n";
-
-/// Sources, the position of `f`, an argument, and the value and the cost of `f` on it.
-pub(crate) const RUNS: [(&str, u32, u64, u64, u32); 13] = [
-    (NEXT, 0, 41, 42, 3),
-    (NEXT, 0, 4_294_967_295, 0, 3),
-    (NEXT, 0, 0, 1, 3),
-    (TWICE, 1, 3, 12, 13),
-    (TWICE, 1, 1_073_741_824, 0, 13),
-    (TWICE, 1, 4_294_967_295, 4_294_967_292, 13),
-    ("f : U32 -> U32\nf x = x\n", 0, 7, 7, 1),
-    ("f : U32 -> U32\nf x = ((x))\n", 0, 7, 7, 1),
-    ("f : U32 -> U32\nf x = 4294967295\n", 0, 7, 4_294_967_295, 1),
-    ("f : U32 -> U32\nf f = f + f + f\n", 0, 7, 21, 5),
-    (
-        "f : U32 -> U32\nf x = let x = x + 1 in let x = x + x in x\n",
-        0,
-        7,
-        16,
-        9,
-    ),
-    (
-        "f : U32 -> U32\nf x = g (g x) + g 1\ng : U32 -> U32\ng x = 5\n",
-        0,
-        7,
-        10,
-        12,
-    ),
-    (
-        "h : U32 -> U32\nh x = g x + x\nf : U32 -> U32\nf x = h (x + h x)\ng : U32 -> U32\ng y = y + 3\n",
-        1,
-        7,
-        51,
-        23,
-    ),
-];
-
-#[test]
-fn sources_are_run(rt: HostRuntime) -> Result<(), Fail> {
-    let alloc = rt.alloc();
-    for (source, _, arg, value, cost) in RUNS {
-        let heap = format!(in alloc; "arg = {arg}")?;
-        let outside = Outside {
-            source: source.as_bytes(),
-            heap: heap.as_bytes(),
-            failing: &[],
-        };
-        gives(
-            &rt,
-            alloc,
-            &["run", "a.cg", "f", "h"],
-            &outside,
-            value,
-            cost,
-        )?;
-    }
-    Ok(())
-}
-
 /// A source in which the nth of the functions `f0`, `f1` and so on calls the one before it twice, at 7 nodes of its own.
 fn doubling(alloc: Global, count: u32) -> Result<String, Fail> {
     let mut source = String::from_str(alloc, "f0 : U32 -> U32\nf0 x = x + 1\n")?;
