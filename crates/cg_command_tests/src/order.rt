@@ -1,6 +1,6 @@
 // The order of the steps of `run`, and its faults.
 use crate::calling::{HEAP_LIMIT, NEXT, Outside, expect, gives};
-use crate::check::{copies, words_of};
+use crate::check::{NOT_BUILT, copies, words_of};
 use cg_base::Name;
 use cg_driver::cogent;
 use cg_outside::{MemoryFiles, MemorySink};
@@ -12,13 +12,7 @@ use std::test::Fail;
 const ORDER: [(&str, &str, &[u64], u8, &str); 12] = [
     (NEXT, "arg = 41", &[1, 2], 3, "a.cg: cannot be read\n"),
     // Not spelled, before names and types.
-    (
-        "g : U32 -> U32\ng x = y\n-",
-        "x",
-        &[2],
-        1,
-        "a.cg: F1 form not built\n",
-    ),
+    ("g : U32 -> U32\ng x = y\n-", "x", &[2], 1, NOT_BUILT),
     // Names and types, before a source that isn't plain.
     (
         "f : SysState -> ()\nf s = ()\n",
@@ -35,26 +29,14 @@ const ORDER: [(&str, &str, &[u64], u8, &str); 12] = [
         "a.cg: F2 not accepted\n",
     ),
     // A source that isn't plain, before its entry.
-    (
-        "e : U32 -> U32\n",
-        "x",
-        &[2],
-        1,
-        "a.cg: F1 form not built\n",
-    ),
-    (
-        "e : () -> ()\ne x = x\n",
-        "x",
-        &[2],
-        1,
-        "a.cg: F1 form not built\n",
-    ),
+    ("e : U32 -> U32\n", "x", &[2], 1, NOT_BUILT),
+    ("e : () -> ()\ne x = x\n", "x", &[2], 1, NOT_BUILT),
     (
         "f : U32 -> U32\nf x = x\ne : U32 -> ()\ne x = ()\n",
         "x",
         &[2],
         1,
-        "a.cg: F1 form not built\n",
+        NOT_BUILT,
     ),
     // The entry, before the heap file.
     ("", "x", &[2], 1, "a.cg: E1 no such function\n"),
@@ -106,9 +88,6 @@ fn the_first_step_that_refuses_decides(rt: HostRuntime) -> Result<(), Fail> {
     expect(&rt, alloc, FEW_STEPS.as_slice(), &outside, 6, reached)?;
     gives(&rt, alloc, &["run", "a.cg", "f", "h"], &outside, 42, 3)
 }
-
-/// What is said of a source that isn't spelled.
-const NOT_BUILT: &str = "a.cg: F1 form not built\n";
 
 /// Runs a source on a heap file that isn't in the grammar.
 fn refuses(

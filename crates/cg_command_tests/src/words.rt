@@ -1,10 +1,8 @@
 // The words of `run`.
 use crate::calling::{NEXT, Outside, expect};
-use crate::check::words_of;
+use crate::check::{USAGE, words_of};
 use cg_words::{Command, read_words};
 use std::test::Fail;
-
-const USAGE: &str = "usage: cogent check FILE\n       cogent run FILE ENTRY HEAPFILE [--steps N]\n";
 
 /// Words that are no command.
 const REFUSED: [&[&str]; 84] = [
