@@ -53,7 +53,13 @@ const RUNS: [(&str, u32, u64, u64, u32); 14] = [
     ("f : U32 -> U32\nf x = ((x))\n", 0, 7, 7, 1),
     ("f : U32 -> U32\nf x = 4294967295\n", 0, 7, 4_294_967_295, 1),
     ("f : U32 -> U32\nf f = f + f + f\n", 0, 7, 21, 5),
-    ("f : U32 -> U32\nf x = let y = 1 in x + y + y\n", 0, 7, 9, 7),
+    (
+        "f : U32 -> U32\nf x = let y = x in y + 1 + y\n",
+        0,
+        7,
+        15,
+        7,
+    ),
     (
         "f : U32 -> U32\nf x = let x = x + 1 in let x = x + x in x\n",
         0,
