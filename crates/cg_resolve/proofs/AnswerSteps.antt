@@ -9,10 +9,10 @@ use Rattle.cg_core.specs.declared.kernel.Kernel.{Kernel}
 use Rattle.cg_core.specs.declared.kernel.KFun.{KFun}
 use Rattle.cg_core.specs.Kernels.{kernel_of, function_of}
 use Rattle.cg_core.specs.Small.{IsSmallKernel}
-use Rattle.cg_surface.specs.Circles.{mentions, IsFirstCircle, NoCircle}
-use Rattle.cg_surface.specs.Desugar.{name_faults, faults_from, functions_of, function_of_entry, signatures}
-use Rattle.cg_surface.specs.Trees.{Entry}
-use Rattle.cg_surface.specs.declared.program.Item.{Item}
+use Rattle.cg_small.specs.Circles.{mentions, IsFirstCircle, NoCircle}
+use Rattle.cg_small.specs.Desugar.{name_faults, faults_from, functions_of, function_of_entry, signatures}
+use Rattle.cg_small.specs.Trees.{Entry}
+use Rattle.cg_small.specs.declared.program.Item.{Item}
 use Rattle.cg_resolve.specs.Defined.{AreDefinitions, mentions_in}
 use Rattle.cg_resolve.specs.Edges.{lists}
 use Rattle.cg_resolve.specs.Entries.{entries_of}

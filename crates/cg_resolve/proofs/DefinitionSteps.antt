@@ -7,8 +7,8 @@ use Rattle.std.specs.Cmp.Lexicographic.{nat_list_eq_equiv}
 use Rattle.std.specs.Option.{option_map}
 use Rattle.std.specs.Str.{bytes_eq}
 use Rattle.cg_core.specs.declared.at.At.{At}
-use Rattle.cg_surface.specs.declared.program.Item.{Item}
-use Rattle.cg_surface.specs.Trees.{Expr, Entry, signature, define, entry_of, Written}
+use Rattle.cg_small.specs.declared.program.Item.{Item}
+use Rattle.cg_small.specs.Trees.{Expr, Entry, signature, define, entry_of, Written}
 use Rattle.cg_resolve.specs.Defined.{defined_of, first_definition, AreDefinitions}
 use Rattle.cg_resolve.specs.Entries.{entries_of}
 use Rattle.cg_resolve.specs.Names.{find, otherwise}

@@ -4,10 +4,10 @@ use Rattle.std.proofs.lemmas.List.Elements.{filter_map-append}
 use Rattle.std.specs.List.{filter_map, cons_option}
 use Rattle.std.specs.Str.{bytes_eq}
 use Rattle.cg_core.specs.declared.at.At.{At}
-use Rattle.cg_surface.specs.declared.expr.SExpr.{the_lemmas}
-use Rattle.cg_surface.specs.declared.program.Item.{Item}
-use Rattle.cg_surface.specs.Desugar.{NameFault, signatures, definitions, signature_name, definition_name, one_or_none, head_faults, faults_from}
-use Rattle.cg_surface.specs.Trees.{Expr, Entry, signature, define, entry_of, Written}
+use Rattle.cg_small.specs.declared.expr.SExpr.{the_lemmas}
+use Rattle.cg_small.specs.declared.program.Item.{Item}
+use Rattle.cg_small.specs.Desugar.{NameFault, signatures, definitions, signature_name, definition_name, one_or_none, head_faults, faults_from}
+use Rattle.cg_small.specs.Trees.{Expr, Entry, signature, define, entry_of, Written}
 use Rattle.cg_resolve.specs.Answers.{IsFirst}
 use Rattle.cg_resolve.specs.Behind.{IsBehind}
 use Rattle.cg_resolve.specs.Entries.{entries_of}

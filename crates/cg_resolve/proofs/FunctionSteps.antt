@@ -7,11 +7,11 @@ use Rattle.std.specs.Global.{Vec}
 use Rattle.std.specs.List.{filter_map, cons_option}
 use Rattle.std.specs.Str.{bytes_eq}
 use Rattle.cg_core.specs.declared.at.At.{At}
-use Rattle.cg_surface.specs.declared.expr.SExpr.{the_lemmas}
-use Rattle.cg_surface.specs.Circles.{body_mentions, mentions}
-use Rattle.cg_surface.specs.Desugar.{body_named, function_of_entry, signatures}
-use Rattle.cg_surface.specs.Trees.{Entry, entry_of, signature, define, Written}
-use Rattle.cg_surface.specs.declared.program.Item.{Item}
+use Rattle.cg_small.specs.declared.expr.SExpr.{the_lemmas}
+use Rattle.cg_small.specs.Circles.{body_mentions, mentions}
+use Rattle.cg_small.specs.Desugar.{body_named, function_of_entry, signatures}
+use Rattle.cg_small.specs.Trees.{Entry, entry_of, signature, define, Written}
+use Rattle.cg_small.specs.declared.program.Item.{Item}
 use Rattle.cg_core.specs.declared.kernel.KFun.{KFun}
 use Rattle.cg_core.specs.Kernels.{Function, function_of}
 use Rattle.cg_resolve.specs.Edges.{lists}

@@ -3,7 +3,7 @@ use Rattle.std.proofs.Common.{◌≡◌, ℕ, zero, suc, ◌<◌, List, [], ◌�
 use Rattle.std.specs.List.{All, slice_get}
 use Rattle.std.proofs.lemmas.Option.{get_or_from_slice_get}
 use Rattle.std.proofs.lemmas.List.Elements.{All-contains}
-use Rattle.cg_surface.specs.Circles.{Mentions, Reaches, mentioned, onward, NoCircle}
+use Rattle.cg_small.specs.Circles.{Mentions, Reaches, mentioned, onward, NoCircle}
 use Rattle.cg_resolve.specs.Edges.{Falls, IsLower}
 
 within : (edges : List (List ℕ)) (i : ℕ) (targets : List ℕ) → slice_get edges i ≡ Some targets → i < length edges

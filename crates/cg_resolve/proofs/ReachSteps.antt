@@ -5,7 +5,7 @@ use Rattle.std.proofs.lemmas.List.{get_or-set_same, length-set, length-replicate
 use Rattle.std.proofs.lemmas.List.Elements.{Contains-append_left, Contains-append_cases, Contains-push, Contains-push_cases}
 use Rattle.std.proofs.lemmas.List.Sums.{sum_by-set}
 use Rattle.std.specs.List.{Contains, sum_by}
-use Rattle.cg_surface.specs.Circles.{Mentions, Reaches, mentioned, onward, NoCircle}
+use Rattle.cg_small.specs.Circles.{Mentions, Reaches, mentioned, onward, NoCircle}
 use Rattle.cg_resolve.specs.Reached.{Reached, reached, mark, mark_all, IsMarked, IsClosed, IsSearch}
 use Rattle.cg_resolve.proofs.RankSteps.{place}
 

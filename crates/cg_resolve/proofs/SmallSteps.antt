@@ -10,8 +10,8 @@ use Rattle.cg_core.specs.declared.op.Op.TheVariants.{Add}
 use Rattle.cg_core.specs.Kernels.{Function}
 use Rattle.cg_core.specs.Small.{IsSmall, IsSmallShape, IsSmallBody, IsSmallKernel}
 use Rattle.cg_core.specs.Terms.{Tree, op as op_shape, more, none as no_terms}
-use Rattle.cg_surface.specs.Desugar.{arguments, twice, unknown, name_fault, expr_faults, head_faults, faults_from, name_faults, is_among, library, variable, function_from, function_at, mention, or_zero, term_of, body_named, function_of_entry, functions_of, signatures, signature_name}
-use Rattle.cg_surface.specs.Trees.{Expr, name, number, unit, paren, app, binary, bind, Entry, signature, define, OnlySums, OnlySumsEntry}
+use Rattle.cg_small.specs.Desugar.{arguments, twice, unknown, name_fault, expr_faults, head_faults, faults_from, name_faults, is_among, library, variable, function_from, function_at, mention, or_zero, term_of, body_named, function_of_entry, functions_of, signatures, signature_name}
+use Rattle.cg_small.specs.Trees.{Expr, name, number, unit, paren, app, binary, bind, Entry, signature, define, OnlySums, OnlySumsEntry}
 use Rattle.cg_resolve.proofs.Tables.{bound, signed_from}
 
 -- of two lists that make an empty one, each is empty

@@ -9,7 +9,7 @@ use Rattle.std.specs.BTreeSet.{BTreeSet, IsEmpty, Updates}
 use Rattle.std.specs.Cmp.Lexicographic.{bytes_decides, nat_list_eq_equiv, slice_cmp}
 use Rattle.std.specs.Ordering.{nat_cmp}
 use Rattle.std.specs.Str.{bytes_eq}
-use Rattle.cg_surface.specs.Desugar.{variable, function_from, function_at, is_among}
+use Rattle.cg_small.specs.Desugar.{variable, function_from, function_at, is_among}
 use Rattle.cg_resolve.specs.Names.{find, otherwise, texts, scope_of, ArePositions, IsSetOf, has}
 
 -- nothing more changes nothing

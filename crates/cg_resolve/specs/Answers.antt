@@ -5,9 +5,9 @@ use Rattle.cg_base.specs.declared.place.Place.{Place}
 use Rattle.cg_core.specs.declared.kernel.Kernel.{Kernel}
 use Rattle.cg_core.specs.Kernels.{Function, kernel_of}
 use Rattle.cg_core.specs.Small.{IsSmallKernel}
-use Rattle.cg_surface.specs.Trees.{Entry, OnlySumsEntry}
-use Rattle.cg_surface.specs.Desugar.{NameFault, unknown, twice, arguments, name_faults, functions_of}
-use Rattle.cg_surface.specs.Circles.{mentions, IsFirstCircle, NoCircle}
+use Rattle.cg_small.specs.Trees.{Entry, OnlySumsEntry}
+use Rattle.cg_small.specs.Desugar.{NameFault, unknown, twice, arguments, name_faults, functions_of}
+use Rattle.cg_small.specs.Circles.{mentions, IsFirstCircle, NoCircle}
 use Rattle.cg_resolve.specs.declared.fault.Fault.{Fault}
 use Rattle.cg_resolve.specs.declared.fault.Fault.TheVariants.{N1, N2, N3, N4, Memory}
 

@@ -1,7 +1,7 @@
 -- The names of the items behind.
 use Rattle.std.specs.Prelude.{List}
-use Rattle.cg_surface.specs.Desugar.{signatures, definitions}
-use Rattle.cg_surface.specs.Trees.{Entry}
+use Rattle.cg_small.specs.Desugar.{signatures, definitions}
+use Rattle.cg_small.specs.Trees.{Entry}
 use Rattle.cg_resolve.specs.declared.faults.Behind.{Behind}
 use Rattle.cg_resolve.specs.Names.{IsSetOf}
 

@@ -5,9 +5,9 @@ use Rattle.std.specs.Option.{option_map}
 use Rattle.std.specs.Str.{bytes_eq}
 use Rattle.cg_core.specs.declared.at.At.{At}
 use Rattle.cg_core.specs.Kernels.{Body, Function}
-use Rattle.cg_surface.specs.Circles.{expr_mentions}
-use Rattle.cg_surface.specs.Desugar.{term_of, type_of_written}
-use Rattle.cg_surface.specs.Trees.{Expr, expr_of, Entry, signature, define, Written, written_place}
+use Rattle.cg_small.specs.Circles.{expr_mentions}
+use Rattle.cg_small.specs.Desugar.{term_of, type_of_written}
+use Rattle.cg_small.specs.Trees.{Expr, expr_of, Entry, signature, define, Written, written_place}
 use Rattle.cg_resolve.specs.declared.items.Definition.{Definition}
 use Rattle.cg_resolve.specs.Names.{find}
 use denote.Ref.{Bor}

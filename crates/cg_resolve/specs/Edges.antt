@@ -2,7 +2,7 @@
 use Rattle.std.specs.Prelude.{ℕ, ◌<◌, List, map, length, get_or, Option, Some, None}
 use Rattle.std.specs.Global.{Vec}
 use Rattle.std.specs.List.{All}
-use Rattle.cg_surface.specs.Circles.{IsFirstCircle, NoCircle}
+use Rattle.cg_small.specs.Circles.{IsFirstCircle, NoCircle}
 
 -- the lists that vectors hold
 abbrev pub lists : List (Vec ℕ) → List (List ℕ)

@@ -1,7 +1,7 @@
 -- The items of a program, as plain data.
 use Rattle.std.specs.Prelude.{List, map}
-use Rattle.cg_surface.specs.declared.program.Item.{Item}
-use Rattle.cg_surface.specs.Trees.{Entry, entry_of}
+use Rattle.cg_small.specs.declared.program.Item.{Item}
+use Rattle.cg_small.specs.Trees.{Entry, entry_of}
 
 -- what each item stands for
 abbrev pub entries_of : List Item → List Entry

@@ -4,7 +4,7 @@ use Rattle.std.specs.BTreeMap.{BTreeMap, get_by}
 use Rattle.std.specs.BTreeSet.{BTreeSet, contains_by}
 use Rattle.std.specs.Cmp.Lexicographic.{slice_cmp}
 use Rattle.std.specs.Ordering.{nat_cmp}
-use Rattle.cg_surface.specs.Desugar.{function_at, is_among}
+use Rattle.cg_small.specs.Desugar.{function_at, is_among}
 use denote.Ref.{Bor}
 
 -- the names that references point to

@@ -1,7 +1,7 @@
 -- A search for what is reached: which functions are marked, and those whose mentions are still to be followed.
 use Rattle.std.specs.Prelude.{◌≡◌, ℕ, Bool, true, false, List, [], ◌∷◌, ◌++◌, length, get_or, set, if◌then◌else◌, ◌⊎◌}
 use Rattle.std.specs.List.{Contains}
-use Rattle.cg_surface.specs.Circles.{Mentions, Reaches}
+use Rattle.cg_small.specs.Circles.{Mentions, Reaches}
 
 pub record Reached : Type 0 where
   pub marks : List Bool

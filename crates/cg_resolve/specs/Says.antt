@@ -1,6 +1,6 @@
 -- What a search for name faults answers.
 use Rattle.std.specs.Prelude.{◌≡◌, List, [], Result, Ok, Err, ⊤}
-use Rattle.cg_surface.specs.Desugar.{NameFault, unknown, twice, arguments}
+use Rattle.cg_small.specs.Desugar.{NameFault, unknown, twice, arguments}
 use Rattle.cg_resolve.specs.Answers.{IsFirst}
 use Rattle.cg_resolve.specs.declared.fault.Fault.{Fault}
 use Rattle.cg_resolve.specs.declared.fault.Fault.TheVariants.{N1, N2, N3, N4, Memory}

@@ -2,14 +2,14 @@
 #![tactic(auto, using(std::proofs::lemmas::Grind::common_steps, crate::proofs::DefinitionSteps::definition_steps))]
 
 ghost use Rattle.std.specs.Prelude.{List, [], ◌∷◌, ◌++◌, IfOk, OnOk};
-ghost use Rattle.cg_surface.specs.Trees.{Entry, entry_of};
+ghost use Rattle.cg_small.specs.Trees.{Entry, entry_of};
 ghost use Rattle.cg_resolve.specs.Defined.{AreDefinitions};
 ghost use Rattle.cg_resolve.specs.Entries.{entries_of};
 
 use crate::items::Definition;
 use crate::names::keep_first;
 use cg_base::Memory;
-use cg_surface::Item;
+use cg_small::Item;
 use std::alloc::Global;
 use std::collections::BTreeMap;
 

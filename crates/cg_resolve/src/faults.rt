@@ -3,8 +3,8 @@
 
 ghost use Rattle.std.specs.Prelude.{◌≡◌, ◌++◌, ◌∷◌, [], ◌||◌, ℕ, List, if◌then◌else◌, OnOk};
 ghost use Rattle.std.specs.Str.{bytes_eq};
-ghost use Rattle.cg_surface.specs.Trees.{Entry, expr_of, entry_of};
-ghost use Rattle.cg_surface.specs.Desugar.{name_fault, name_faults, expr_faults, faults_from, head_faults, library, is_among, signatures, definitions, twice, unknown};
+ghost use Rattle.cg_small.specs.Trees.{Entry, expr_of, entry_of};
+ghost use Rattle.cg_small.specs.Desugar.{name_fault, name_faults, expr_faults, faults_from, head_faults, library, is_among, signatures, definitions, twice, unknown};
 ghost use Rattle.cg_resolve.specs.Behind.{IsBehind};
 ghost use Rattle.cg_resolve.specs.Entries.{entries_of};
 ghost use Rattle.cg_resolve.specs.Names.{scope_of, IsSetOf, has};
@@ -16,7 +16,7 @@ use crate::names::{Names, add, is_library, variable};
 use crate::signatures::Signatures;
 use cg_base::Place;
 use cg_core::At;
-use cg_surface::{Item, SExpr, SForm};
+use cg_small::{Item, SExpr, SForm};
 use std::alloc::Global;
 use std::collections::BTreeSet;
 

@@ -4,8 +4,8 @@
 ghost use Rattle.std.specs.Prelude.{◌≡◌, List, [], ◌++◌, map, IfOk, OnOk};
 ghost use Rattle.std.specs.List.{filter_map, cons_option};
 ghost use Rattle.cg_core.specs.Kernels.{function_of, maybe_body_of, kernel_of};
-ghost use Rattle.cg_surface.specs.Trees.{Entry, entry_of, written_of};
-ghost use Rattle.cg_surface.specs.Desugar.{function_of_entry};
+ghost use Rattle.cg_small.specs.Trees.{Entry, entry_of, written_of};
+ghost use Rattle.cg_small.specs.Desugar.{function_of_entry};
 ghost use Rattle.cg_resolve.specs.Defined.{AreDefinitions, body_from, function_from, definition_in};
 ghost use Rattle.cg_resolve.specs.Entries.{entries_of};
 ghost use Rattle.cg_resolve.specs.Signed.{names_of, IsIndexed};
@@ -16,7 +16,7 @@ use crate::terms::term;
 use crate::types::written_type;
 use cg_base::{Items, Memory};
 use cg_core::{At, KBody, KFun, Kernel, TyArg};
-use cg_surface::{Item, STy};
+use cg_small::{Item, STy};
 use std::alloc::Global;
 
 /// The kernel of these items: the functions of their signatures, in order, each with the body of the first definition of

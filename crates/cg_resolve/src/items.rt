@@ -2,13 +2,13 @@
 #![tactic(auto, using(std::proofs::lemmas::Grind::common_steps, crate::proofs::Steps::name_steps))]
 
 ghost use Rattle.std.specs.Prelude.{◌≡◌, IfOk};
-ghost use Rattle.cg_surface.specs.Desugar.{signatures};
+ghost use Rattle.cg_small.specs.Desugar.{signatures};
 ghost use Rattle.cg_resolve.specs.Entries.{entries_of};
 ghost use Rattle.cg_resolve.specs.Names.{texts};
 
 use cg_base::Memory;
 use cg_core::At;
-use cg_surface::{Item, SExpr};
+use cg_small::{Item, SExpr};
 use std::alloc::Global;
 
 /// What defines a function: its parameter and its body.

@@ -5,7 +5,7 @@
 ghost use Rattle.std.specs.Prelude.{◌≡◌, ◌<◌, length};
 ghost use Rattle.cg_resolve.specs.Answers.{Answers};
 ghost use Rattle.cg_resolve.specs.Circle.{IsCircleAt};
-ghost use Rattle.cg_surface.specs.Trees.{program_of};
+ghost use Rattle.cg_small.specs.Trees.{program_of};
 
 mod circles;
 mod definitions;
@@ -23,7 +23,7 @@ mod terms;
 mod types;
 
 use cg_core::Kernel;
-use cg_surface::Program;
+use cg_small::Program;
 use circles::find_circle;
 use definitions::definitions;
 pub use fault::Fault;

@@ -2,9 +2,9 @@
 #![tactic(auto, using(std::proofs::lemmas::Grind::common_steps, crate::proofs::FunctionSteps::function_steps))]
 
 ghost use Rattle.std.specs.Prelude.{◌≡◌, ◌++◌, [], List, map, IfOk, OnOk, if◌then◌else◌};
-ghost use Rattle.cg_surface.specs.Circles.{expr_mentions, position_list};
-ghost use Rattle.cg_surface.specs.Desugar.{is_among, function_at};
-ghost use Rattle.cg_surface.specs.Trees.{expr_of};
+ghost use Rattle.cg_small.specs.Circles.{expr_mentions, position_list};
+ghost use Rattle.cg_small.specs.Desugar.{is_among, function_at};
+ghost use Rattle.cg_small.specs.Trees.{expr_of};
 ghost use Rattle.cg_resolve.specs.Defined.{mentions_from, mentions_in, definition_in};
 ghost use Rattle.cg_resolve.specs.Edges.{lists};
 ghost use Rattle.cg_resolve.specs.Names.{scope_of};
@@ -14,7 +14,7 @@ use crate::definitions::Definitions;
 use crate::names::variable;
 use crate::signatures::Signatures;
 use cg_base::Memory;
-use cg_surface::{SExpr, SForm};
+use cg_small::{SExpr, SForm};
 use std::alloc::Global;
 
 /// The functions that each function mentions, in the order of the signatures.

@@ -2,7 +2,7 @@
 ghost use Rattle.std.specs.Prelude.{◌≡◌, ◌||◌, ℕ, List, IfOk, OnOk, not, Some, None, if◌then◌else◌};
 ghost use Rattle.std.specs.List.{list_any};
 ghost use Rattle.std.specs.Str.{bytes_eq};
-ghost use Rattle.cg_surface.specs.Desugar.{variable, library, is_among};
+ghost use Rattle.cg_small.specs.Desugar.{variable, library, is_among};
 ghost use Rattle.cg_resolve.specs.Names.{find, otherwise, texts, scope_of, ArePositions, has};
 
 use cg_base::Memory;

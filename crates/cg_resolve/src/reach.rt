@@ -1,6 +1,6 @@
 // Which functions are reached from which.
 ghost use Rattle.std.specs.Prelude.{◌≡◌, ◌<◌, ◌↔◌, false, length, get_or, [], IfOk, OnOk, IsTrue};
-ghost use Rattle.cg_surface.specs.Circles.{Reaches};
+ghost use Rattle.cg_small.specs.Circles.{Reaches};
 ghost use Rattle.cg_resolve.specs.Edges.{lists, IsCircleAnswer};
 ghost use Rattle.cg_resolve.specs.Reached.{reached, mark, mark_all};
 

@@ -1,12 +1,12 @@
 // The signatures of a program.
 ghost use Rattle.std.specs.Prelude.{◌≡◌, IfOk};
-ghost use Rattle.cg_surface.specs.Desugar.{signatures, function_at};
+ghost use Rattle.cg_small.specs.Desugar.{signatures, function_at};
 ghost use Rattle.cg_resolve.specs.Entries.{entries_of};
 
 use crate::items::signature_names;
 use crate::names::{Positions, positions};
 use cg_base::Memory;
-use cg_surface::Item;
+use cg_small::Item;
 use std::alloc::Global;
 
 /// The names of a program's signatures, in order, and where each first stands.

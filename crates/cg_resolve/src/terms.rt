@@ -4,8 +4,8 @@
 ghost use Rattle.std.specs.Prelude.{◌≡◌, IfOk, OnOk};
 ghost use Rattle.cg_core.specs.Kernels.{the_term};
 ghost use Rattle.cg_core.specs.Terms.{term as tree_term, op as op_shape, more, none as no_terms};
-ghost use Rattle.cg_surface.specs.Trees.{expr_of};
-ghost use Rattle.cg_surface.specs.Desugar.{mention, term_of, variable};
+ghost use Rattle.cg_small.specs.Trees.{expr_of};
+ghost use Rattle.cg_small.specs.Desugar.{mention, term_of, variable};
 ghost use Rattle.cg_resolve.specs.Names.{scope_of};
 ghost use Rattle.cg_resolve.specs.Signed.{names_of, IsIndexed};
 
@@ -13,7 +13,7 @@ use crate::names::{small, variable};
 use crate::signatures::Signatures;
 use cg_base::{Fun, Items, Memory, Place};
 use cg_core::{Form, Op, Term};
-use cg_surface::{SExpr, SForm};
+use cg_small::{SExpr, SForm};
 use std::alloc::Global;
 
 // The term of a name: the innermost variable, else the function.

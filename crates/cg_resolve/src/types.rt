@@ -3,11 +3,11 @@
 
 ghost use Rattle.std.specs.Prelude.{◌≡◌, IfOk};
 ghost use Rattle.cg_base.specs.Types.{type_of};
-ghost use Rattle.cg_surface.specs.Trees.{written_of};
-ghost use Rattle.cg_surface.specs.Desugar.{type_named, type_of_written};
+ghost use Rattle.cg_small.specs.Trees.{written_of};
+ghost use Rattle.cg_small.specs.Desugar.{type_named, type_of_written};
 
 use cg_base::{Items, Memory, Name, Sigil, Ty, Word};
-use cg_surface::{STy, STyForm};
+use cg_small::{STy, STyForm};
 use std::alloc::Global;
 
 /// The type that a written one names (docs/LANGUAGE.md, "Names"). Want of memory is its one refusal.

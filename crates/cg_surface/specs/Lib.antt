@@ -1,3 +1,4 @@
-pub mod Circles
-pub mod Desugar
-pub mod Trees
+pub mod Exprs
+pub mod Patterns
+pub mod Programs
+pub mod Written

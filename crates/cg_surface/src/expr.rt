@@ -1,8 +1,9 @@
 // Expressions, as they are written.
-use cg_base::{Name, Place};
+use crate::{Pat, STy};
+use cg_base::{Items, Name, Place};
 use cg_core::{At, Op};
 
-/// An expression, at the place of its first token; a sum stands at its sign's place.
+/// An expression, at the place of its first token; an operator with two operands stands at its sign's place.
 #[cycle(expr)]
 #[derive(Debug, Drop)]
 pub struct SExpr {
@@ -10,15 +11,54 @@ pub struct SExpr {
     pub form: SForm,
 }
 
-/// The form of an expression: docs/LANGUAGE.md, "Grammar". A number is None where it is above 2^64 - 1.
+/// The form of an expression: docs/LANGUAGE.md, "Expressions". `Name` has the type arguments that are written; a number is
+/// None where it is above 2^64 - 1; `Sig` is `(e : t)`; the names of `If` and `Match` are those that are observed.
 #[cycle(expr)]
 #[derive(Debug, Drop)]
 pub enum SForm {
-    Name(Name),
+    Name(Name, Items<STy>),
     Number(Option<u64>),
+    Bool(bool),
     Unit,
     Paren(Box<SExpr>),
+    Sig(Box<SExpr>, STy),
+    Tuple(Items<SExpr>),
+    Fields(Items<FExpr>),
+    Con(Name, Option<Box<SExpr>>),
     App(Box<SExpr>, Box<SExpr>),
+    Member(Box<SExpr>, At),
+    Put(Box<SExpr>, Items<FExpr>),
+    Unary(Op, Box<SExpr>),
+    Upcast(Box<SExpr>),
     Binary(Op, Box<SExpr>, Box<SExpr>),
-    Let(At, Box<SExpr>, Box<SExpr>),
+    Let(Items<Bind>, Box<SExpr>),
+    If(Box<SExpr>, Items<At>, Box<SExpr>, Box<SExpr>),
+    Match(Box<SExpr>, Items<At>, Items<Alt>),
+}
+
+/// What a `let` binds: a pattern, an expression, and the variables that are observed in it.
+#[cycle(expr)]
+#[derive(Debug, Drop)]
+pub struct Bind {
+    pub pat: Pat,
+    pub value: SExpr,
+    pub seen: Items<At>,
+}
+
+/// A field with its value; a field written alone has the variable of its name, at its own place.
+#[cycle(expr)]
+#[derive(Debug, Drop)]
+pub struct FExpr {
+    pub at: At,
+    pub value: SExpr,
+}
+
+/// An alternative of a match, at the place of its constructor, or of its pattern where it has none.
+#[cycle(expr)]
+#[derive(Debug, Drop)]
+pub struct Alt {
+    pub place: Place,
+    pub con: Option<Name>,
+    pub pat: Pat,
+    pub body: SExpr,
 }

@@ -1,11 +1,13 @@
-//! Surface programs: what a source spells, before names are resolved. This is the small language's part: signatures
-//! of plain types, and definitions by names, numbers, `()`, parentheses, calls, sums and `let`.
+//! Surface programs: what a source spells, before names are resolved (docs/LANGUAGE.md, "Grammar"). It has types alone; the
+//! plain trees that contracts speak of, and what each value stands for, are in `specs/`.
 #![tactic(auto)]
 
 mod expr;
+mod pattern;
 mod program;
 mod written;
 
-pub use expr::{SExpr, SForm};
+pub use expr::{Alt, Bind, FExpr, SExpr, SForm};
+pub use pattern::{FPat, Pat, PatForm};
 pub use program::{Item, Program};
-pub use written::{STy, STyForm};
+pub use written::{SAlt, SPart, STy, STyForm};

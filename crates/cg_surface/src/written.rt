@@ -1,7 +1,8 @@
 // Types, as they are written.
-use cg_base::{Name, Place};
+use cg_base::{Items, Name, Place};
+use cg_core::At;
 
-/// A written type, at the place of its first token.
+/// A written type, at the place of its first token, a parenthesis included.
 #[cycle(written)]
 #[derive(Debug, Drop)]
 pub struct STy {
@@ -9,11 +10,35 @@ pub struct STy {
     pub form: STyForm,
 }
 
-/// The form of a written type: docs/LANGUAGE.md, "Grammar".
+/// The form of a written type: docs/LANGUAGE.md, "Types". `Name` is a type or a type variable with its arguments,
+/// `Fields` a record (true where it is boxed), `Bang` is `t!`, and the place of `TakeAll` is that of its word `take`.
 #[cycle(written)]
 #[derive(Debug, Drop)]
 pub enum STyForm {
-    Name(Name),
+    Name(Name, Items<STy>),
     Unit,
+    Tuple(Items<STy>),
+    Paren(Box<STy>),
     Arrow(Box<STy>, Box<STy>),
+    Fields(Items<SPart>, bool),
+    Variant(Items<SAlt>),
+    Bang(Box<STy>),
+    TakeSome(Box<STy>, Items<At>),
+    TakeAll(Box<STy>, Place),
+}
+
+/// A field of a record type: `name : type`.
+#[cycle(written)]
+#[derive(Debug, Drop)]
+pub struct SPart {
+    pub at: At,
+    pub ty: STy,
+}
+
+/// An alternative of a variant type, with the type of its payload where one is written.
+#[cycle(written)]
+#[derive(Debug, Drop)]
+pub struct SAlt {
+    pub at: At,
+    pub ty: Option<STy>,
 }

@@ -1,5 +1,5 @@
 use Rattle.std.proofs.Common.{refl, rules, sym, subst, take, []}
-use Rattle.cg_surface.specs.Desugar.{faults_from}
+use Rattle.cg_small.specs.Desugar.{faults_from}
 use Rattle.cg_resolve.specs.Behind.{IsBehind}
 use Rattle.cg_resolve.specs.Entries.{entries_of}
 use Rattle.cg_resolve.specs.Signed.{names_of}

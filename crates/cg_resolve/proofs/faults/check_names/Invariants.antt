@@ -1,5 +1,5 @@
 use Rattle.std.proofs.Common.{◌≡◌, take, drop, []}
-use Rattle.cg_surface.specs.Desugar.{signatures, definitions, faults_from}
+use Rattle.cg_small.specs.Desugar.{signatures, definitions, faults_from}
 use Rattle.cg_resolve.specs.Behind.{IsBehind}
 use Rattle.cg_resolve.specs.Entries.{entries_of}
 use Rattle.cg_resolve.specs.Signed.{names_of}

@@ -1,4 +1,4 @@
-use Rattle.cg_surface.specs.Desugar.{function_of_entry}
+use Rattle.cg_small.specs.Desugar.{function_of_entry}
 use Rattle.cg_resolve.specs.Signed.{names_of}
 use Rattle.cg_resolve.proofs.FunctionSteps.{kernel_turn}
 use Rattle.cg_resolve.proofs.functions.kernel.Goals as goal

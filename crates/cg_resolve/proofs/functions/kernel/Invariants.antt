@@ -1,8 +1,8 @@
 use Rattle.std.proofs.Common.{◌≡◌, take, map, List}
 use Rattle.std.specs.List.{filter_map}
 use Rattle.cg_core.specs.Kernels.{function_of}
-use Rattle.cg_surface.specs.Desugar.{function_of_entry}
-use Rattle.cg_surface.specs.Trees.{Entry}
+use Rattle.cg_small.specs.Desugar.{function_of_entry}
+use Rattle.cg_small.specs.Trees.{Entry}
 use Rattle.cg_resolve.specs.Defined.{AreDefinitions}
 use Rattle.cg_resolve.specs.Entries.{entries_of}
 use Rattle.cg_resolve.specs.Signed.{names_of}

@@ -1,4 +1,4 @@
-use Rattle.cg_surface.specs.Trees.{written_of}
+use Rattle.cg_small.specs.Trees.{written_of}
 use Rattle.cg_resolve.specs.Signed.{names_of}
 use Rattle.cg_resolve.proofs.FunctionSteps.{functions_turn}
 use Rattle.cg_resolve.proofs.functions.push_function.Goals as goal

@@ -1,5 +1,5 @@
 use Rattle.std.proofs.Common.{◌≡◌, take}
-use Rattle.cg_surface.specs.Desugar.{signatures}
+use Rattle.cg_small.specs.Desugar.{signatures}
 use Rattle.cg_resolve.specs.Names.{texts}
 use Rattle.cg_resolve.specs.Entries.{entries_of}
 use Rattle.cg_resolve.proofs.items.signature_names.Given as goal

@@ -1,5 +1,5 @@
 use Rattle.std.proofs.Common.{take, ◌≡◌}
-use Rattle.cg_surface.specs.Desugar.{variable}
+use Rattle.cg_small.specs.Desugar.{variable}
 use Rattle.cg_resolve.specs.Names.{scope_of}
 use Rattle.cg_resolve.proofs.names.variable.Given as goal
 

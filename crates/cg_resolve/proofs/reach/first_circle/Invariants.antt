@@ -1,5 +1,5 @@
 use Rattle.std.proofs.Common.{ℕ, ◌<◌}
-use Rattle.cg_surface.specs.Circles.{Reaches}
+use Rattle.cg_small.specs.Circles.{Reaches}
 use Rattle.cg_resolve.specs.Edges.{lists}
 use Rattle.cg_resolve.proofs.reach.first_circle.Given as goal
 

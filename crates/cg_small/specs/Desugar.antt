@@ -10,7 +10,7 @@ use Rattle.cg_base.specs.declared.place.Place.{Place}
 use Rattle.cg_base.specs.Types.{Tau, word, unit as unit_type, arrow as function_type, abs, none as no_types}
 use Rattle.cg_core.specs.Kernels.{Function, Body}
 use Rattle.cg_core.specs.Terms.{Tree, term, var, unit as unit_term, lit, fun, op, app as application, lets, none as no_terms, more}
-use Rattle.cg_surface.specs.Trees.{Written, named, nothing, arrow, Expr, name, number, unit, paren, app, binary, bind, Entry, signature, define, written_place}
+use Rattle.cg_small.specs.Trees.{Written, named, nothing, arrow, Expr, name, number, unit, paren, app, binary, bind, Entry, signature, define, written_place}
 
 -- the names of the library's functions
 abbrev pub library : List (List ℕ)

@@ -4,17 +4,17 @@ use Rattle.cg_base.specs.declared.place.Place.{Place}
 use Rattle.cg_core.specs.declared.at.At.{At}
 use Rattle.cg_core.specs.declared.op.Op.{Op}
 use Rattle.cg_core.specs.declared.op.Op.TheVariants.{Add}
-use Rattle.cg_surface.specs.declared.written.STy.{STy}
-use Rattle.cg_surface.specs.declared.written.STyForm.TheOpen as open_type
-use Rattle.cg_surface.specs.declared.written.STyForm.TheOpen.{STyForm-F, STy-F}
-use Rattle.cg_surface.specs.declared.written.STyForm.TheFolds.{fold-STy}
-use Rattle.cg_surface.specs.declared.expr.SExpr.{SExpr}
-use Rattle.cg_surface.specs.declared.expr.SForm.TheOpen as open_expr
-use Rattle.cg_surface.specs.declared.expr.SForm.TheOpen.{SForm-F, SExpr-F}
-use Rattle.cg_surface.specs.declared.expr.SForm.TheFolds.{fold-SExpr}
-use Rattle.cg_surface.specs.declared.program.Item.{Item}
-use Rattle.cg_surface.specs.declared.program.Item.TheVariants.{Signature, Define}
-use Rattle.cg_surface.specs.declared.program.Program.{Program}
+use Rattle.cg_small.specs.declared.written.STy.{STy}
+use Rattle.cg_small.specs.declared.written.STyForm.TheOpen as open_type
+use Rattle.cg_small.specs.declared.written.STyForm.TheOpen.{STyForm-F, STy-F}
+use Rattle.cg_small.specs.declared.written.STyForm.TheFolds.{fold-STy}
+use Rattle.cg_small.specs.declared.expr.SExpr.{SExpr}
+use Rattle.cg_small.specs.declared.expr.SForm.TheOpen as open_expr
+use Rattle.cg_small.specs.declared.expr.SForm.TheOpen.{SForm-F, SExpr-F}
+use Rattle.cg_small.specs.declared.expr.SForm.TheFolds.{fold-SExpr}
+use Rattle.cg_small.specs.declared.program.Item.{Item}
+use Rattle.cg_small.specs.declared.program.Item.TheVariants.{Signature, Define}
+use Rattle.cg_small.specs.declared.program.Program.{Program}
 
 -- a written type, with its place
 pub data Written : Type 0 where

@@ -1,7 +1,7 @@
 -- Which functions mention which through bodies, and circles of mentions.
 use Rattle.std.specs.Prelude.{◌≡◌, ℕ, ◌<◌, List, [], ◌∷◌, ◌++◌, map, slice_get, Contains, Option, Some, None, if◌then◌else◌}
-use Rattle.cg_surface.specs.Trees.{Expr, name, number, unit, paren, app, binary, bind, Entry, signature, define}
-use Rattle.cg_surface.specs.Desugar.{is_among, function_at, signatures}
+use Rattle.cg_small.specs.Trees.{Expr, name, number, unit, paren, app, binary, bind, Entry, signature, define}
+use Rattle.cg_small.specs.Desugar.{is_among, function_at, signatures}
 use Rattle.std.specs.Str.{bytes_eq}
 
 -- the positions of the functions that an expression mentions, in reading order; a variable that hides one is no mention
