@@ -1,302 +1,258 @@
 -- The machine reads each program that the tokens spell.
-use Rattle.std.proofs.Common.{◌≡◌, ℕ, ◌≤◌, ◌<◌, List, [], ◌∷◌, ◌++◌, ⊎_elim, refl, sym, ◌∙◌, ap, arith, true, false, Option, Some, None, append_assoc}
-use Rattle.std.specs.Prelude.{codes, ⊤, ◌||◌}
-use Rattle.std.specs.Str.{bytes_eq}
-use Rattle.std.proofs.lemmas.Bool.{le-leb, lt-leb}
+use Rattle.std.proofs.Common.{◌≡◌, ℕ, List, [], ◌∷◌, ◌++◌, ⊎_elim, refl, sym, ◌∙◌, ap, subst, true, false, Bool, Option, Some, None, append_assoc}
 use Rattle.std.proofs.lemmas.List.{append-nil}
+use Rattle.cg_base.specs.declared.kind.Bound.{Bound}
 use Rattle.cg_base.specs.declared.place.Place.{Place}
+use Rattle.cg_base.specs.Reader.{Reader, Reads}
+use Rattle.cg_base.specs.Reader as readers
 use Rattle.cg_core.specs.declared.at.At.{At}
-use Rattle.cg_core.specs.declared.op.Op.TheVariants.{Add}
-use Rattle.cg_surface.specs.Trees.{Written, named, nothing, arrow as function, Expr, name, number, unit, paren, app, binary, bind, Entry, signature, define, place_of}
-use Rattle.cg_parser.specs.Symbols.{Symbol, lower, upper, numeral, let_word, in_word, opening, closing, colon, equals, plus, arrow, Seen, is_first}
-use Rattle.cg_parser.specs.Grammar.{looseness, token, head, IsTypeName, ReadsPlain, type_place, ReadsType, ReadsExpr, Binds, ReadsEntry, ReadsProgram, SpellsTokens}
-use Rattle.cg_parser.specs.Machine.{InParen, Argument, Operand, Bound, Body, Want, Have, AfterLet, AfterName, Stuck, Plain, by_name, empty, plain_type, plain_place, whole_type, Wanted, Opened, Read, NoType, TypeMode, type_step, type_name, name_at, Between, AfterHead, InType, AfterParam, InBody, Failed}
+use Rattle.cg_surface.specs.Written.{Written}
+use Rattle.cg_surface.specs.Patterns.{Pattern}
+use Rattle.cg_surface.specs.Exprs.{Expr}
+use Rattle.cg_surface.specs.Programs.{Entry, synonym, abstract, signature, define}
+use Rattle.cg_symbols.specs.Symbols.{Symbol, lower, upper, type_word, all_word, opening, closing, colon, has_kinds, equals, comma, dot, Seen, is_first}
+use Rattle.cg_symbols.specs.Readings.{◌then◌, head, inner, inner_sign, ArePast, IsPart}
+use Rattle.cg_parser.specs.Grammar.{are_letters, kinds_of, no_kinds, bound, ReadsParams, ReadsVar, VarsBefore, ReadsVars, ReadsAll, nothing, alone, listed, ReadsEntry, ReadsProgram}
+use Rattle.cg_parser.specs.Machine.{State, Between, AfterType, InParams, InSynonym, AfterName, AfterColon, AfterAll, WantVar, AfterVar, WantKinds, AfterKinds, WantDot, InSignature, InParam, InBody, Failed, name_at}
 use Rattle.cg_parser.specs.Machine as machine
-use Rattle.cg_parser.specs.Plain.{trees}
-use Rattle.cg_parser.proofs.Short.{Frame, Mode, Stage, closed, hole, room, closes, atom, on_close, on_in, on_plus, on_let, mode_step, whole, mode_end, end_body, finish, step, run}
+use Rattle.cg_parser.specs.Plain.{entries}
+use Rattle.cg_parser.proofs.Parts.{Ends, opened}
 
-pub loose_le : (e : Expr) → looseness e ≤ 5
-loose_le (name p n) = omega arith
-loose_le (number p n) = omega arith
-loose_le (unit p) = omega arith
-loose_le (paren p a) = omega arith
-loose_le (app p f a) = omega arith
-loose_le (binary p o a b) = omega arith
-loose_le (bind p x a b) = omega arith
+abbrev at : Symbol → Place → Seen
+at y p = record { symbol = y; place = p }
 
--- what is done behind the closed frames
-abbrev pub closed_to : {A : Type 0} → ℕ → (Expr → List Frame → A) → Expr → List Frame → A
-closed_to k next e fs = next (closed k e fs).0 (closed k e fs).1
+-- what the readers of the parts are asked for: they are exact, complete what is open by tokens past column 1, need a token at least, and take no token that stands behind them
+-- in an item or begins something else there
+pub record Parts (TS PS XS : Type 0) (types : Reader TS Seen Written) (patterns : Reader PS Seen Pattern) (exprs : Reader XS Seen Expr)
+    (OfType : List Seen → Written → Type 0) (OfPattern : List Seen → Pattern → Type 0) (OfExpr : List Seen → Expr → Type 0) : Type 0 where
+  pub type_laws : Reads types OfType
+  pub pattern_laws : Reads patterns OfPattern
+  pub expr_laws : Reads exprs OfExpr
+  pub type_ends : Ends types
+  pub pattern_ends : Ends patterns
+  pub expr_ends : Ends exprs
+  pub no_type : types.finish types.begin ≡ None
+  pub no_pattern : patterns.finish patterns.begin ≡ None
+  pub no_all : (p : Place) → types.is_open (types.step types.begin (record { symbol = all_word; place = p })) ≡ false
+  pub no_colon : (p : Place) → patterns.is_open (patterns.step patterns.begin (record { symbol = colon; place = p })) ≡ false
+  pub no_equals : (s : PS) (x : Pattern) (p : Place) → patterns.finish s ≡ Some x → patterns.is_open (patterns.step s (record { symbol = equals; place = p })) ≡ false
 
--- the mode behind an expression that began under these frames: what stands at its right edge is open
-abbrev pub after : Expr → List Frame → Mode
-after (name p n) fs = atom (name p n) fs
-after (number p v) fs = atom (number p v) fs
-after (unit p) fs = atom (unit p) fs
-after (paren p a) fs = atom (paren p a) fs
-after (app p f a) fs = Have (app p f a) fs
-after (binary p o a b) fs = after b (Operand p a ∷ fs)
-after (bind p x a b) fs = after b (Body p x a ∷ fs)
+module _ {TS PS XS : Type 0} (types : Reader TS Seen Written) (patterns : Reader PS Seen Pattern) (exprs : Reader XS Seen Expr)
+    (OfType : List Seen → Written → Type 0) (OfPattern : List Seen → Pattern → Type 0) (OfExpr : List Seen → Expr → Type 0)
+    (parts : Parts TS PS XS types patterns exprs OfType OfPattern OfExpr) where
+  abbrev pub Stage : Type 0
+  Stage = State TS PS XS Pattern (List Entry)
 
--- a sum of the language: its operator is `+`, and a call stands at its function's place
-abbrev pub Placed : Expr → Type 0
-Placed (name p n) = ⊤
-Placed (number p v) = ⊤
-Placed (unit p) = ⊤
-Placed (paren p a) = Placed a
-Placed (app p f a) = (p ≡ place_of f) × Placed f × Placed a
-Placed (binary p o a b) = (o ≡ Add) × Placed a × Placed b
-Placed (bind p x a b) = Placed a × Placed b
+  abbrev pub plain : Reader Stage Seen (List Entry)
+  plain = machine.reader types patterns exprs entries
 
-pub placed : (e : Expr) (ts rest : List Seen) → ReadsExpr e ts rest → Placed e
-placed (name p n) ts rest r = tt
-placed (number p v) ts rest r = tt
-placed (unit p) ts rest r = tt
-placed (paren p a) ts rest r = placed a r.0 r.2.0 r.2.1
-placed (app p f a) ts rest r = (r.0, placed f ts r.1.0 r.1.1, placed a r.1.0 rest r.1.2)
-placed (binary p o a b) ts rest r = (r.0, placed a ts r.1.0 r.1.1, placed b r.1.2.0 rest r.1.2.2)
-placed (bind p x a b) ts rest r = (placed a r.2.2.0 r.2.2.2.0 r.2.2.2.1, placed b r.2.2.2.2.0 rest r.2.2.2.2.2)
+  abbrev pub inside : Stage → Symbol → Place → Stage
+  inside = machine.inside types patterns exprs entries
 
--- what a mode does that has an expression
-abbrev pub closing_to : {A : Type 0} → A → ℕ → (Expr → List Frame → A) → Mode → A
-closing_to none k next (Have e fs) = closed_to k next e fs
-closing_to none k next m = none
+  abbrev pub run : Stage → List Seen → Stage
+  run = readers.run plain
 
-pub atom_have : (e : Expr) (fs : List Frame) → 1 ≤ room fs → atom e fs ≡ Have e fs
-atom_have e [] h = refl
-atom_have e (InParen p ∷ fs) h = refl
-atom_have e (Argument f ∷ fs) h = absurd (omega arith)
-atom_have e (Operand p a ∷ fs) h = refl
-atom_have e (Bound p n ∷ fs) h = refl
-atom_have e (Body p n a ∷ fs) h = refl
+  abbrev pub finish : Stage → Option (List Entry)
+  finish = plain.finish
 
-module _ {A : Type 0} (none : A) where
-  -- open frames at the right edge are closed first
-  pub closing_after : (k : ℕ) (next : Expr → List Frame → A) (e : Expr) (fs : List Frame) → Placed e → Binds e → looseness e ≤ k → 1 ≤ room fs → closing_to none k next (after e fs) ≡ closed_to k next e fs
-  closing_after k next (name p n) fs q b h r = ap (closing_to none k next) (atom_have _ fs r)
-  closing_after k next (number p n) fs q b h r = ap (closing_to none k next) (atom_have _ fs r)
-  closing_after k next (unit p) fs q b h r = ap (closing_to none k next) (atom_have _ fs r)
-  closing_after k next (paren p a) fs q b h r = ap (closing_to none k next) (atom_have _ fs r)
-  closing_after k next (app p f a) fs q b h r = refl
-  closing_after k next (binary p o a c) fs q b h r =
-      closing_after k next c (Operand p a ∷ fs) q.2 b.3 (omega arith) (omega arith)
-      ∙ rw (le-leb 3 k h) (ap (λ x. closed_to k next (binary p x a c) fs) (sym q.0))
-  closing_after k next (bind p x a c) fs q b h r =
-      closing_after k next c (Body p x a ∷ fs) q.1 b.1 (omega (arith, loose_le c)) (omega arith)
-      ∙ rw (le-leb 5 k h)
+  -- one token more, past column 1
+  stepped : (s : Stage) (t : Seen) → is_first t.place ≡ false → plain.step s t ≡ inside s t.symbol t.place
+  stepped s t h = rw h refl
 
-pub after_have : (e : Expr) (fs : List Frame) → looseness e ≤ 1 → 1 ≤ room fs → after e fs ≡ Have e fs
-after_have (name p n) fs h r = atom_have _ fs r
-after_have (number p n) fs h r = atom_have _ fs r
-after_have (unit p) fs h r = atom_have _ fs r
-after_have (paren p a) fs h r = atom_have _ fs r
-after_have (app p f a) fs h r = refl
-after_have (binary p o a b) fs h r = absurd (omega arith)
-after_have (bind p x a b) fs h r = absurd (omega arith)
+  move : (s : Stage) (y : Symbol) (p : Place) (ts rest : List Seen) (to : Stage) → inner y p ts rest → inside s y p ≡ to → run s ts ≡ run to rest
+  move s y p ts rest to r q = ap (run s) r.1 ∙ ap (λ x. run x rest) (stepped s (at y p) r.0 ∙ q)
 
-pub after_argument : (f a : Expr) (fs : List Frame) → looseness a ≤ 0 → after a (Argument f ∷ fs) ≡ Have (app (place_of f) f a) fs
-after_argument f (name p n) fs h = refl
-after_argument f (number p n) fs h = refl
-after_argument f (unit p) fs h = refl
-after_argument f (paren p a) fs h = refl
-after_argument f (app p g a) fs h = absurd (omega arith)
-after_argument f (binary p o a b) fs h = absurd (omega arith)
-after_argument f (bind p x a b) fs h = absurd (omega arith)
+  -- a token at column 1 ends an item and begins one
+  began : (s : Stage) (done : List Entry) (y : Symbol) (p : Place) (ts rest : List Seen) (to : Stage) → finish s ≡ Some done → head y p ts rest
+      → machine.on_head types patterns exprs entries (Some done) y p ≡ to → run s ts ≡ run to rest
+  began s done y p ts rest to e r q =
+      ap (run s) r.1 ∙ ap (λ x. run x rest) (rw r.0 (ap (λ o. machine.on_head types patterns exprs entries o y p) e) ∙ q)
 
--- a sum's sign stops at a frame that has room for the sum
-pub stops : (f : Frame) → 3 ≤ hole f → 3 < closes f
-stops (InParen p) h = omega arith
-stops (Argument f) h = omega arith
-stops (Operand p a) h = absurd (omega arith)
-stops (Bound p n) h = omega arith
-stops (Body p n a) h = omega arith
+  -- a part whose reader takes every token goes along with it
+  along : {S Tree : Type 0} (R : Reader S Seen Tree) (into : S → Stage) → ((s : S) (t : Seen) → inside (into s) t.symbol t.place ≡ into (R.step s t))
+      → (front rest : List Seen) (s : S) → ArePast front → run (into s) (front ++ rest) ≡ run (into (readers.run R s front)) rest
+  along R into same [] rest s past = refl
+  along R into same (t ∷ front) rest s past = ap (λ x. run x (front ++ rest)) (stepped (into s) t past.0 ∙ same s t) ∙ along R into same front rest (R.step s t) past.1
 
-pub stays : {A : Type 0} (k : ℕ) (next : Expr → List Frame → A) (e : Expr) (f : Frame) (fs : List Frame) → k < closes f → closed_to k next e (f ∷ fs) ≡ next e (f ∷ fs)
-stays k next e f fs h = rw (lt-leb (closes f) k h)
+  -- a pattern takes each of its tokens
+  equals_goes : (done : List Entry) (h : At) (s : PS) (p : Place) (o : Option Pattern) → patterns.finish s ≡ o → patterns.is_open (patterns.step s (at equals p)) ≡ true
+      → machine.on_equals types patterns exprs entries done h s p o ≡ InParam done h (patterns.step s (at equals p))
+  equals_goes done h s p None e o = refl
+  equals_goes done h s p (Some x) e o = let no = parts.no_equals s x p e in cc
 
-pub summed : (p : Place) (a : Expr) (fs : List Frame) → 3 ≤ room fs → closed_to 3 (on_plus p) a fs ≡ Want (Operand p a ∷ fs)
-summed p a [] h = refl
-summed p a (f ∷ fs) h = stays 3 (on_plus p) a f fs (stops f h) ∙ rw (le-leb 3 (hole f) h)
+  param_goes : (done : List Entry) (h : At) (s : PS) (y : Symbol) (p : Place) → patterns.is_open (patterns.step s (at y p)) ≡ true
+      → machine.in_param types patterns exprs entries done h s y p ≡ InParam done h (patterns.step s (at y p))
+  param_goes done h s equals p o = equals_goes done h s p (patterns.finish s) refl o
+  param_goes done h s _ p o = refl
 
--- a mode that has an expression
-abbrev HasExpr : Mode → Type 0
-HasExpr (Have e fs) = ⊤
-HasExpr s = ⊥
+  name_goes : (done : List Entry) (h : At) (y : Symbol) (p : Place) → patterns.is_open (patterns.step patterns.begin (at y p)) ≡ true
+      → machine.after_name types patterns exprs entries done h y p ≡ InParam done h (patterns.step patterns.begin (at y p))
+  name_goes done h colon p o = let no = parts.no_colon p in cc
+  name_goes done h _ p o = refl
 
-atom_has : (e : Expr) (fs : List Frame) → HasExpr (atom e fs)
-atom_has e [] = tt
-atom_has e (Argument f ∷ fs) = tt
-atom_has e (f ∷ fs) = tt
+  colon_goes : (done : List Entry) (h : At) (y : Symbol) (p : Place) → types.is_open (types.step types.begin (at y p)) ≡ true
+      → machine.after_colon types patterns exprs entries done h y p ≡ InSignature done h [] [] (types.step types.begin (at y p))
+  colon_goes done h all_word p o = let no = parts.no_all p in cc
+  colon_goes done h _ p o = refl
 
-after_has : (e : Expr) (fs : List Frame) → HasExpr (after e fs)
-after_has (name p n) fs = atom_has _ fs
-after_has (number p n) fs = atom_has _ fs
-after_has (unit p) fs = atom_has _ fs
-after_has (paren p a) fs = atom_has _ fs
-after_has (app p f a) fs = tt
-after_has (binary p o a b) fs = after_has b _
-after_has (bind p n a b) fs = after_has b _
+  pub param_along : (done : List Entry) (h : At) (front rest : List Seen) (s : PS) (x : Pattern) → ArePast front → patterns.finish (readers.run patterns s front) ≡ Some x
+      → run (InParam done h s) (front ++ rest) ≡ run (InParam done h (readers.run patterns s front)) rest
+  param_along done h [] rest s x past e = refl
+  param_along done h (t ∷ front) rest s x past e =
+      ap (λ y. run y (front ++ rest)) (stepped (InParam done h s) t past.0 ∙ param_goes done h s t.symbol t.place (opened patterns OfPattern parts.pattern_laws front (patterns.step s t) x e))
+      ∙ param_along done h front rest (patterns.step s t) x past.1 e
 
-has_plus : (p : Place) (m : Mode) → HasExpr m → mode_step m plus p ≡ closing_to Stuck 3 (on_plus p) m
-has_plus p (Have e fs) h = refl
-has_plus p m h = absurd h
+  -- a parameter, from its first token on
+  pub param_reads : (done : List Entry) (h : At) (front rest : List Seen) (x : Pattern) → ArePast front → patterns.finish (readers.run patterns patterns.begin front) ≡ Some x
+      → run (AfterName done h) (front ++ rest) ≡ run (InParam done h (readers.run patterns patterns.begin front)) rest
+  param_reads done h [] rest x past e = let no = parts.no_pattern in cc
+  param_reads done h (t ∷ front) rest x past e =
+      ap (λ y. run y (front ++ rest)) (stepped (AfterName done h) t past.0 ∙ name_goes done h t.symbol t.place (opened patterns OfPattern parts.pattern_laws front (patterns.step patterns.begin t) x e))
+      ∙ param_along done h front rest (patterns.step patterns.begin t) x past.1 e
 
-has_in : (p : Place) (m : Mode) → HasExpr m → mode_step m in_word p ≡ closing_to Stuck 5 on_in m
-has_in p (Have e fs) h = refl
-has_in p m h = absurd h
+  -- the type of a signature, and what is behind an `=`
+  pub signature_along : (done : List Entry) (h : At) (vs : List Bound) (ps : List Place) (front rest : List Seen) (s : TS) → ArePast front
+      → run (InSignature done h vs ps s) (front ++ rest) ≡ run (InSignature done h vs ps (readers.run types s front)) rest
+  signature_along done h vs ps front rest s past = along types (InSignature done h vs ps) (λ u t. refl) front rest s past
 
-has_close : (p : Place) (m : Mode) → HasExpr m → mode_step m closing p ≡ closing_to Stuck 5 on_close m
-has_close p (Have e fs) h = refl
-has_close p m h = absurd h
+  pub synonym_along : (done : List Entry) (h : At) (params : List At) (front rest : List Seen) (s : TS) → ArePast front
+      → run (InSynonym done h params s) (front ++ rest) ≡ run (InSynonym done h params (readers.run types s front)) rest
+  synonym_along done h params front rest s past = along types (InSynonym done h params) (λ u t. refl) front rest s past
 
-has_end : (m : Mode) → HasExpr m → mode_end m ≡ closing_to None 5 whole m
-has_end (Have e fs) h = refl
-has_end m h = absurd h
+  pub body_along : (done : List Entry) (h : At) (x : Pattern) (front rest : List Seen) (s : XS) → ArePast front
+      → run (InBody done h x s) (front ++ rest) ≡ run (InBody done h x (readers.run exprs s front)) rest
+  body_along done h x front rest s past = along exprs (InBody done h x) (λ u t. refl) front rest s past
 
-after_plus : (p : Place) (a : Expr) (fs : List Frame) → Placed a → Binds a → looseness a ≤ 3 → 3 ≤ room fs → mode_step (after a fs) plus p ≡ Want (Operand p a ∷ fs)
-after_plus p a fs q b l h =
-    has_plus p (after a fs) (after_has a fs)
-    ∙ closing_after Stuck 3 (on_plus p) a fs q b l (omega arith)
-    ∙ summed p a fs h
+  first_type : (done : List Entry) (h : At) (front rest : List Seen) (x : Written) → ArePast front → types.finish (readers.run types types.begin front) ≡ Some x
+      → run (AfterColon done h) (front ++ rest) ≡ run (InSignature done h [] [] (readers.run types types.begin front)) rest
+  first_type done h [] rest x past e = let no = parts.no_type in cc
+  first_type done h (t ∷ front) rest x past e =
+      ap (λ y. run y (front ++ rest)) (stepped (AfterColon done h) t past.0 ∙ colon_goes done h t.symbol t.place (opened types OfType parts.type_laws front (types.step types.begin t) x e))
+      ∙ signature_along done h [] [] front rest (types.step types.begin t) past.1
 
-after_close : (p place : Place) (a : Expr) (fs : List Frame) → Placed a → Binds a → mode_step (after a (InParen p ∷ fs)) closing place ≡ atom (paren p a) fs
-after_close p place a fs q b =
-    has_close place (after a (InParen p ∷ fs)) (after_has a _)
-    ∙ closing_after Stuck 5 on_close a (InParen p ∷ fs) q b (loose_le a) (omega arith)
+  -- parameters
+  params_read : (done : List Entry) (h : At) (params before : List At) (ts rest : List Seen) → ReadsParams params ts rest → run (InParams done h before) ts ≡ run (InParams done h (before ++ params)) rest
+  params_read done h [] before ts rest r = ap (run (InParams done h before)) r ∙ ap (λ x. run (InParams done h x) rest) (sym (append-nil before))
+  params_read done h (n ∷ params) before ts rest r =
+      move (InParams done h before) (lower n.name) n.place ts r.0 (InParams done h (before ++ n ∷ [])) r.1 refl
+      ∙ params_read done h params (before ++ n ∷ []) r.0 rest r.2
+      ∙ ap (λ x. run (InParams done h x) rest) (append_assoc before (n ∷ []) params)
 
-after_in : (p : Place) (x : At) (place : Place) (a : Expr) (fs : List Frame) → Placed a → Binds a → mode_step (after a (Bound p x ∷ fs)) in_word place ≡ Want (Body p x a ∷ fs)
-after_in p x place a fs q b =
-    has_in place (after a (Bound p x ∷ fs)) (after_has a _)
-    ∙ closing_after Stuck 5 on_in a (Bound p x ∷ fs) q b (loose_le a) (omega arith)
+  -- a type variable, and a comma or a closing parenthesis behind it
+  module _ (done : List Entry) (h : At) where
+    -- a token behind a type variable, which is neither of the others
+    var_then : (vs : List Bound) (ps : List Place) (v : Bound) (q : Place) (y : Symbol) (ts rest : List Seen) (to : Stage)
+        → machine.after_kinds types patterns exprs entries done h vs ps v q y ≡ to
+        → ((w : Bound) (p : Place) → machine.after_var types patterns exprs entries done h vs ps w.name q y ≡ machine.after_kinds types patterns exprs entries done h vs ps (bound w.name no_kinds) q y)
+        → (ReadsVar v q then inner_sign y) ts rest → run (WantVar done h vs ps) ts ≡ run to rest
+    var_then vs ps v q y ts rest to e plainly r =
+        let behind = r.2 in
+        ⊎_elim
+        (λ w.
+          move (WantVar done h vs ps) (lower v.name) q ts r.0 (AfterVar done h vs ps v.name q) w.1 refl
+          ∙ move (AfterVar done h vs ps v.name q) y behind.0 r.0 rest to behind.1
+              (plainly v q ∙ ap (λ x. machine.after_kinds types patterns exprs entries done h vs ps x q y) (sym w.0) ∙ e))
+        (λ w.
+          let m = w.3 in let k = m.2 in
+          move (WantVar done h vs ps) (lower v.name) q ts m.0 (AfterVar done h vs ps v.name q) m.1 refl
+          ∙ move (AfterVar done h vs ps v.name q) has_kinds k.1.0 m.0 k.0 (WantKinds done h vs ps v.name q) k.1.1 refl
+          ∙ move (WantKinds done h vs ps v.name q) (upper w.0) k.2.0 k.0 r.0 (AfterKinds done h vs ps v q) k.2.1 (rw w.1 (ap (λ x. AfterKinds done h vs ps x q) (sym w.2)))
+          ∙ move (AfterKinds done h vs ps v q) y behind.0 r.0 rest to behind.1 e)
+        r.1
 
-on_let_room : (p : Place) (fs : List Frame) → 5 ≤ room fs → on_let p fs ≡ AfterLet p fs
-on_let_room p fs h = rw (le-leb 5 (room fs) h)
+    vars_read : (vars : List Bound) (places : List Place) (vs : List Bound) (ps : List Place) (ts rest : List Seen) → VarsBefore vars places ts rest
+        → run (WantVar done h vs ps) ts ≡ run (WantVar done h (vs ++ vars) (ps ++ places)) rest
+    vars_read [] [] vs ps ts rest r = ap (run (WantVar done h vs ps)) r ∙ ap (λ x. run (WantVar done h x ps) rest) (sym (append-nil vs)) ∙ ap (λ x. run (WantVar done h (vs ++ []) x) rest) (sym (append-nil ps))
+    vars_read (v ∷ vars) (p ∷ places) vs ps ts rest r =
+        let c = r.2 in
+        var_then vs ps v p comma ts c.0 (WantVar done h (vs ++ v ∷ []) (ps ++ p ∷ [])) refl (λ w q. refl) (r.0, r.1, c.1)
+        ∙ vars_read vars places (vs ++ v ∷ []) (ps ++ p ∷ []) c.0 rest c.2
+        ∙ ap (λ x. run (WantVar done h x ((ps ++ p ∷ []) ++ places)) rest) (append_assoc vs (v ∷ []) vars)
+        ∙ ap (λ x. run (WantVar done h (vs ++ v ∷ vars) x) rest) (append_assoc ps (p ∷ []) places)
+    vars_read [] (p ∷ places) vs ps ts rest r = absurd r
+    vars_read (v ∷ vars) [] vs ps ts rest r = absurd r
 
--- one token more, past column 1
-stepped : (s : Stage) (y : Symbol) (p : Place) → is_first p ≡ false → step s (record { symbol = y; place = p }) ≡ machine.inside trees s y p
-stepped s y p h = rw h
+    -- what binds type variables, and the type behind it
+    all_read : (vs : List Bound) (ps : List Place) (t : Written) (ts mid rest : List Seen) → ReadsAll vs ps ts mid → (r : IsPart OfType t mid rest)
+        → run (AfterColon done h) ts ≡ run (InSignature done h vs ps (readers.run types types.begin r.front)) rest
+    all_read vs ps t ts mid rest (nothing no_vars no_places none) r =
+        ap (run (AfterColon done h)) (none ∙ r.parts)
+        ∙ first_type done h r.front rest t r.past (parts.type_laws.complete r.front t r.spelled)
+        ∙ ap (λ x. run (InSignature done h x [] (readers.run types types.begin r.front)) rest) (sym no_vars)
+        ∙ ap (λ x. run (InSignature done h vs x (readers.run types types.begin r.front)) rest) (sym no_places)
+    all_read vs ps t ts mid rest (alone n p one_var one_place a) r =
+        let b = a.2 in
+        move (AfterColon done h) all_word a.1.0 ts a.0 (AfterAll done h) a.1.1 refl
+        ∙ move (AfterAll done h) (lower n) p a.0 b.0 (WantDot done h (bound n no_kinds ∷ []) (p ∷ [])) b.1 refl
+        ∙ ap (λ x. run (WantDot done h x (p ∷ [])) b.0) (sym one_var)
+        ∙ ap (λ x. run (WantDot done h vs x) b.0) (sym one_place)
+        ∙ move (WantDot done h vs ps) dot b.2.0 b.0 mid (InSignature done h vs ps types.begin) b.2.1 refl
+        ∙ ap (run (InSignature done h vs ps types.begin)) r.parts
+        ∙ signature_along done h vs ps r.front rest types.begin r.past
+    all_read vs ps t ts mid rest (listed a) r =
+        let b = a.2 in let c = b.2 in let d = c.2 in let l = c.1 in
+        move (AfterColon done h) all_word a.1.0 ts a.0 (AfterAll done h) a.1.1 refl
+        ∙ move (AfterAll done h) opening b.1.0 a.0 b.0 (WantVar done h [] []) b.1.1 refl
+        ∙ vars_read l.vars l.places [] [] b.0 l.read.0 l.read.1
+        ∙ var_then l.vars l.places l.last l.last_place closing l.read.0 d.0 (WantDot done h (l.vars ++ l.last ∷ []) (l.places ++ l.last_place ∷ [])) refl (λ w q. refl) (c.0, l.read.2, d.1)
+        ∙ ap (λ x. run (WantDot done h x (l.places ++ l.last_place ∷ [])) d.0) (sym l.all_vars)
+        ∙ ap (λ x. run (WantDot done h vs x) d.0) (sym l.all_places)
+        ∙ move (WantDot done h vs ps) dot d.2.0 d.0 mid (InSignature done h vs ps types.begin) d.2.1 refl
+        ∙ ap (run (InSignature done h vs ps types.begin)) r.parts
+        ∙ signature_along done h vs ps r.front rest types.begin r.past
 
-move : (s : Stage) (y : Symbol) (p : Place) (ts rest : List Seen) (to : Stage) → token y p ts rest → machine.inside trees s y p ≡ to → run s ts ≡ run to rest
-move s y p ts rest to r q = ap (run s) r.1 ∙ ap (λ x. run x rest) (stepped s y p r.0 ∙ q)
+  -- what is read of an item: a state in which it can end
+  abbrev EndsIn : Stage → List Entry → List Seen → List Seen → Type 0
+  EndsIn s items ts rest = (to : Stage) × (finish to ≡ Some items) × (run s ts ≡ run to rest)
 
--- in the body of a definition
-module _ (done : List Entry) (at x : At) where
-  abbrev body : Mode → Stage
-  body m = InBody done at x m
+  entry_reads : (i : Entry) (s : Stage) (done : List Entry) (ts rest : List Seen) → finish s ≡ Some done → ReadsEntry OfType OfPattern OfExpr i ts rest → EndsIn s (done ++ i ∷ []) ts rest
+  entry_reads (synonym h params t) s done ts rest e r =
+      let u = r.2 in let v = u.2 in let w = v.2 in let part = w.2 in (
+        InSynonym done h params (readers.run types types.begin part.front),
+        ap (machine.end_synonym types patterns exprs entries done h params) (parts.type_laws.complete part.front t part.spelled),
+        began s done type_word r.1.0 ts r.0 (AfterType done) e r.1.1 refl
+            ∙ move (AfterType done) (upper h.name) h.place r.0 u.0 (InParams done h []) u.1 refl
+            ∙ params_read done h params [] u.0 v.0 v.1
+            ∙ move (InParams done h params) equals w.1.0 v.0 w.0 (InSynonym done h params types.begin) w.1.1 refl
+            ∙ ap (run (InSynonym done h params types.begin)) part.parts
+            ∙ synonym_along done h params part.front rest types.begin part.past,
+      )
+  entry_reads (abstract h params) s done ts rest e r =
+      let u = r.2 in (
+        InParams done h params,
+        refl,
+        began s done type_word r.1.0 ts r.0 (AfterType done) e r.1.1 refl
+            ∙ move (AfterType done) (upper h.name) h.place r.0 u.0 (InParams done h []) u.1 refl
+            ∙ params_read done h params [] u.0 rest u.2,
+      )
+  entry_reads (signature h vs ps t) s done ts rest e r =
+      let u = r.2 in let v = u.2 in let part = v.2 in (
+        InSignature done h vs ps (readers.run types types.begin part.front),
+        ap (machine.end_signature types patterns exprs entries done h vs ps) (parts.type_laws.complete part.front t part.spelled),
+        began s done (lower h.name) h.place ts r.0 (AfterName done h) e r.1 refl
+            ∙ move (AfterName done h) colon u.1.0 r.0 u.0 (AfterColon done h) u.1.1 refl
+            ∙ all_read done h vs ps t u.0 v.0 rest v.1 part,
+      )
+  entry_reads (define h x b) s done ts rest e r =
+      let u = r.2 in let v = u.2 in let pattern = u.1 in let part = v.2 in
+      let whole = parts.pattern_laws.complete pattern.front x pattern.spelled in (
+        InBody done h x (readers.run exprs exprs.begin part.front),
+        ap (machine.end_body types patterns exprs entries done h x) (parts.expr_laws.complete part.front b part.spelled),
+        began s done (lower h.name) h.place ts r.0 (AfterName done h) e r.1 refl
+            ∙ ap (run (AfterName done h)) pattern.parts
+            ∙ param_reads done h pattern.front u.0 x pattern.past whole
+            ∙ move (InParam done h (readers.run patterns patterns.begin pattern.front)) equals v.1.0 u.0 v.0 (InBody done h x exprs.begin) v.1.1
+                (ap (machine.on_equals types patterns exprs entries done h (readers.run patterns patterns.begin pattern.front) v.1.0) whole)
+            ∙ ap (run (InBody done h x exprs.begin)) part.parts
+            ∙ body_along done h x part.front rest exprs.begin part.past,
+      )
 
-  go : (m : Mode) (y : Symbol) (p : Place) (ts rest : List Seen) (to : Mode) → token y p ts rest → mode_step m y p ≡ to → run (body m) ts ≡ run (body to) rest
-  go m y p ts rest to r q = move (body m) y p ts rest (body to) r (ap body q)
+  program_reads : (items done : List Entry) (s : Stage) (ts : List Seen) → finish s ≡ Some done → ReadsProgram OfType OfPattern OfExpr items ts [] → finish (run s ts) ≡ Some (done ++ items)
+  program_reads [] done s ts e r = ap (λ x. finish (run s x)) r ∙ e ∙ ap Some (sym (append-nil done))
+  program_reads (i ∷ items) done s ts e r =
+      let u = entry_reads i s done ts r.0 e r.1 in
+      ap finish u.2 ∙ program_reads items (done ++ i ∷ []) u.0 r.0 u.1 r.2 ∙ ap Some (append_assoc done (i ∷ []) items)
 
-  -- an atom behind an expression is read as its argument
-  as_argument : (f a : Expr) (fs : List Frame) (ts rest : List Seen) → looseness a ≤ 0 → ReadsExpr a ts rest → run (body (Have f fs)) ts ≡ run (body (Want (Argument f ∷ fs))) ts
-  as_argument f (name p n) fs ts rest h r = go (Have f fs) _ p ts rest _ r refl ∙ sym (go (Want (Argument f ∷ fs)) _ p ts rest _ r refl)
-  as_argument f (number p n) fs ts rest h r = go (Have f fs) _ p ts rest _ r refl ∙ sym (go (Want (Argument f ∷ fs)) _ p ts rest _ r refl)
-  as_argument f (unit p) fs ts rest h r = go (Have f fs) _ p ts r.0 _ r.1 refl ∙ sym (go (Want (Argument f ∷ fs)) _ p ts r.0 _ r.1 refl)
-  as_argument f (paren p a) fs ts rest h r = go (Have f fs) _ p ts r.0 _ r.1 refl ∙ sym (go (Want (Argument f ∷ fs)) _ p ts r.0 _ r.1 refl)
-  as_argument f (app p g a) fs ts rest h r = absurd (omega arith)
-  as_argument f (binary p o a b) fs ts rest h r = absurd (omega arith)
-  as_argument f (bind p x a b) fs ts rest h r = absurd (omega arith)
-
-  -- what the tokens spell is read
-  pub reads : (e : Expr) (fs : List Frame) (ts rest : List Seen) → Binds e → looseness e ≤ room fs → ReadsExpr e ts rest → run (body (Want fs)) ts ≡ run (body (after e fs)) rest
-  reads (name p n) fs ts rest b h r = go (Want fs) (lower n) p ts rest (atom (name p n) fs) r refl
-  reads (number p v) fs ts rest b h r = go (Want fs) (numeral v) p ts rest (atom (number p v) fs) r refl
-  reads (unit p) fs ts rest b h r =
-      go (Want fs) opening p ts r.0 (Want (InParen p ∷ fs)) r.1 refl
-      ∙ go (Want (InParen p ∷ fs)) closing r.2.0 r.0 rest (atom (unit p) fs) r.2.1 refl
-  reads (paren p a) fs ts rest b h r =
-      go (Want fs) opening p ts r.0 (Want (InParen p ∷ fs)) r.1 refl
-      ∙ reads a (InParen p ∷ fs) r.0 r.2.0 b (loose_le a) r.2.1
-      ∙ go (after a (InParen p ∷ fs)) closing r.2.2.0 r.2.0 rest (atom (paren p a) fs) r.2.2.1 (after_close p r.2.2.0 a fs (placed a r.0 r.2.0 r.2.1) b)
-  reads (app p f a) fs ts rest b h r =
-      reads f fs ts r.1.0 b.2 (omega (arith, b.0)) r.1.1
-      ∙ ap (λ m. run (body m) r.1.0) (after_have f fs b.0 h)
-      ∙ as_argument f a fs r.1.0 rest b.1 r.1.2
-      ∙ reads a (Argument f ∷ fs) r.1.0 rest b.3 b.1 r.1.2
-      ∙ ap (λ m. run (body m) rest) (after_argument f a fs b.1 ∙ ap (λ q. Have (app q f a) fs) (sym r.0))
-  reads (binary p o a c) fs ts rest b h r =
-      reads a fs ts r.1.0 b.2 (omega (arith, b.0)) r.1.1
-      ∙ go (after a fs) plus p r.1.0 r.1.2.0 (Want (Operand p a ∷ fs)) r.1.2.1 (after_plus p a fs (placed a ts r.1.0 r.1.1) b.2 b.0 h)
-      ∙ reads c (Operand p a ∷ fs) r.1.2.0 rest b.3 b.1 r.1.2.2
-  reads (bind p n a c) fs ts rest b h r =
-      go (Want fs) let_word p ts r.0 (AfterLet p fs) r.1 (on_let_room p fs h)
-      ∙ go (AfterLet p fs) (lower n.name) n.place r.0 r.2.0 (AfterName p n fs) r.2.1 refl
-      ∙ go (AfterName p n fs) equals r.2.2.1.0 r.2.0 r.2.2.0 (Want (Bound p n ∷ fs)) r.2.2.1.1 refl
-      ∙ reads a (Bound p n ∷ fs) r.2.2.0 r.2.2.2.0 b.0 (loose_le a) r.2.2.2.1
-      ∙ go (after a (Bound p n ∷ fs)) in_word r.2.2.2.2.1.0 r.2.2.2.0 r.2.2.2.2.0 (Want (Body p n a ∷ fs)) r.2.2.2.2.1.1 (after_in p n r.2.2.2.2.1.0 a fs (placed a r.2.2.0 r.2.2.2.0 r.2.2.2.1) b.0)
-      ∙ reads c (Body p n a ∷ fs) r.2.2.2.2.0 rest b.1 (loose_le c) r.2.2.2.2.2
-
--- an expression that is read is what the body's end gives
-pub ends_body : (done : List Entry) (at x : At) (e : Expr) → Placed e → Binds e → finish (InBody done at x (after e [])) ≡ Some (done ++ define at x e ∷ [])
-ends_body done at x e q b =
-    ap (end_body done at x) (has_end (after e []) (after_has e []) ∙ closing_after None 5 whole e [] q b (loose_le e) (omega arith))
-
-named_is : (n : List ℕ) → IsTypeName n → (bytes_eq n (codes "U32") || bytes_eq n (codes "SysState")) ≡ true
-named_is n h = ⊎_elim (λ e. rw e refl) (λ e. rw e refl) h
-
--- in a signature
-module _ (done : List Entry) (at : At) where
-  abbrev in_type : TypeMode → Stage
-  in_type m = InType done at m
-
-  types : (m : TypeMode) (y : Symbol) (p : Place) (ts rest : List Seen) (to : TypeMode) → token y p ts rest → type_step m y p ≡ to → run (in_type m) ts ≡ run (in_type to) rest
-  types m y p ts rest to r q = move (in_type m) y p ts rest (in_type to) r (ap in_type q)
-
-  plain_reads : (from : Option Plain) (ty : Written) (ts rest : List Seen) → ReadsPlain ty ts rest → (t : Plain) × (plain_type t ≡ ty) × (plain_place t ≡ type_place ty) × (run (in_type (Wanted from)) ts ≡ run (in_type (Read from t)) rest)
-  plain_reads from (named p n) ts rest r =
-      (by_name p n, refl, refl, types (Wanted from) (upper n) p ts rest (Read from (by_name p n)) r.1 (rw (named_is n r.0)))
-  plain_reads from (nothing p) ts rest r =
-      (empty p, refl, refl, types (Wanted from) opening p ts r.0 (Opened from p) r.1 refl ∙ types (Opened from p) closing r.2.0 r.0 rest (Read from (empty p)) r.2.1 refl)
-  plain_reads from (function p a b) ts rest r = absurd r
-
-  -- a type is read
-  abbrev ReadsTo : Written → List Seen → List Seen → Type 0
-  ReadsTo ty ts rest = (from : Option Plain) × (t : Plain) × (whole_type from t ≡ ty) × (run (in_type (Wanted None)) ts ≡ run (in_type (Read from t)) rest)
-
-  alone : (ty : Written) (ts rest : List Seen) → ReadsPlain ty ts rest → ReadsTo ty ts rest
-  alone ty ts rest r = let s = plain_reads None ty ts rest r in (None, s.0, s.1, s.3)
-
-  type_reads : (ty : Written) (ts rest : List Seen) → ReadsType ty ts rest → ReadsTo ty ts rest
-  type_reads (named p n) ts rest r = alone (named p n) ts rest r
-  type_reads (nothing p) ts rest r = alone (nothing p) ts rest r
-  type_reads (function p a b) ts rest r =
-      let s = plain_reads None a ts r.1.0 r.1.1 in
-      let u = plain_reads (Some s.0) b r.1.2.0 rest r.1.2.2 in
-      (Some s.0, u.0, cc, s.3 ∙ types (Read None s.0) arrow r.1.2.1.0 r.1.0 r.1.2.0 (Wanted (Some s.0)) r.1.2.1.1 refl ∙ u.3)
-
--- a token at column 1 ends an item and begins one
-begun : (s : Stage) (done : List Entry) (n : List ℕ) (p : Place) (ts rest : List Seen) → finish s ≡ Some done → head (lower n) p ts rest → run s ts ≡ run (AfterHead done (name_at p n)) rest
-begun s done n p ts rest e r = ap (run s) r.1 ∙ ap (λ x. run x rest) (rw r.0 (ap (λ o. machine.on_head trees o (lower n) p) e))
-
--- what is read of an item: a state in which it can end
-abbrev Ends : Stage → List Entry → List Seen → List Seen → Type 0
-Ends s items ts rest = (to : Stage) × (finish to ≡ Some items) × (run s ts ≡ run to rest)
-
-entry_reads : (i : Entry) (s : Stage) (done : List Entry) (ts rest : List Seen) → finish s ≡ Some done → ReadsEntry i ts rest → Ends s (done ++ i ∷ []) ts rest
-entry_reads (signature at ty) s done ts rest e r =
-    let u = type_reads done at ty r.2.0 rest r.2.2 in (
-      InType done at (machine.Read u.0 u.1),
-      ap (λ x. Some (done ++ signature at x ∷ [])) u.2,
-      begun s done at.name at.place ts r.0 e r.1
-          ∙ move (AfterHead done at) colon r.2.1.0 r.0 r.2.0 (InType done at (Wanted None)) r.2.1.1 refl
-          ∙ u.3,
-    )
-entry_reads (define at x b) s done ts rest e r =
-    let q = r.1 in let m = q.2.2 in (
-      InBody done at x (after b []),
-      ends_body done at x b (placed b m.0 rest m.2) r.0,
-      begun s done at.name at.place ts q.0 e q.1
-          ∙ move (AfterHead done at) (lower x.name) x.place q.0 q.2.0 (AfterParam done at x) q.2.1 refl
-          ∙ move (AfterParam done at x) equals m.1.0 q.2.0 m.0 (InBody done at x (Want [])) m.1.1 refl
-          ∙ reads done at x b [] m.0 rest r.0 (loose_le b) m.2,
-    )
-
-program_reads : (items done : List Entry) (s : Stage) (ts : List Seen) → finish s ≡ Some done → ReadsProgram items ts [] → finish (run s ts) ≡ Some (done ++ items)
-program_reads [] done s ts e r = ap (λ x. finish (run s x)) r ∙ e ∙ ap Some (sym (append-nil done))
-program_reads (i ∷ items) done s ts e r =
-    let u = entry_reads i s done ts r.0 e r.1 in
-    ap finish u.2 ∙ program_reads items (done ++ i ∷ []) u.0 r.0 u.1 r.2 ∙ ap Some (append_assoc done (i ∷ []) items)
-
--- each program that the tokens spell is read
-pub complete : (ts : List Seen) (p : List Entry) → SpellsTokens ts p → finish (run (Between []) ts) ≡ Some p
-complete ts p r = program_reads p [] (Between []) ts refl r
+  -- each program that the tokens spell is read
+  pub complete : (ts : List Seen) (p : List Entry) → ReadsProgram OfType OfPattern OfExpr p ts [] → finish (run (Between []) ts) ≡ Some p
+  complete ts p r = program_reads p [] (Between []) ts refl r

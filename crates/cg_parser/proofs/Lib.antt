@@ -1,7 +1,6 @@
 pub mod Complete
-pub mod Mapped
-pub mod One
+pub mod Follow
+pub mod Parts
 pub mod Says
-pub mod Short
 pub mod Sound
 pub mod Viable

@@ -1,20 +1,24 @@
--- Whatever the machine has read, something completes it; so it is an exact reader.
-use Rattle.std.proofs.Common.{◌≡◌, ◌⊎◌, inl, inr, ⊎_elim, ◌≤◌, List, [], ◌∷◌, ◌++◌, refl, sym, ◌∙◌, ap, arith, true, false, Bool, cond, Some, None}
-use Rattle.std.specs.Prelude.{⊤}
-use Rattle.std.proofs.lemmas.Bool.{le-leb}
+-- What is open can be completed, and what is shut stays shut.
+use Rattle.std.proofs.Common.{◌≡◌, ℕ, List, [], ◌∷◌, ◌++◌, refl, sym, ◌∙◌, ap, true, false, Bool, cond, Option, Some, None}
+use Rattle.cg_base.specs.declared.kind.Bound.{Bound}
 use Rattle.cg_base.specs.declared.place.Place.{Place}
-use Rattle.cg_base.specs.Reader.{Reads}
+use Rattle.cg_base.specs.Reader.{Reader, Reads}
+use Rattle.cg_base.specs.Reader as readers
 use Rattle.cg_core.specs.declared.at.At.{At}
-use Rattle.cg_core.specs.declared.op.Op.TheVariants.{Add}
-use Rattle.cg_surface.specs.Trees.{Expr, number, app, binary, bind, paren, place_of, Entry, define}
-use Rattle.cg_parser.specs.Symbols.{Symbol, lower, numeral, in_word, opening, closing, colon, equals, Seen, is_first}
-use Rattle.cg_parser.specs.Grammar.{SpellsTokens}
+use Rattle.cg_surface.specs.Written.{Written}
+use Rattle.cg_surface.specs.Patterns.{Pattern}
+use Rattle.cg_surface.specs.Exprs.{Expr}
+use Rattle.cg_surface.specs.Programs.{Entry}
+use Rattle.cg_symbols.specs.Symbols.{Symbol, lower, upper, all_word, closing, colon, equals, dot, Seen, is_first}
+use Rattle.cg_symbols.specs.Readings.{ArePast}
+use Rattle.cg_parser.specs.Grammar.{ReadsProgram}
+use Rattle.cg_parser.specs.Machine.{State, Between, AfterType, InParams, InSynonym, AfterName, AfterColon, AfterAll, WantVar, AfterVar, WantKinds, AfterKinds, WantDot, InSignature, InParam, InBody, Failed}
 use Rattle.cg_parser.specs.Machine as machine
-use Rattle.cg_parser.specs.Machine.{InParen, Argument, Operand, Bound, Body, Want, Have, AfterLet, AfterName, Stuck, Plain, Wanted, Opened, Read, NoType, TypeMode, Between, AfterHead, InType, AfterParam, InBody, Failed, mode_is_open, type_is_open, name_at}
-use Rattle.cg_parser.specs.Plain.{trees, plain_reader}
-use Rattle.cg_parser.proofs.Short.{Frame, Mode, Stage, closed, room, closes, fill, atom, on_close, on_in, go_on, mode_step, mode_end, end_body, finish, step, run}
-use Rattle.cg_parser.proofs.Complete.{complete}
-use Rattle.cg_parser.proofs.Sound.{Good, Sound, StageRead, begin_holds, sound}
+use Rattle.cg_parser.specs.Plain.{entries}
+use Rattle.cg_parser.proofs.Parts.{HasRead, completes}
+use Rattle.cg_parser.proofs.Complete as complete
+use Rattle.cg_parser.proofs.Complete.{Parts}
+use Rattle.cg_parser.proofs.Sound as sound
 
 -- a place past column 1
 abbrev there : Place
@@ -23,145 +27,155 @@ there = record { line = 1; column = 2 }
 abbrev at : Symbol → Seen
 at y = record { symbol = y; place = there }
 
--- tokens that begin with one that closes
-abbrev IsClosing : List Seen → Type 0
-IsClosing [] = ⊤
-IsClosing (t ∷ ts) = (is_first t.place ≡ false) × ((t.symbol ≡ closing) ⊎ (t.symbol ≡ in_word))
+module _ {TS PS XS : Type 0} (types : Reader TS Seen Written) (patterns : Reader PS Seen Pattern) (exprs : Reader XS Seen Expr)
+    (OfType : List Seen → Written → Type 0) (OfPattern : List Seen → Pattern → Type 0) (OfExpr : List Seen → Expr → Type 0)
+    (parts : Parts TS PS XS types patterns exprs OfType OfPattern OfExpr) where
+  abbrev Stage : Type 0
+  Stage = State TS PS XS Pattern (List Entry)
 
--- some tokens complete the state
-abbrev Completable : Stage → Type 0
-Completable s = (rest : List Seen) × (p : List Entry) × (finish (run s rest) ≡ Some p)
+  abbrev finish : Stage → Option (List Entry)
+  finish = machine.finish types patterns exprs entries
 
-shut : (f : Frame) (e : Expr) (fs : List Frame) → closes f ≤ 5 → closed 5 e (f ∷ fs) ≡ closed 5 (fill f e) fs
-shut f e fs h = rw (le-leb (closes f) 5 h) refl
+  abbrev run : Stage → List Seen → Stage
+  run = complete.run types patterns exprs OfType OfPattern OfExpr parts
 
-module _ (done : List Entry) (head x : At) where
-  abbrev body : Mode → Stage
-  body m = InBody done head x m
+  abbrev is_open : Stage → Bool
+  is_open = machine.is_open types patterns exprs entries
 
-  -- some tokens that begin with a closing one complete the body
-  abbrev Completes : Mode → Type 0
-  Completes m = (rest : List Seen) × IsClosing rest × (p : List Entry) × (finish (run (body m) rest) ≡ Some p)
+  abbrev StageRead : Stage → List Seen → List Seen → Type 0
+  StageRead = sound.StageRead types patterns exprs OfType OfPattern OfExpr parts
 
-  past : (m : Mode) (t : Seen) → is_first t.place ≡ false → step (body m) t ≡ body (mode_step m t.symbol t.place)
-  past m t h = rw h refl
-
-  -- before a token that closes, a frame may be closed first
-  same_step : (f : Frame) (e : Expr) (fs : List Frame) (y : Symbol) (p : Place) → closes f ≤ 5 → (y ≡ closing) ⊎ (y ≡ in_word) → go_on y p e (f ∷ fs) ≡ go_on y p (fill f e) fs
-  same_step f e fs y p h c =
-      ⊎_elim
-      (λ q. ap (λ k. go_on k p e (f ∷ fs)) q ∙ ap (λ r. on_close r.0 r.1) (shut f e fs h) ∙ ap (λ k. go_on k p (fill f e) fs) (sym q))
-      (λ q. ap (λ k. go_on k p e (f ∷ fs)) q ∙ ap (λ r. on_in r.0 r.1) (shut f e fs h) ∙ ap (λ k. go_on k p (fill f e) fs) (sym q))
-      c
-
-  skip : (f : Frame) (e : Expr) (fs : List Frame) (rest : List Seen) → closes f ≤ 5 → IsClosing rest → finish (run (body (Have e (f ∷ fs))) rest) ≡ finish (run (body (Have (fill f e) fs)) rest)
-  skip f e fs [] h c = ap (λ r. end_body done head x (machine.whole trees r.0 r.1)) (shut f e fs h)
-  skip f e fs (t ∷ ts) h c =
-      ap (λ s. finish (run s ts))
-      (past (Have e (f ∷ fs)) t c.0 ∙ ap body (same_step f e fs t.symbol t.place h c.1) ∙ sym (past (Have (fill f e) fs) t c.0))
-
-  skipped : (f : Frame) (e : Expr) (fs : List Frame) → closes f ≤ 5 → Completes (Have (fill f e) fs) → Completes (Have e (f ∷ fs))
-  skipped f e fs h c = (c.0, c.1, c.2, skip f e fs c.0 h c.1 ∙ c.3)
+  -- some tokens complete the state
+  abbrev Completable : Stage → Type 0
+  Completable s = (rest : List Seen) × (p : List Entry) × (finish (run s rest) ≡ Some p)
 
   -- one token more
-  fed : (y : Symbol) (m : Mode) → (y ≡ closing) ⊎ (y ≡ in_word) → Completes (mode_step m y there) → Completes m
-  fed y m c d = (at y ∷ d.0, (refl, c), d.2, d.3)
+  fed : (y : Symbol) (s to : Stage) → machine.step types patterns exprs entries s (at y) ≡ to → Completable to → Completable s
+  fed y s to e c = (at y ∷ c.0, c.1, ap (λ x. finish (run x c.0)) e ∙ c.2)
 
-  completed : (fs : List Frame) → Good fs → ((e : Expr) → 1 ≤ room fs → Completes (Have e fs)) × ((e : Expr) → Completes (atom e fs))
-  completed [] g = ((λ e h. ([], tt, done ++ define head x e ∷ [], refl)), (λ e. ([], tt, done ++ define head x e ∷ [], refl)))
-  completed (InParen p ∷ fs) g =
-      let c = (completed fs g.2).1 in
-      let a : (e : Expr) → Completes (Have e (InParen p ∷ fs)) = λ e. fed closing (Have e (InParen p ∷ fs)) (inl refl) (c (paren p e)) in
-      ((λ e h. a e), a)
-  completed (Argument f ∷ fs) g = ((λ e h. absurd (omega arith)), (λ e. (completed fs g.2).0 (app (place_of f) f e) g.0))
-  completed (Operand p a ∷ fs) g =
-      let c : (e : Expr) → Completes (Have e (Operand p a ∷ fs)) = λ e. skipped (Operand p a) e fs (omega arith) ((completed fs g.2).0 (binary p Add a e) (omega (arith, g.0))) in
-      ((λ e h. c e), c)
-  completed (Bound p n ∷ fs) g =
-      let b : (e : Expr) → Completes (Have (number there None) (Body p n e ∷ fs)) = λ e. skipped (Body p n e) (number there None) fs (omega arith) ((completed fs g.2).0 (bind p n e (number there None)) (omega (arith, g.0))) in
-      let c : (e : Expr) → Completes (Have e (Bound p n ∷ fs)) = λ e. let d = b e in (at in_word ∷ at (numeral None) ∷ d.0, (refl, inr refl), d.2, d.3) in
-      ((λ e h. c e), c)
-  completed (Body p n a ∷ fs) g =
-      let c : (e : Expr) → Completes (Have e (Body p n a ∷ fs)) = λ e. skipped (Body p n a) e fs (omega arith) ((completed fs g.2).0 (bind p n a e) (omega (arith, g.0))) in
-      ((λ e h. c e), c)
+  -- what is left of a part, and a tree that comes of it
+  abbrev Left : {S Tree : Type 0} → Reader S Seen Tree → S → Type 0
+  Left {S} {Tree} R s = (more : List Seen) × ArePast more × (tree : Tree) × (R.finish (readers.run R s more) ≡ Some tree)
 
-  wanted : (fs : List Frame) → Good fs → Completable (body (Want fs))
-  wanted fs g = let d = (completed fs g).1 (number there None) in (at (numeral None) ∷ d.0, d.2, d.3)
+  synonym_left : (done : List Entry) (h : At) (params : List At) (s : TS) → Left types s → Completable (InSynonym done h params s)
+  synonym_left done h params s l =
+      (l.0 ++ [], _, ap finish (complete.synonym_along types patterns exprs OfType OfPattern OfExpr parts done h params l.0 [] s l.1) ∙ ap (machine.end_synonym types patterns exprs entries done h params) l.3)
 
-  in_body : (m : Mode) → Sound m → mode_is_open m ≡ true → Completable (body m)
-  in_body (Want fs) g o = wanted fs g
-  in_body (Have e fs) g o = let d = (completed fs g.3).0 e g.1 in (d.0, d.2, d.3)
-  in_body (AfterLet p fs) g o = let w = wanted (Bound p (name_at there []) ∷ fs) (g.0, tt, g.1) in (at (lower []) ∷ at equals ∷ w.0, w.1, w.2)
-  in_body (AfterName p n fs) g o = let w = wanted (Bound p n ∷ fs) (g.0, tt, g.1) in (at equals ∷ w.0, w.1, w.2)
-  in_body Stuck g o = cc
+  signature_left : (done : List Entry) (h : At) (vs : List Bound) (ps : List Place) (s : TS) → Left types s → Completable (InSignature done h vs ps s)
+  signature_left done h vs ps s l =
+      (l.0 ++ [], _, ap finish (complete.signature_along types patterns exprs OfType OfPattern OfExpr parts done h vs ps l.0 [] s l.1) ∙ ap (machine.end_signature types patterns exprs entries done h vs ps) l.3)
 
-in_type : (done : List Entry) (head : At) (m : TypeMode) → type_is_open m ≡ true → Completable (InType done head m)
-in_type done head (Wanted from) o = (at opening ∷ at closing ∷ [], _, refl)
-in_type done head (Opened from p) o = (at closing ∷ [], _, refl)
-in_type done head (Read from t) o = ([], _, refl)
-in_type done head NoType o = cc
+  body_left : (done : List Entry) (h : At) (x : Pattern) (s : XS) → Left exprs s → Completable (InBody done h x s)
+  body_left done h x s l =
+      (l.0 ++ [], _, ap finish (complete.body_along types patterns exprs OfType OfPattern OfExpr parts done h x l.0 [] s l.1) ∙ ap (machine.end_body types patterns exprs entries done h x) l.3)
 
-completable : (s : Stage) (all : List Seen) → StageRead s all [] → machine.is_open trees s ≡ true → Completable s
-completable (Between done) all r o = ([], done, refl)
-completable (AfterHead done head) all r o = (at colon ∷ at opening ∷ at closing ∷ [], _, refl)
-completable (InType done head m) all r o = in_type done head m o
-completable (AfterParam done head x) all r o = let w = wanted done head x [] tt in (at equals ∷ w.0, w.1, w.2)
-completable (InBody done head x m) all r o = in_body done head x m r.2.2.2.2.sound o
-completable Failed all r o = cc
+  param_left : (done : List Entry) (h : At) (s : PS) → Left patterns s → Completable (InParam done h s)
+  param_left done h s l =
+      let b = body_left done h l.2 exprs.begin (parts.expr_ends [] parts.expr_laws.begins) in (
+        l.0 ++ at equals ∷ b.0,
+        b.1,
+        ap finish (complete.param_along types patterns exprs OfType OfPattern OfExpr parts done h l.0 (at equals ∷ b.0) s l.2 l.1 l.3)
+            ∙ ap (λ o. finish (run (machine.on_equals types patterns exprs entries done h (readers.run patterns s l.0) there o) b.0)) l.3
+            ∙ b.2,
+      )
 
-viable : (ts : List Seen) → machine.is_open trees (run (Between []) ts) ≡ true → Completable (run (Between []) ts)
-viable ts o = completable (run (Between []) ts) ts (begin_holds ts) o
+  -- a signature from its dot on, and from each place before
+  from_dot : (done : List Entry) (h : At) (vs : List Bound) (ps : List Place) → Completable (WantDot done h vs ps)
+  from_dot done h vs ps = fed dot (WantDot done h vs ps) (InSignature done h vs ps types.begin) refl (signature_left done h vs ps types.begin (parts.type_ends [] parts.type_laws.begins))
 
--- what is shut has no end, and stays shut
-type_none : (done : List Entry) (head : At) (m : TypeMode) → type_is_open m ≡ false → machine.end_type trees done head m ≡ None
-type_none done head NoType h = refl
-type_none done head (Wanted from) h = cc
-type_none done head (Opened from p) h = cc
-type_none done head (Read from t) h = cc
+  from_kinds : (done : List Entry) (h : At) (vs : List Bound) (ps : List Place) (v : Bound) (q : Place) → Completable (AfterKinds done h vs ps v q)
+  from_kinds done h vs ps v q = fed closing (AfterKinds done h vs ps v q) _ refl (from_dot done h (vs ++ v ∷ []) (ps ++ q ∷ []))
 
-mode_none : (m : Mode) → mode_is_open m ≡ false → mode_end m ≡ None
-mode_none Stuck h = refl
-mode_none (Want fs) h = cc
-mode_none (Have e fs) h = cc
-mode_none (AfterLet p fs) h = cc
-mode_none (AfterName p n fs) h = cc
+  from_var : (done : List Entry) (h : At) (vs : List Bound) (ps : List Place) (n : List ℕ) (q : Place) → Completable (AfterVar done h vs ps n q)
+  from_var done h vs ps n q = fed closing (AfterVar done h vs ps n q) _ refl (from_dot done h _ (ps ++ q ∷ []))
 
-no_tree : (s : Stage) → machine.is_open trees s ≡ false → finish s ≡ None
-no_tree (Between done) h = cc
-no_tree (AfterHead done head) h = cc
-no_tree (InType done head m) h = type_none done head m h
-no_tree (AfterParam done head x) h = cc
-no_tree (InBody done head x m) h = ap (end_body done head x) (mode_none m h)
-no_tree Failed h = refl
+  from_all : (done : List Entry) (h : At) → Completable (AfterAll done h)
+  from_all done h = fed (lower []) (AfterAll done h) _ refl (from_dot done h _ (there ∷ []))
 
-type_shut : (m : TypeMode) (y : Symbol) (p : Place) → type_is_open m ≡ false → type_is_open (machine.type_step m y p) ≡ false
-type_shut NoType y p h = refl
-type_shut (Wanted from) y p h = cc
-type_shut (Opened from q) y p h = cc
-type_shut (Read from t) y p h = cc
+  from_colon : (done : List Entry) (h : At) → Completable (AfterColon done h)
+  from_colon done h = fed all_word (AfterColon done h) (AfterAll done h) refl (from_all done h)
 
-mode_shut : (m : Mode) (y : Symbol) (p : Place) → mode_is_open m ≡ false → mode_is_open (mode_step m y p) ≡ false
-mode_shut Stuck y p h = refl
-mode_shut (Want fs) y p h = cc
-mode_shut (Have e fs) y p h = cc
-mode_shut (AfterLet q fs) y p h = cc
-mode_shut (AfterName q n fs) y p h = cc
+  completable : (s : Stage) (all : List Seen) → StageRead s all [] → is_open s ≡ true → Completable s
+  completable (Between done) all r o = ([], done, refl)
+  completable (AfterType done) all r o = (at (upper []) ∷ [], _, refl)
+  completable (InParams done h params) all r o = ([], _, refl)
+  completable (InSynonym done h params s) all r o = let x = r.2.2.2.2 in synonym_left done h params s (completes types parts.type_ends s x.0 [] x.2 o)
+  completable (AfterName done h) all r o = fed colon (AfterName done h) (AfterColon done h) refl (from_colon done h)
+  completable (AfterColon done h) all r o = from_colon done h
+  completable (AfterAll done h) all r o = from_all done h
+  completable (WantVar done h vs ps) all r o = fed (lower []) (WantVar done h vs ps) _ refl (from_var done h vs ps [] there)
+  completable (AfterVar done h vs ps n q) all r o = from_var done h vs ps n q
+  completable (WantKinds done h vs ps n q) all r o = fed (upper []) (WantKinds done h vs ps n q) _ refl (from_kinds done h vs ps _ q)
+  completable (AfterKinds done h vs ps v q) all r o = from_kinds done h vs ps v q
+  completable (WantDot done h vs ps) all r o = from_dot done h vs ps
+  completable (InSignature done h vs ps s) all r o = let x = r.2 in signature_left done h vs ps s (completes types parts.type_ends s x.0 [] x.2 o)
+  completable (InParam done h s) all r o = let x = r.2 in param_left done h s (completes patterns parts.pattern_ends s x.0 [] x.2 o)
+  completable (InBody done h x s) all r o = let y = r.2.2.2 in body_left done h x s (completes exprs parts.expr_ends s y.0 [] y.2 o)
+  completable Failed all r o = cc
 
-inside_shut : (s : Stage) (y : Symbol) (p : Place) → machine.is_open trees s ≡ false → machine.is_open trees (machine.inside trees s y p) ≡ false
-inside_shut (Between done) y p h = cc
-inside_shut (AfterHead done head) y p h = cc
-inside_shut (InType done head m) y p h = type_shut m y p h
-inside_shut (AfterParam done head x) y p h = cc
-inside_shut (InBody done head x m) y p h = mode_shut m y p h
-inside_shut Failed y p h = refl
+  viable : (ts : List Seen) → is_open (run (Between []) ts) ≡ true → Completable (run (Between []) ts)
+  viable ts o = completable (run (Between []) ts) ts (sound.begin_holds types patterns exprs OfType OfPattern OfExpr parts ts) o
 
-step_shut : (s : Stage) (t : Seen) → machine.is_open trees s ≡ false → machine.is_open trees (step s t) ≡ false
-step_shut s t h = go (is_first t.place)
-  where
-    go : (b : Bool) → machine.is_open trees (cond b (machine.on_head trees (finish s) t.symbol t.place) (machine.inside trees s t.symbol t.place)) ≡ false
-    go true = ap (λ o. machine.is_open trees (machine.on_head trees o t.symbol t.place)) (no_tree s h)
-    go false = inside_shut s t.symbol t.place h
+  -- what is shut has no end, and stays shut
+  no_tree : (s : Stage) → is_open s ≡ false → finish s ≡ None
+  no_tree (Between done) h = cc
+  no_tree (AfterType done) h = cc
+  no_tree (InParams done at params) h = cc
+  no_tree (InSynonym done at params s) h = ap (machine.end_synonym types patterns exprs entries done at params) (parts.type_laws.no_tree s h)
+  no_tree (AfterName done at) h = cc
+  no_tree (AfterColon done at) h = cc
+  no_tree (AfterAll done at) h = cc
+  no_tree (WantVar done at vs ps) h = cc
+  no_tree (AfterVar done at vs ps n q) h = cc
+  no_tree (WantKinds done at vs ps n q) h = cc
+  no_tree (AfterKinds done at vs ps v q) h = cc
+  no_tree (WantDot done at vs ps) h = cc
+  no_tree (InSignature done at vs ps s) h = ap (machine.end_signature types patterns exprs entries done at vs ps) (parts.type_laws.no_tree s h)
+  no_tree (InParam done at s) h = refl
+  no_tree (InBody done at x s) h = ap (machine.end_body types patterns exprs entries done at x) (parts.expr_laws.no_tree s h)
+  no_tree Failed h = refl
 
--- the six laws
-pub laws : Reads plain_reader SpellsTokens
-laws = record { begins = refl; shut = step_shut; no_tree = no_tree; complete = complete; sound = sound; viable = viable }
+  equals_shut : (done : List Entry) (h : At) (s : PS) (p : Place) (o : Option Pattern) → patterns.finish s ≡ o → patterns.is_open s ≡ false
+      → is_open (machine.on_equals types patterns exprs entries done h s p o) ≡ false
+  equals_shut done h s p None e c = parts.pattern_laws.shut s (record { symbol = equals; place = p }) c
+  equals_shut done h s p (Some x) e c = let none = parts.pattern_laws.no_tree s c in cc
+
+  param_shut : (done : List Entry) (h : At) (s : PS) (y : Symbol) (p : Place) → patterns.is_open s ≡ false → is_open (machine.in_param types patterns exprs entries done h s y p) ≡ false
+  param_shut done h s equals p c = equals_shut done h s p (patterns.finish s) refl c
+  param_shut done h s y p c = parts.pattern_laws.shut s (record { symbol = y; place = p }) c
+
+  inside_shut : (s : Stage) (y : Symbol) (p : Place) → is_open s ≡ false → is_open (machine.inside types patterns exprs entries s y p) ≡ false
+  inside_shut (Between done) y p h = cc
+  inside_shut (AfterType done) y p h = cc
+  inside_shut (InParams done at params) y p h = cc
+  inside_shut (InSynonym done at params s) y p h = parts.type_laws.shut s (record { symbol = y; place = p }) h
+  inside_shut (AfterName done at) y p h = cc
+  inside_shut (AfterColon done at) y p h = cc
+  inside_shut (AfterAll done at) y p h = cc
+  inside_shut (WantVar done at vs ps) y p h = cc
+  inside_shut (AfterVar done at vs ps n q) y p h = cc
+  inside_shut (WantKinds done at vs ps n q) y p h = cc
+  inside_shut (AfterKinds done at vs ps v q) y p h = cc
+  inside_shut (WantDot done at vs ps) y p h = cc
+  inside_shut (InSignature done at vs ps s) y p h = parts.type_laws.shut s (record { symbol = y; place = p }) h
+  inside_shut (InParam done at s) y p h = param_shut done at s y p h
+  inside_shut (InBody done at x s) y p h = parts.expr_laws.shut s (record { symbol = y; place = p }) h
+  inside_shut Failed y p h = refl
+
+  step_shut : (s : Stage) (t : Seen) → is_open s ≡ false → is_open (machine.step types patterns exprs entries s t) ≡ false
+  step_shut s t h = go (is_first t.place)
+    where
+      go : (b : Bool) → is_open (cond b (machine.on_head types patterns exprs entries (finish s) t.symbol t.place) (machine.inside types patterns exprs entries s t.symbol t.place)) ≡ false
+      go true = ap (λ o. is_open (machine.on_head types patterns exprs entries o t.symbol t.place)) (no_tree s h)
+      go false = inside_shut s t.symbol t.place h
+
+  -- the six laws
+  pub laws : Reads (machine.reader types patterns exprs entries) (λ ts p. ReadsProgram OfType OfPattern OfExpr p ts [])
+  laws = record {
+    begins = refl;
+    shut = step_shut;
+    no_tree = no_tree;
+    complete = complete.complete types patterns exprs OfType OfPattern OfExpr parts;
+    sound = sound.sound types patterns exprs OfType OfPattern OfExpr parts;
+    viable = viable;
+  }

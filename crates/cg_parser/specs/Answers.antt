@@ -1,5 +1,5 @@
 -- What parsing answers, and why.
-use Rattle.std.specs.Prelude.{◌≡◌, ℕ, ◌≤◌, ◌<◌, List, [], ◌∷◌, ◌++◌, map, Result, Ok, Err, ⊤}
+use Rattle.std.specs.Prelude.{◌≡◌, ℕ, ◌≤◌, ◌<◌, List, [], ◌∷◌, ◌++◌, map, Option, Some, None, Result, Ok, Err, ⊤}
 use Rattle.cg_base.specs.declared.place.Place.{Place}
 use Rattle.cg_base.specs.Reader.{Begins}
 use Rattle.cg_base.specs.Places.{place_after}
@@ -9,12 +9,11 @@ use Rattle.cg_lexer.specs.Next.{IsUnknown, IsOpen}
 use Rattle.cg_lexer.specs.declared.token.LexFault.{LexFault}
 use Rattle.cg_lexer.specs.declared.token.LexFault.TheVariants.{UnknownByte, OpenComment}
 use Rattle.cg_surface.specs.declared.program.Program.{Program}
-use Rattle.cg_surface.specs.Trees.{Entry, program_of, program_depth}
-use Rattle.cg_parser.specs.Symbols.{seen}
+use Rattle.cg_surface.specs.Programs.{Entry, program_of, program_depth}
+use Rattle.cg_symbols.specs.Symbols.{seen}
 use Rattle.cg_parser.specs.Grammar.{SpellsTokens, Spells}
 use Rattle.cg_parser.specs.declared.fault.ParseFault.{ParseFault}
 use Rattle.cg_parser.specs.declared.fault.ParseFault.TheVariants.{S1, S2, S3, Nesting, Memory}
-
 -- no program has more depth
 abbrev pub depth_limit : ℕ
 depth_limit = 1024
@@ -46,3 +45,12 @@ Answers bytes (Err (S2 place)) = (front : List Lexeme) × (at : Cursor) × Viabl
 Answers bytes (Err (S3 place)) = (front : List Lexeme) × (at : Cursor) × Viable bytes front at × IsUnexpected front at place × NoProgram bytes
 Answers bytes (Err Nesting) = (p : List Entry) × Spells bytes p × (depth_limit < program_depth p) × ((q : List Entry) → Spells bytes q → q ≡ p)
 Answers bytes (Err Memory) = ⊤
+
+-- what is answered at the end of the tokens, which is at this place, where the reader over bounded items finishes with this
+abbrev pub Concludes : Option (Option (List Entry)) → Place → Result Program ParseFault → Type 0
+Concludes items place (Ok p) = items ≡ Some (Some (program_of p))
+Concludes items place (Err (S1 q)) = ⊥
+Concludes items place (Err (S2 q)) = ⊥
+Concludes items place (Err (S3 q)) = (items ≡ None) × (q ≡ place)
+Concludes items place (Err Nesting) = items ≡ Some None
+Concludes items place (Err Memory) = ⊤

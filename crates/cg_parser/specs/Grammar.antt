@@ -1,94 +1,94 @@
--- The small language's grammar: which tokens spell which program, and which bytes.
-use Rattle.std.specs.Prelude.{◌≡◌, ◌⊎◌, ℕ, ◌≤◌, true, false, List, [], ◌∷◌, map, codes, ⊤}
+-- Which tokens spell which program, and which bytes (docs/LANGUAGE.md, "Items").
+use Rattle.std.specs.Prelude.{◌≡◌, ◌⊎◌, ℕ, Bool, true, false, ◌==◌, ◌||◌, List, [], ◌∷◌, ◌++◌, map}
+use Rattle.std.specs.List.{list_all, list_any}
+use Rattle.cg_base.specs.declared.kind.Bound.{Bound}
+use Rattle.cg_base.specs.declared.kind.Kinds.{Kinds}
 use Rattle.cg_base.specs.declared.place.Place.{Place}
-use Rattle.cg_core.specs.declared.op.Op.TheVariants.{Add}
+use Rattle.cg_core.specs.declared.at.At.{At}
 use Rattle.cg_lexer.specs.Tokens.{Lexeme, Lexes}
-use Rattle.cg_surface.specs.Trees.{Written, named, nothing, arrow as function, Expr, name, number, unit, paren, app, binary, bind, Entry, signature, define, place_of}
-use Rattle.cg_parser.specs.Symbols.{Symbol, lower, upper, numeral, let_word, in_word, opening, closing, colon, equals, plus, arrow, Seen, seen, is_first}
+use Rattle.cg_surface.specs.Written.{Written}
+use Rattle.cg_surface.specs.Patterns.{Pattern}
+use Rattle.cg_surface.specs.Exprs.{Expr}
+use Rattle.cg_surface.specs.Programs.{Entry, synonym, abstract, signature, define}
+use Rattle.cg_symbols.specs.Symbols.{Symbol, lower, upper, type_word, all_word, opening, closing, colon, has_kinds, equals, comma, dot, Seen, seen}
+use Rattle.cg_symbols.specs.Readings.{Reading, ◌then◌, head, inner, inner_sign, IsPart}
+use Rattle.cg_parse_types.specs.Grammar.{SpellsType}
+use Rattle.cg_parse_patterns.specs.Grammar.{SpellsPattern}
+use Rattle.cg_parse_terms.specs.Grammar.{SpellsExpr}
 
--- how loosely an expression is bound: 0 is an atom, 1 a call, 3 a sum, 5 a `let`
-abbrev pub looseness : Expr → ℕ
-looseness (name p n) = 0
-looseness (number p n) = 0
-looseness (unit p) = 0
-looseness (paren p a) = 0
-looseness (app p f a) = 1
-looseness (binary p o a b) = 3
-looseness (bind p x a b) = 5
+-- the letters of kinds: D, S and E
+abbrev pub is_letter : ℕ → Bool
+is_letter c = c == 68 || c == 83 || c == 69
 
--- a relation between the tokens from a place on and those behind what is read there
-abbrev pub Reading : Type 1
-Reading = List Seen → List Seen → Type 0
+abbrev pub are_letters : List ℕ → Bool
+are_letters text = list_all is_letter text
 
-infixr 15 ◌then◌
-abbrev pub ◌then◌ : Reading → Reading → Reading
-(R then S) ts rest = (mid : List Seen) × R ts mid × S mid rest
+-- the kinds that letters give, and those of a variable with no constraint
+abbrev pub kinds_of : List ℕ → Kinds
+kinds_of text = record { drop = list_any (λ c. c == 68) text; share = list_any (λ c. c == 83) text; escape = list_any (λ c. c == 69) text }
 
--- one symbol at this place, past column 1
-abbrev pub token : Symbol → Place → Reading
-token s p ts rest = (is_first p ≡ false) × (ts ≡ record { symbol = s; place = p } ∷ rest)
+abbrev pub no_kinds : Kinds
+no_kinds = record { drop = false; share = false; escape = false }
 
--- one symbol past column 1, at a place that no tree keeps
-abbrev pub sign : Symbol → Reading
-sign s ts rest = (p : Place) × token s p ts rest
+abbrev pub bound : List ℕ → Kinds → Bound
+bound n kinds = record { name = n; kinds = kinds }
 
--- one symbol at this place, at column 1
-abbrev pub head : Symbol → Place → Reading
-head s p ts rest = (is_first p ≡ true) × (ts ≡ record { symbol = s; place = p } ∷ rest)
+-- the parameters of a type
+abbrev pub ReadsParams : List At → Reading
+ReadsParams [] ts rest = ts ≡ rest
+ReadsParams (n ∷ ns) ts rest = (inner (lower n.name) n.place then ReadsParams ns) ts rest
 
--- the types that are named
-abbrev pub IsTypeName : List ℕ → Type 0
-IsTypeName n = (n ≡ codes "U32") ⊎ (n ≡ codes "SysState")
+-- a type variable at its place, without a constraint or with one
+abbrev pub ReadsVar : Bound → Place → Reading
+ReadsVar v p ts rest =
+    ((v ≡ bound v.name no_kinds) × inner (lower v.name) p ts rest)
+    ⊎ ((letters : List ℕ) × (are_letters letters ≡ true) × (v ≡ bound v.name (kinds_of letters)) × (inner (lower v.name) p then inner_sign has_kinds then inner_sign (upper letters)) ts rest)
 
--- a type without an arrow
-abbrev pub ReadsPlain : Written → Reading
-ReadsPlain (named p n) ts rest = IsTypeName n × token (upper n) p ts rest
-ReadsPlain (nothing p) ts rest = (token opening p then sign closing) ts rest
-ReadsPlain (function p a b) ts rest = ⊥
+-- type variables, each with a comma behind it; and some parted by commas
+abbrev pub VarsBefore : List Bound → List Place → Reading
+VarsBefore [] [] ts rest = ts ≡ rest
+VarsBefore (v ∷ vs) (p ∷ ps) ts rest = (ReadsVar v p then inner_sign comma then VarsBefore vs ps) ts rest
+VarsBefore [] (p ∷ ps) ts rest = ⊥
+VarsBefore (v ∷ vs) [] ts rest = ⊥
 
--- the place of a written type
-abbrev pub type_place : Written → Place
-type_place (named p n) = p
-type_place (nothing p) = p
-type_place (function p a b) = p
+pub record ReadsVars (vs : List Bound) (ps : List Place) (ts rest : List Seen) : Type 0 where
+  pub vars : List Bound
+  pub places : List Place
+  pub last : Bound
+  pub last_place : Place
+  pub all_vars : vs ≡ vars ++ last ∷ []
+  pub all_places : ps ≡ places ++ last_place ∷ []
+  pub read : (VarsBefore vars places then ReadsVar last last_place) ts rest
 
--- a type: a plain one, or an arrow between two, at the place of the first
-abbrev pub ReadsType : Written → Reading
-ReadsType (named p n) ts rest = ReadsPlain (named p n) ts rest
-ReadsType (nothing p) ts rest = ReadsPlain (nothing p) ts rest
-ReadsType (function p a b) ts rest = (p ≡ type_place a) × (ReadsPlain a then sign arrow then ReadsPlain b) ts rest
+-- what binds type variables in front of a type: nothing, `all` with one variable, or `all` with some in parentheses
+pub data ReadsAll (vs : List Bound) (ps : List Place) (ts rest : List Seen) : Type 0 where
+  nothing : vs ≡ [] → ps ≡ [] → ts ≡ rest → ReadsAll vs ps ts rest
+  alone : (n : List ℕ) (p : Place) → vs ≡ bound n no_kinds ∷ [] → ps ≡ p ∷ [] → (inner_sign all_word then inner (lower n) p then inner_sign dot) ts rest → ReadsAll vs ps ts rest
+  listed : (inner_sign all_word then inner_sign opening then ReadsVars vs ps then inner_sign closing then inner_sign dot) ts rest → ReadsAll vs ps ts rest
 
--- the tokens from `ts` on spell the expression, and `rest` stands behind it
-abbrev pub ReadsExpr : Expr → Reading
-ReadsExpr (name p n) ts rest = token (lower n) p ts rest
-ReadsExpr (number p v) ts rest = token (numeral v) p ts rest
-ReadsExpr (unit p) ts rest = (token opening p then sign closing) ts rest
-ReadsExpr (paren p a) ts rest = (token opening p then ReadsExpr a then sign closing) ts rest
-ReadsExpr (app p f a) ts rest = (p ≡ place_of f) × (ReadsExpr f then ReadsExpr a) ts rest
-ReadsExpr (binary p o a b) ts rest = (o ≡ Add) × (ReadsExpr a then token plus p then ReadsExpr b) ts rest
-ReadsExpr (bind p x a b) ts rest = (token let_word p then token (lower x.name) x.place then sign equals then ReadsExpr a then sign in_word then ReadsExpr b) ts rest
+-- a symbol at column 1, at a place that no tree keeps
+abbrev pub head_sign : Symbol → Reading
+head_sign s ts rest = (p : Place) × head s p ts rest
 
--- each operand is bound tightly enough for its place: calls and sums associate to the left
-abbrev pub Binds : Expr → Type 0
-Binds (name p n) = ⊤
-Binds (number p v) = ⊤
-Binds (unit p) = ⊤
-Binds (paren p a) = Binds a
-Binds (app p f a) = (looseness f ≤ 1) × (looseness a ≤ 0) × Binds f × Binds a
-Binds (binary p o a b) = (looseness a ≤ 3) × (looseness b ≤ 2) × Binds a × Binds b
-Binds (bind p x a b) = Binds a × Binds b
+-- Items, where these are the tokens that spell types, patterns and expressions. Only the first token of an item stands at
+-- column 1.
+module _ (OfType : List Seen → Written → Type 0) (OfPattern : List Seen → Pattern → Type 0) (OfExpr : List Seen → Expr → Type 0) where
+  abbrev pub ReadsEntry : Entry → Reading
+  ReadsEntry (synonym at params body) ts rest =
+      (head_sign type_word then inner (upper at.name) at.place then ReadsParams params then inner_sign equals then IsPart OfType body) ts rest
+  ReadsEntry (abstract at params) ts rest = (head_sign type_word then inner (upper at.name) at.place then ReadsParams params) ts rest
+  ReadsEntry (signature at vars places ty) ts rest =
+      (head (lower at.name) at.place then inner_sign colon then ReadsAll vars places then IsPart OfType ty) ts rest
+  ReadsEntry (define at param body) ts rest =
+      (head (lower at.name) at.place then IsPart OfPattern param then inner_sign equals then IsPart OfExpr body) ts rest
 
-abbrev pub ReadsEntry : Entry → Reading
-ReadsEntry (signature at ty) ts rest = (head (lower at.name) at.place then sign colon then ReadsType ty) ts rest
-ReadsEntry (define at param body) ts rest = Binds body × (head (lower at.name) at.place then token (lower param.name) param.place then sign equals then ReadsExpr body) ts rest
-
-abbrev pub ReadsProgram : List Entry → Reading
-ReadsProgram [] ts rest = ts ≡ rest
-ReadsProgram (i ∷ items) ts rest = (ReadsEntry i then ReadsProgram items) ts rest
+  abbrev pub ReadsProgram : List Entry → Reading
+  ReadsProgram [] ts rest = ts ≡ rest
+  ReadsProgram (i ∷ items) ts rest = (ReadsEntry i then ReadsProgram items) ts rest
 
 -- the tokens spell the program
 abbrev pub SpellsTokens : List Seen → List Entry → Type 0
-SpellsTokens ts p = ReadsProgram p ts []
+SpellsTokens ts p = ReadsProgram SpellsType SpellsPattern SpellsExpr p ts []
 
 -- the bytes are a text of the program
 abbrev pub Spells : List ℕ → List Entry → Type 0

@@ -1,6 +1,6 @@
 -- The law of what bytes spell.
 use Rattle.std.specs.Prelude.{◌≡◌, ℕ, List}
-use Rattle.cg_surface.specs.Trees.{Entry}
+use Rattle.cg_surface.specs.Programs.{Entry}
 use Rattle.cg_parser.specs.Grammar.{Spells}
 
 -- bytes spell at most one program

@@ -4,7 +4,3 @@ pub mod Grammar
 pub mod Laws
 pub mod Machine
 pub mod Plain
-pub mod Stack
-pub mod Stages
-pub mod Symbols
-pub mod Views

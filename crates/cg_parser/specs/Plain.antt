@@ -1,31 +1,20 @@
 -- The machine over whole trees, however deep they are.
 use Rattle.std.specs.Prelude.{List, [], ◌∷◌, ◌++◌}
-use Rattle.cg_base.specs.Reader.{Reader}
-use Rattle.cg_core.specs.declared.op.Op.TheVariants.{Add}
-use Rattle.cg_surface.specs.Trees.{Expr, name, number, unit, paren, app, binary, bind, Entry, signature, define, place_of}
-use Rattle.cg_parser.specs.Symbols.{Seen}
-use Rattle.cg_parser.specs.Machine as machine
-use Rattle.cg_parser.specs.Machine.{Builder, State, whole_type}
+use Rattle.cg_base.specs.declared.place.Place.{Place}
+use Rattle.cg_base.specs.declared.kind.Bound.{Bound}
+use Rattle.cg_core.specs.declared.at.At.{At}
+use Rattle.cg_surface.specs.Written.{Written}
+use Rattle.cg_surface.specs.Patterns.{Pattern}
+use Rattle.cg_surface.specs.Exprs.{Expr}
+use Rattle.cg_surface.specs.Programs.{Entry, synonym, abstract, signature, define}
+use Rattle.cg_parser.specs.Machine.{Builder}
 
--- expressions and lists of items as they are
-abbrev pub trees : Builder Expr (List Entry)
-trees = record {
-  name = name;
-  number = number;
-  unit = unit;
-  paren = paren;
-  app = λ f a. app (place_of f) f a;
-  sum = λ p a b. binary p Add a b;
-  bind = bind;
+-- lists of items as they are
+abbrev pub entries : Builder Written Pattern Expr (List Entry)
+entries = record {
   none = [];
-  declare = λ done at from t. done ++ signature at (whole_type from t) ∷ [];
+  synonym = λ done at params t. done ++ synonym at params t ∷ [];
+  abstract = λ done at params. done ++ abstract at params ∷ [];
+  signature = λ done at vs ps t. done ++ signature at vs ps t ∷ [];
   define = λ done at x e. done ++ define at x e ∷ [];
 }
-
--- its states
-abbrev pub Stage : Type 0
-Stage = State Expr (List Entry)
-
--- as a reader
-abbrev pub plain_reader : Reader Stage Seen (List Entry)
-plain_reader = machine.reader trees
