@@ -1,0 +1,91 @@
+-- What the parser's own values stand for, over the readers of the parts up to the depth of the language.
+use Rattle.std.specs.Prelude.{List, Option, Some, None}
+use Rattle.cg_base.specs.Reader.{Reader}
+use Rattle.cg_surface.specs.declared.pattern.Pat.{Pat}
+use Rattle.cg_surface.specs.declared.program.Item.{Item}
+use Rattle.cg_surface.specs.declared.program.Program.{Program}
+use Rattle.cg_surface.specs.Written.{Written}
+use Rattle.cg_surface.specs.Patterns.{Pattern, pattern_of}
+use Rattle.cg_surface.specs.Exprs.{Expr}
+use Rattle.cg_surface.specs.Programs.{Entry, entry_of, program_of}
+use Rattle.cg_symbols.specs.Symbols.{Seen}
+use Rattle.cg_parse_types.specs.Bounded as bounded_types
+use Rattle.cg_parse_types.specs.State as type_state
+use Rattle.cg_parse_types.specs.Views as type_views
+use Rattle.cg_parse_patterns.specs.Bounded as bounded_patterns
+use Rattle.cg_parse_patterns.specs.State as pattern_state
+use Rattle.cg_parse_patterns.specs.Views as pattern_views
+use Rattle.cg_parse_terms.specs.Bounded as bounded_exprs
+use Rattle.cg_parse_terms.specs.State as expr_state
+use Rattle.cg_parse_terms.specs.Views as expr_views
+use Rattle.cg_parse_types.specs.declared.reader.TypeEnd.{TypeEnd}
+use Rattle.cg_parse_terms.specs.declared.reader.ExprEnd.{ExprEnd}
+use Rattle.cg_parser.specs.Bounded.{bounded}
+use Rattle.cg_parser.specs.Machine.{State}
+use Rattle.cg_parser.specs.Machine as machine
+use Rattle.cg_parser.specs.declared.phase.Parts.{Parts}
+use Rattle.cg_parser.specs.declared.phase.Phase.{Phase}
+use Rattle.cg_parser.specs.declared.phase.Phase.TheVariants.{Between, AfterType, InParams, InSynonym, AfterName, AfterColon, AfterAll, WantVar, AfterVar, WantKinds, AfterKinds, WantDot, InSignature, InParam, InBody, Failed}
+
+-- the readers of types, patterns and expressions, up to the depth
+abbrev pub types : Reader bounded_types.Held Seen (Option Written)
+types = bounded_types.bounded_reader
+
+abbrev pub patterns : Reader bounded_patterns.Held Seen (Option Pattern)
+patterns = bounded_patterns.bounded_reader
+
+abbrev pub exprs : Reader bounded_exprs.Held Seen (Option Expr)
+exprs = bounded_exprs.bounded_reader
+
+-- how a part ends
+abbrev pub type_end : TypeEnd → Option (Option Written)
+type_end = type_views.end_of
+
+abbrev pub expr_end : ExprEnd → Option (Option Expr)
+expr_end = expr_views.end_of
+
+-- where the readers of the parts stand
+pub record Read : Type 0 where
+  pub types : bounded_types.Held
+  pub patterns : bounded_patterns.Held
+  pub exprs : bounded_exprs.Held
+
+abbrev pub parts_of : Parts → Read
+parts_of p = record { types = type_state.reader_state p.types; patterns = pattern_state.reader_state p.patterns; exprs = expr_state.reader_state p.exprs }
+
+-- an item, and a parameter, where they aren't too deep
+abbrev pub item_of : Option Item → Option Entry
+item_of None = None
+item_of (Some i) = Some (entry_of i)
+
+abbrev pub pat_of : Option Pat → Option Pattern
+pat_of None = None
+pat_of (Some x) = Some (pattern_of x)
+
+-- the items, where none is too deep
+abbrev pub items_of : Option Program → Option (List Entry)
+items_of None = None
+items_of (Some p) = Some (program_of p)
+
+-- a state over bounded items
+abbrev pub Held : Type 0
+Held = State bounded_types.Held bounded_patterns.Held bounded_exprs.Held (Option Pattern) (Option (List Entry))
+
+-- where among items the reader stands, with the items before and the readers of the parts
+abbrev pub state_of : Option (List Entry) → Phase → Read → Held
+state_of done Between r = machine.Between done
+state_of done AfterType r = machine.AfterType done
+state_of done (InParams at params) r = machine.InParams done at params
+state_of done (InSynonym at params) r = machine.InSynonym done at params r.types
+state_of done (AfterName at) r = machine.AfterName done at
+state_of done (AfterColon at) r = machine.AfterColon done at
+state_of done (AfterAll at) r = machine.AfterAll done at
+state_of done (WantVar at vars) r = machine.WantVar done at vars.bounds vars.places
+state_of done (AfterVar at vars n q) r = machine.AfterVar done at vars.bounds vars.places n q
+state_of done (WantKinds at vars n q) r = machine.WantKinds done at vars.bounds vars.places n q
+state_of done (AfterKinds at vars v q) r = machine.AfterKinds done at vars.bounds vars.places v q
+state_of done (WantDot at vars) r = machine.WantDot done at vars.bounds vars.places
+state_of done (InSignature at vars) r = machine.InSignature done at vars.bounds vars.places r.types
+state_of done (InParam at) r = machine.InParam done at r.patterns
+state_of done (InBody at x) r = machine.InBody done at (pat_of x) r.exprs
+state_of done Failed r = machine.Failed
