@@ -1,13 +1,13 @@
 -- The machine reads each pattern that the tokens spell.
-use Rattle.std.proofs.Common.{◌≡◌, ℕ, List, [], ◌∷◌, ⊎_elim, refl, sym, ◌∙◌, ap, Option, Some, None}
+use Rattle.std.proofs.Common.{◌≡◌, List, [], ◌∷◌, ⊎_elim, refl, sym, ◌∙◌, ap, Some}
 use Rattle.cg_base.specs.declared.place.Place.{Place}
 use Rattle.cg_core.specs.declared.at.At.{At}
 use Rattle.cg_surface.specs.Patterns.{Pattern, name, any, unit, paren, tuple, fields, take, Patterns, no_patterns, and_pattern, FieldPatterns, no_fields, and_field}
 use Rattle.cg_symbols.specs.Symbols.{Symbol, lower, wildcard, opening, closing, brace, closing_brace, unboxed, equals, comma, Seen}
-use Rattle.cg_symbols.specs.Readings.{Reading, ◌then◌, token, sign}
+use Rattle.cg_symbols.specs.Readings.{token}
 use Rattle.cg_parse_patterns.specs.Grammar.{FieldAs, ReadsPattern, PatternsBefore, FieldsBefore, ReadsFields, SpellsPattern}
-use Rattle.cg_parse_patterns.specs.Machine.{Opener, Unboxed, Taken, InParen, InTuple, InField, Want, Have, Head, WantField, AfterField, Stuck}
-use Rattle.cg_parse_patterns.proofs.Short.{Frame, Stage, opened, on_close, on_comma, on_brace, mode_step, whole, finish, run}
+use Rattle.cg_parse_patterns.specs.Machine.{Opener, Unboxed, Taken, InParen, InTuple, InField, Want, Have, Head, WantField, AfterField}
+use Rattle.cg_parse_patterns.proofs.Short.{Frame, Stage, opened, on_close, on_comma, on_brace, mode_step, finish, run}
 
 -- the state behind a pattern that began under these frames
 abbrev pub after : Pattern → List Frame → Stage
@@ -83,11 +83,11 @@ module _ (o : Opener) (fs : List Frame) where
   field_read done at x y p ts mid rest to known r t same e =
       ⊎_elim
       (λ a. go (WantField o done fs) (lower at.name) at.place ts mid (AfterField o done at fs) a.1 refl
-          ∙ go (AfterField o done at fs) y p mid rest to t (same ∙ ap (λ z. mode_step (after z (InField o done at ∷ fs)) y p) (sym a.0) ∙ e))
+      ∙ go (AfterField o done at fs) y p mid rest to t (same ∙ ap (λ z. mode_step (after z (InField o done at ∷ fs)) y p) (sym a.0) ∙ e))
       (λ b. go (WantField o done fs) (lower at.name) at.place ts b.0 (AfterField o done at fs) b.1 refl
-          ∙ go (AfterField o done at fs) equals b.2.1.0 b.0 b.2.0 (Want (InField o done at ∷ fs)) b.2.1.1 refl
-          ∙ known (InField o done at ∷ fs) b.2.0 mid b.2.2
-          ∙ go (after x (InField o done at ∷ fs)) y p mid rest to t e)
+      ∙ go (AfterField o done at fs) equals b.2.1.0 b.0 b.2.0 (Want (InField o done at ∷ fs)) b.2.1.1 refl
+      ∙ known (InField o done at ∷ fs) b.2.0 mid b.2.2
+      ∙ go (after x (InField o done at ∷ fs)) y p mid rest to t e)
       r
 
 mutual

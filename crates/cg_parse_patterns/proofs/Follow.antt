@@ -1,11 +1,11 @@
 -- The machine over bounded trees does the same as that over whole ones.
-use Rattle.std.proofs.Common.{◌≡◌, ℕ, ◌≤◌, ◌<◌, List, [], ◌∷◌, refl, sym, ◌∙◌, ap, arith, true, false, Bool, cond, Option, Some, None}
+use Rattle.std.proofs.Common.{◌≡◌, ℕ, ◌<◌, List, [], ◌∷◌, refl, sym, ◌∙◌, ap, arith, true, false, Bool, cond, Some, None}
 use Rattle.std.specs.Prelude.{nat_le}
 use Rattle.std.proofs.lemmas.Bool.{le-leb, lt-leb, leb-true, leb-false}
 use Rattle.cg_base.specs.declared.place.Place.{Place}
 use Rattle.cg_core.specs.declared.at.At.{At}
 use Rattle.cg_surface.specs.Patterns.{Pattern, paren, tuple, fields, take, depth_of, Patterns, and_pattern, patterns_depth, FieldPatterns, and_field, fields_depth}
-use Rattle.cg_symbols.specs.Symbols.{Symbol, lower, wildcard, opening, closing, brace, closing_brace, unboxed, equals, comma, Seen}
+use Rattle.cg_symbols.specs.Symbols.{Symbol, lower, wildcard, opening, closing, brace, closing_brace, unboxed, equals, comma}
 use Rattle.cg_symbols.specs.Follows.{Follows, option_map}
 use Rattle.cg_parse_patterns.specs.Machine as machine
 use Rattle.cg_parse_patterns.specs.Machine.{Builder, Opener, Unboxed, Taken, Frame, InParen, InTuple, InField, Mode, Want, Have, Head, WantField, AfterField, Stuck}

@@ -1,4 +1,5 @@
 pub mod Complete
+pub mod Ends
 pub mod Follow
 pub mod Laws
 pub mod Lists

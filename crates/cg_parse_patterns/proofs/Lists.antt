@@ -1,5 +1,5 @@
 -- Lists of the code with one item more.
-use Rattle.std.proofs.Common.{◌≡◌, List, [], ◌∷◌, ◌++◌, map, refl, ◌∙◌, ap}
+use Rattle.std.proofs.Common.{◌≡◌, List, [], ◌∷◌, ◌++◌, map, ◌∙◌, ap}
 use Rattle.std.proofs.lemmas.List.{map-append}
 use Rattle.cg_base.specs.declared.place.Place.{Place}
 use Rattle.cg_surface.specs.declared.pattern.Pat.{Pat}

@@ -1,8 +1,7 @@
 -- The machine over whole trees, in short names.
-use Rattle.std.proofs.Common.{ℕ, List, Option}
+use Rattle.std.proofs.Common.{List, Option}
 use Rattle.cg_base.specs.declared.place.Place.{Place}
 use Rattle.cg_base.specs.Reader.{run as reader_run}
-use Rattle.cg_core.specs.declared.at.At.{At}
 use Rattle.cg_surface.specs.Patterns.{Pattern, Patterns, FieldPatterns}
 use Rattle.cg_symbols.specs.Symbols.{Symbol, Seen}
 use Rattle.cg_parse_patterns.specs.Machine as machine

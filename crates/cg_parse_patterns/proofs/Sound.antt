@@ -3,10 +3,10 @@ use Rattle.std.proofs.Common.{◌≡◌, List, [], ◌∷◌, inl, inr, refl, sy
 use Rattle.std.specs.Prelude.{⊤}
 use Rattle.cg_base.specs.declared.place.Place.{Place}
 use Rattle.cg_core.specs.declared.at.At.{At}
-use Rattle.cg_surface.specs.Patterns.{Pattern, name, any, unit, paren, tuple, Patterns, no_patterns, and_pattern, FieldPatterns, no_fields, and_field}
+use Rattle.cg_surface.specs.Patterns.{Pattern, name, Patterns, no_patterns, and_pattern, FieldPatterns, and_field}
 use Rattle.cg_symbols.specs.Symbols.{Symbol, lower, wildcard, opening, closing, brace, closing_brace, unboxed, equals, comma, Seen}
 use Rattle.cg_symbols.specs.Readings.{Reading, ◌then◌, token, sign}
-use Rattle.cg_parse_patterns.specs.Grammar.{AreMany, FieldAs, ReadsPattern, PatternsBefore, FieldsBefore, ReadsFields, SpellsPattern}
+use Rattle.cg_parse_patterns.specs.Grammar.{AreMany, FieldAs, ReadsPattern, PatternsBefore, FieldsBefore, SpellsPattern}
 use Rattle.cg_parse_patterns.specs.Machine as machine
 use Rattle.cg_parse_patterns.specs.Machine.{Opener, Unboxed, Taken, InParen, InTuple, InField, Want, Have, Head, WantField, AfterField, Stuck}
 use Rattle.cg_parse_patterns.specs.Plain.{trees}

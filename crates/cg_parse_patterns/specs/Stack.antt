@@ -1,6 +1,6 @@
 -- The stack of the code as the machine's.
-use Rattle.std.specs.Prelude.{◌≡◌, List, [], ◌∷◌, ◌++◌, Option, refl}
-use Rattle.cg_surface.specs.Patterns.{Pattern, Patterns, FieldPatterns}
+use Rattle.std.specs.Prelude.{◌≡◌, List, [], ◌∷◌, ◌++◌, Bool, true, false, Option, refl}
+use Rattle.cg_surface.specs.Patterns.{Patterns, FieldPatterns}
 use Rattle.cg_parse_patterns.specs.Machine as machine
 use Rattle.cg_parse_patterns.specs.Bounded.{Held}
 use Rattle.cg_parse_patterns.specs.Views.{view_of, patterns_of, fields_of}
@@ -55,3 +55,8 @@ stack_push fs f = stacked_push fs [] f
 pub stack_none : stack_of [] ≡ []
 unfolding stack_of
 stack_none = refl
+
+-- whether no frame is open
+abbrev pub no_frames : List Open → Bool
+no_frames [] = true
+no_frames (f ∷ fs) = false

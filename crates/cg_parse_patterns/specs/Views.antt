@@ -1,5 +1,5 @@
 -- What the reader's own values stand for.
-use Rattle.std.specs.Prelude.{List, [], ◌∷◌, map, Option, Some, None}
+use Rattle.std.specs.Prelude.{map, Option, Some, None}
 use Rattle.cg_surface.specs.Patterns.{Pattern, Patterns, FieldPatterns, pattern_of, field_of, to_patterns, to_fields}
 use Rattle.cg_parse_patterns.specs.declared.built.BuiltPattern.{BuiltPattern}
 use Rattle.cg_parse_patterns.specs.declared.built.BuiltPatterns.{BuiltPatterns}

@@ -5,7 +5,9 @@
 mod build;
 mod built;
 mod frame;
+mod reader;
 mod stack;
 mod step;
 
 pub use built::{BuiltPattern, PatternEnd};
+pub use reader::PatternReader;

@@ -72,10 +72,7 @@ fn on_comma(
 }
 
 /// At a closing brace.
-fn on_brace(
-    stack: &mut SmallVec<Frame, 16>,
-    pattern: Option<BuiltPattern>,
-) -> Result<Mode, Memory>
+fn on_brace(stack: &mut SmallVec<Frame, 16>, pattern: Option<BuiltPattern>) -> Result<Mode, Memory>
     ensures { IfOk result (λ m. mode_of m (stack_of stack.new.items) ≡ machine.on_brace bounded (view_of pattern) (stack_of stack.old.items)) }
 {
     match pop(stack) {
@@ -115,10 +112,7 @@ fn name_on<'a>(
     ensures { IfOk result (λ m. mode_of m (stack_of stack.new.items) ≡ machine.name_on bounded (symbol_view symbol.entry) place name (stack_of stack.old.items)) }
 {
     match symbol {
-        Symbol::Brace => Ok(Mode::WantField(
-            Opener::Taken(place, name),
-            build::no_fields(alloc),
-        )),
+        Symbol::Brace => Ok(Mode::WantField(Opener::Taken(place, name), build::no_fields(alloc))),
         _ => go_on(alloc, stack, symbol, build::name(place, name)),
     }
 }
@@ -150,10 +144,7 @@ fn start<'a>(
             Ok(Mode::Want)
         }
         Symbol::Closing => Ok(on_empty(stack)),
-        Symbol::Unboxed => Ok(Mode::WantField(
-            Opener::Unboxed(place),
-            build::no_fields(alloc),
-        )),
+        Symbol::Unboxed => Ok(Mode::WantField(Opener::Unboxed(place), build::no_fields(alloc))),
         _ => Ok(Mode::Stuck),
     }
 }
@@ -178,11 +169,7 @@ fn field<'a>(
 }
 
 /// A field more that is written alone: it is bound to its own name.
-fn alone(
-    alloc: Global,
-    before: Option<BuiltFields>,
-    at: At,
-) -> Result<Option<BuiltFields>, Memory>
+fn alone(alloc: Global, before: Option<BuiltFields>, at: At) -> Result<Option<BuiltFields>, Memory>
     ensures { IfOk result (λ fs. fields_of fs ≡ machine.alone bounded (fields_of before) at) }
 {
     let pattern = build::name(at.place, at.name.copy(alloc)?);
