@@ -1,4 +1,13 @@
-//! x
+//! Reads a pattern, one symbol at a time: from its first token to the pattern that the tokens spell, or to the first token that
+//! no pattern goes on with (docs/LANGUAGE.md, "Patterns"). The readers of expressions and of items stand on it.
 #![tactic(auto)]
 
-pub fn nothing() {}
+mod build;
+mod built;
+mod frame;
+mod reader;
+mod stack;
+mod step;
+
+pub use built::{BuiltPattern, PatternEnd};
+pub use reader::PatternReader;

@@ -1,0 +1,98 @@
+// The reader of patterns.
+ghost use Rattle.std.specs.Prelude.{◌≡◌, OnOk, IfOk, is_some};
+ghost use Rattle.cg_symbols.specs.Views.{symbol_view};
+ghost use Rattle.cg_parse_patterns.specs.Bounded.{bounded_reader};
+ghost use Rattle.cg_parse_patterns.specs.Views.{end_of};
+ghost use Rattle.cg_parse_patterns.specs.State.{reader_state};
+
+use crate::build;
+use crate::built::PatternEnd;
+use crate::frame::{Frame, Mode};
+use crate::stack::{is_empty, pop};
+use crate::step::mode_step;
+use cg_base::{Memory, Place};
+use cg_symbols::Symbol;
+use smallvec::SmallVec;
+use std::alloc::Global;
+
+/// Where in a pattern a reader stands: docs/LANGUAGE.md, "Patterns".
+#[derive(Drop)]
+pub struct PatternReader {
+    stack: SmallVec<Frame, 16>,
+    mode: Mode,
+}
+
+impl PatternReader {
+    /// A reader before the first token of a pattern (docs/LANGUAGE.md, "Patterns"). It takes no memory.
+    #[tactic(auto, using(crate::specs::Stack::stack_none))]
+    pub fn new(alloc: Global) -> PatternReader
+        ensures { reader_state result ≡ bounded_reader.begin }
+    {
+        PatternReader {
+            stack: SmallVec::new(alloc),
+            mode: Mode::Want,
+        }
+    }
+
+    /// Starts over, before the first token of a pattern (docs/LANGUAGE.md, "Patterns"). It takes no memory.
+    pub fn begin(&mut self, alloc: Global)
+        ensures { reader_state self.new ≡ bounded_reader.begin }
+    {
+        *self = PatternReader::new(alloc);
+    }
+
+    /// Reads one token more (docs/LANGUAGE.md, "Patterns"). Want of memory is its one refusal; behind it the reader has to
+    /// start over.
+    pub fn step<'a>(
+        &mut self,
+        alloc: Global,
+        symbol: Symbol<'a>,
+        place: Place,
+    ) -> Result<(), Memory>
+        ensures { OnOk result (reader_state self.new ≡ bounded_reader.step (reader_state self.old) (record { symbol = symbol_view symbol.entry; place = place })) }
+    {
+        let mode = std::mem::replace(&mut self.mode, Mode::Stuck);
+        self.mode = mode_step(alloc, &mut self.stack, mode, symbol, place)?;
+        Ok(())
+    }
+
+    /// Whether a pattern begins with what has been read (docs/LANGUAGE.md, "Patterns").
+    pub fn is_open(&self) -> bool
+        ensures { result ≡ bounded_reader.is_open (reader_state self.now) }
+    {
+        match self.mode {
+            Mode::Stuck => false,
+            _ => true,
+        }
+    }
+
+    /// Whether what has been read is a whole pattern (docs/LANGUAGE.md, "Patterns").
+    #[tactic(auto, using(crate::proofs::Ends::whole_is))]
+    pub fn is_whole(&self) -> bool
+        ensures { result ≡ is_some (bounded_reader.finish (reader_state self.now)) }
+    {
+        match self.mode {
+            Mode::Have(_) | Mode::Head(_, _) => is_empty(&self.stack),
+            _ => false,
+        }
+    }
+
+    /// The pattern that has been read (docs/LANGUAGE.md, "Patterns"). Behind it the reader has to start over. It takes no
+    /// memory, and refuses nothing.
+    pub fn finish(&mut self, _alloc: Global) -> Result<PatternEnd, Memory>
+        ensures { IfOk result (λ e. end_of e ≡ bounded_reader.finish (reader_state self.old)) }
+    {
+        let pattern = match std::mem::replace(&mut self.mode, Mode::Stuck) {
+            Mode::Have(pattern) => pattern,
+            Mode::Head(place, name) => build::name(place, name),
+            _ => return Ok(PatternEnd::Unfinished),
+        };
+        if pop(&mut self.stack).is_some() {
+            return Ok(PatternEnd::Unfinished);
+        }
+        match pattern {
+            Some(built) => Ok(PatternEnd::Whole(built)),
+            None => Ok(PatternEnd::TooDeep),
+        }
+    }
+}
