@@ -4,6 +4,7 @@ use Rattle.cg_base.specs.declared.place.Place.{Place}
 use Rattle.cg_base.specs.Reader.{Reads}
 use Rattle.cg_surface.specs.Patterns.{Pattern, name, paren, tuple, and_pattern, and_field}
 use Rattle.cg_symbols.specs.Symbols.{Symbol, lower, wildcard, closing, closing_brace, equals, Seen}
+use Rattle.cg_symbols.specs.Readings.{ArePast}
 use Rattle.cg_parse_patterns.specs.Grammar.{SpellsPattern}
 use Rattle.cg_parse_patterns.specs.Machine as machine
 use Rattle.cg_parse_patterns.specs.Machine.{InParen, InTuple, InField, Want, Have, Head, WantField, AfterField, Stuck}
@@ -19,23 +20,23 @@ there = record { line = 1; column = 2 }
 abbrev seen_at : Symbol → Seen
 seen_at y = record { symbol = y; place = there }
 
--- some tokens complete the state
+-- some tokens past column 1 complete the state
 abbrev Completable : Stage → Type 0
-Completable s = (rest : List Seen) × (x : Pattern) × (finish (run s rest) ≡ Some x)
+Completable s = (rest : List Seen) × ArePast rest × (x : Pattern) × (finish (run s rest) ≡ Some x)
 
 -- one token more
 fed : (s : Stage) (y : Symbol) → Completable (mode_step s y there) → Completable s
-fed s y c = (seen_at y ∷ c.0, c.1, c.2)
+fed s y c = (seen_at y ∷ c.0, (refl, c.1), c.2, c.3)
 
 have : (fs : List Frame) (x : Pattern) → Completable (Have x fs)
-have [] x = ([], x, refl)
+have [] x = ([], tt, x, refl)
 have (InParen p ∷ fs) x = fed (Have x (InParen p ∷ fs)) closing (have fs (paren p x))
 have (InTuple p xs ∷ fs) x = fed (Have x (InTuple p xs ∷ fs)) closing (have fs (tuple p (and_pattern xs x)))
 have (InField o done at ∷ fs) x = fed (Have x (InField o done at ∷ fs)) closing_brace (have fs (opened o (and_field done at x)))
 
 -- a name is completed as any pattern is
 named : (fs : List Frame) (p : Place) (n : List _) → Completable (Head p n fs)
-named [] p n = ([], name p n, refl)
+named [] p n = ([], tt, name p n, refl)
 named (InParen q ∷ fs) p n = fed (Head p n (InParen q ∷ fs)) closing (have fs (paren q (name p n)))
 named (InTuple q xs ∷ fs) p n = fed (Head p n (InTuple q xs ∷ fs)) closing (have fs (tuple q (and_pattern xs (name p n))))
 named (InField o done at ∷ fs) p n = fed (Head p n (InField o done at ∷ fs)) closing_brace (have fs (opened o (and_field done at (name p n))))
@@ -65,9 +66,13 @@ shut (Head p n fs) t h = cc
 shut (WantField o done fs) t h = cc
 shut (AfterField o done at fs) t h = cc
 
+-- what is open can be completed by tokens past column 1
+pub viable_past : (ts : List Seen) → plain_reader.is_open (run plain_reader.begin ts) ≡ true → (rest : List Seen) × ArePast rest × (x : Pattern) × (plain_reader.finish (run (run plain_reader.begin ts) rest) ≡ Some x)
+viable_past ts o = completable (run (Want []) ts) o
+
 -- the six laws
 pub laws : Reads plain_reader SpellsPattern
-laws = record { begins = refl; shut = shut; no_tree = no_tree; complete = complete; sound = sound; viable = λ ts o. completable (run (Want []) ts) o }
+laws = record { begins = refl; shut = shut; no_tree = no_tree; complete = complete; sound = sound; viable = λ ts o. let c = viable_past ts o in (c.0, c.2, c.3) }
 
 -- behind a whole pattern, `=` is none of it
 pub ends : (s : plain.Stage) (x : Pattern) (p : Place) → plain_reader.finish s ≡ Some x → plain_reader.is_open (plain_reader.step s (record { symbol = equals; place = p })) ≡ false
