@@ -74,4 +74,5 @@ def main():
     report("900 lets, 60000 terms", nested(900, 60000), before)
 
 
-main()
+if __name__ == "__main__":
+    main()
