@@ -1,2 +1,4 @@
 pub mod Complete
+pub mod Laws
 pub mod Short
+pub mod Sound
