@@ -1,4 +1,11 @@
-//! x
+//! Reads a type, one symbol at a time: docs/LANGUAGE.md, "Types". The reader of whole sources stands on it; `specs/` has the
+//! grammar of types, and the reader that this one is.
 #![tactic(auto)]
 
-pub fn nothing() {}
+mod build;
+mod built;
+mod frame;
+mod lists;
+mod stack;
+
+pub use built::BuiltType;
