@@ -3,4 +3,5 @@ pub mod Grammar
 pub mod Machine
 pub mod Plain
 pub mod Stack
+pub mod States
 pub mod Views

@@ -4,8 +4,15 @@
 
 mod build;
 mod built;
+mod close;
+mod end;
 mod frame;
 mod lists;
+mod reader;
 mod stack;
+mod start;
+mod step;
+mod taking;
 
 pub use built::BuiltType;
+pub use reader::{TypeEnd, TypeReader};
