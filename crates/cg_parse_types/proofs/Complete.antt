@@ -252,10 +252,10 @@ mutual
   reads (named p n (and_type args a)) fs ts rest b h r =
       ⊎_elim
       (λ x. (
-          Alone a (InArgs p n args ∷ fs),
-          behind_args p n args a fs,
-          head_read p n fs ts x.0 h x.1 ∙ args_read p n fs (and_type args a) x.0 rest b x.2,
-        ))
+        Alone a (InArgs p n args ∷ fs),
+        behind_args p n args a fs,
+        head_read p n fs ts x.0 h x.1 ∙ args_read p n fs (and_type args a) x.0 rest b x.2,
+      ))
       (λ x. absurd (cc x.0))
       r
   reads (nothing p) fs ts rest b h r =
@@ -281,8 +281,7 @@ mutual
   reads (function p a c) fs ts rest b h r =
       let k = r.1 in
       let m = reads a fs ts k.0 b.1 (omega (arith, b.0)) k.1 in
-      let o = reads c (InArrow a ∷ fs) k.2.0 rest b.2 (loose_le c) k.2.2 in
-      (
+      let o = reads c (InArrow a ∷ fs) k.2.0 rest b.2 (loose_le c) k.2.2 in (
         o.0,
         (let P : Place → Type 0 = λ q. Behind (function q a c) fs o.0 in subst P (sym r.0) (behind_arrow a c fs o.0 o.1)),
         m.2
@@ -325,8 +324,7 @@ mutual
       ∙ ap (λ q. run (Alone (observed q a) fs) rest) (sym r.0))
   reads (take_some p a ns) fs ts rest b h r =
       let k = r.1 in let q = k.2.1.0 in let j = k.2.2 in let i = j.2 in
-      let m = reads a fs ts k.0 b.1 (omega (arith, b.0)) k.1 in
-      (
+      let m = reads a fs ts k.0 b.1 (omega (arith, b.0)) k.1 in (
         Taken (take_some p a ns) fs,
         behind_taken (take_some p a ns) fs (omega arith),
         m.2
@@ -338,8 +336,7 @@ mutual
       )
   reads (take_all p a q) fs ts rest b h r =
       let k = r.1 in let j = k.2.2 in let i = j.2 in
-      let m = reads a fs ts k.0 b.1 (omega (arith, b.0)) k.1 in
-      (
+      let m = reads a fs ts k.0 b.1 (omega (arith, b.0)) k.1 in (
         Taken (take_all p a q) fs,
         behind_taken (take_all p a q) fs (omega arith),
         m.2

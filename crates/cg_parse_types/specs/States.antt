@@ -14,5 +14,5 @@ end_of TooDeep = Some None
 end_of (Whole b) = Some (Some (written_of b.tree))
 
 -- where the reader stands
-abbrev pub reader_state : TypeReader → Held
+unfoldable pub reader_state : TypeReader → Held
 reader_state r = mode_of r.mode (stack_of r.stack.items)

@@ -147,10 +147,7 @@ pub(crate) fn variant(place: Place, alts: Option<BuiltAlts>) -> Option<BuiltType
 }
 
 /// A type with `!` behind it, at its place.
-pub(crate) fn bang(
-    alloc: Global,
-    inner: Option<BuiltType>,
-) -> Result<Option<BuiltType>, Memory>
+pub(crate) fn bang(alloc: Global, inner: Option<BuiltType>) -> Result<Option<BuiltType>, Memory>
     ensures { IfOk result (λ t. view_of t ≡ bounded.observed (view_of inner)) }
 {
     let Some(BuiltType { tree, depth }) = inner else {

@@ -5,11 +5,10 @@ ghost use Rattle.cg_parse_types.specs.Machine as machine;
 ghost use Rattle.cg_parse_types.specs.Stack.{frame_of, stack_of};
 ghost use Rattle.cg_parse_types.specs.Views.{view_of};
 
-use crate::build;
 use crate::built::BuiltType;
 use crate::frame::Frame;
-use crate::lists;
 use crate::stack::{pop, push};
+use crate::{build, lists};
 use cg_base::Memory;
 use smallvec::SmallVec;
 use std::alloc::Global;

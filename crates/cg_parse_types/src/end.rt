@@ -6,12 +6,11 @@ ghost use Rattle.cg_parse_types.specs.Machine as machine;
 ghost use Rattle.cg_parse_types.specs.Stack.{stack_of, mode_of};
 ghost use Rattle.cg_parse_types.specs.Views.{view_of};
 
-use crate::build;
 use crate::built::BuiltType;
 use crate::close::{close, room};
 use crate::frame::{Frame, Mode};
-use crate::lists;
 use crate::stack::{pop, push};
+use crate::{build, lists};
 use cg_base::{Memory, Place};
 use cg_symbols::Symbol;
 use smallvec::SmallVec;

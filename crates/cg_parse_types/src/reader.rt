@@ -1,5 +1,5 @@
 // The reader of types.
-#![tactic(auto, using(crate::specs::Stack::stack_none))]
+#![tactic(auto, using(crate::specs::Stack::stack_none), unfolding(crate::specs::States::reader_state))]
 
 ghost use Rattle.std.specs.Prelude.{◌≡◌, List, IfOk, OnOk};
 ghost use Rattle.cg_symbols.specs.Views.{symbol_view};
@@ -64,11 +64,7 @@ fn end_whole(
 }
 
 /// The type that ends there, if one can.
-fn mode_end(
-    alloc: Global,
-    stack: &mut SmallVec<Frame, 16>,
-    mode: Mode,
-) -> Result<TypeEnd, Memory>
+fn mode_end(alloc: Global, stack: &mut SmallVec<Frame, 16>, mode: Mode) -> Result<TypeEnd, Memory>
     ensures { IfOk result (λ e. end_of e ≡ machine.mode_end bounded (mode_of mode (stack_of stack.old.items))) }
 {
     match mode {
@@ -103,7 +99,12 @@ impl TypeReader {
 
     /// One symbol more, at its place: docs/LANGUAGE.md, "Types". Want of memory is its one refusal; a symbol with which no
     /// type goes on closes the reader.
-    pub fn step<'a>(&mut self, alloc: Global, symbol: Symbol<'a>, place: Place) -> Result<(), Memory>
+    pub fn step<'a>(
+        &mut self,
+        alloc: Global,
+        symbol: Symbol<'a>,
+        place: Place,
+    ) -> Result<(), Memory>
         ensures { OnOk result (reader_state self.new ≡ bounded_reader.step (reader_state self.old) (record { symbol = symbol_view symbol.entry; place = place })) }
     {
         let mode = std::mem::replace(&mut self.mode, Mode::Stuck);

@@ -5,11 +5,10 @@ ghost use Rattle.cg_parse_types.specs.Bounded.{bounded};
 ghost use Rattle.cg_parse_types.specs.Machine as machine;
 ghost use Rattle.cg_parse_types.specs.Stack.{Open, stack_of, mode_of};
 
-use crate::build;
 use crate::close::room;
 use crate::frame::{Frame, Mode};
-use crate::lists;
 use crate::stack::{pop, push};
+use crate::{build, lists};
 use cg_base::{Memory, Name, Place};
 use cg_symbols::Symbol;
 use smallvec::SmallVec;

@@ -6,14 +6,13 @@ ghost use Rattle.cg_parse_types.specs.Machine as machine;
 ghost use Rattle.cg_parse_types.specs.Stack.{Open, stack_of, mode_of};
 ghost use Rattle.cg_parse_types.specs.Views.{view_of, fields_view, alts_view};
 
-use crate::build;
 use crate::built::{BuiltAlts, BuiltFields, BuiltType};
 use crate::end::go_past;
 use crate::frame::{Frame, Mode};
-use crate::lists;
 use crate::stack::{pop, push};
 use crate::start::{start, starts};
 use crate::taking::{after_take, take_dots, take_more, take_name, take_open};
+use crate::{build, lists};
 use cg_base::{Memory, Name, Place};
 use cg_core::At;
 use cg_symbols::Symbol;
@@ -193,7 +192,9 @@ pub(crate) fn mode_step<'a>(
         Mode::Head(head, name) => after_head(alloc, stack, symbol, place, head, name),
         Mode::Taken(tree) => go_past(alloc, stack, symbol, place, tree),
         Mode::WantField(at, boxed, fields) => field_name(alloc, symbol, place, at, boxed, fields),
-        Mode::AfterField(at, boxed, fields, name) => field_type(stack, symbol, at, boxed, fields, name),
+        Mode::AfterField(at, boxed, fields, name) => field_type(
+            stack, symbol, at, boxed, fields, name,
+        ),
         Mode::WantAlt(at, alts) => alt_name(alloc, symbol, place, at, alts),
         Mode::AfterAlt(at, alts, name) => after_alt(alloc, stack, symbol, place, at, alts, name),
         Mode::AfterTake(word, tree) => Ok(after_take(symbol, word, tree)),
