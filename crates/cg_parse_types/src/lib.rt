@@ -1,4 +1,18 @@
-//! x
+//! Reads a type, one symbol at a time: docs/LANGUAGE.md, "Types". The reader of whole sources stands on it; `specs/` has the
+//! grammar of types, and the reader that this one is.
 #![tactic(auto)]
 
-pub fn nothing() {}
+mod build;
+mod built;
+mod close;
+mod end;
+mod frame;
+mod lists;
+mod reader;
+mod stack;
+mod start;
+mod step;
+mod taking;
+
+pub use built::BuiltType;
+pub use reader::{TypeEnd, TypeReader};

@@ -1,0 +1,6 @@
+pub mod Added
+pub mod Complete
+pub mod Follow
+pub mod Laws
+pub mod Short
+pub mod Sound

@@ -1,0 +1,18 @@
+-- The reader of the code as the machine over bounded trees.
+use Rattle.std.specs.Prelude.{Option, Some, None}
+use Rattle.cg_surface.specs.Written.{Written, written_of}
+use Rattle.cg_parse_types.specs.Bounded.{Held}
+use Rattle.cg_parse_types.specs.Stack.{stack_of, mode_of}
+use Rattle.cg_parse_types.specs.declared.reader.TypeEnd.{TypeEnd}
+use Rattle.cg_parse_types.specs.declared.reader.TypeEnd.TheVariants.{Unfinished, TooDeep, Whole}
+use Rattle.cg_parse_types.specs.declared.reader.TypeReader.{TypeReader}
+
+-- what ends there: no type, one that is too deep, or a type
+abbrev pub end_of : TypeEnd → Option (Option Written)
+end_of Unfinished = None
+end_of TooDeep = Some None
+end_of (Whole b) = Some (Some (written_of b.tree))
+
+-- where the reader stands
+unfoldable pub reader_state : TypeReader → Held
+reader_state r = mode_of r.mode (stack_of r.stack.items)

@@ -1,0 +1,89 @@
+// Frames that are closed without a token of their own.
+ghost use Rattle.std.specs.Prelude.{◌≡◌, IfOk, OnOk};
+ghost use Rattle.cg_parse_types.specs.Bounded.{bounded};
+ghost use Rattle.cg_parse_types.specs.Machine as machine;
+ghost use Rattle.cg_parse_types.specs.Stack.{frame_of, stack_of};
+ghost use Rattle.cg_parse_types.specs.Views.{view_of};
+
+use crate::built::BuiltType;
+use crate::frame::Frame;
+use crate::stack::{pop, push};
+use crate::{build, lists};
+use cg_base::Memory;
+use smallvec::SmallVec;
+use std::alloc::Global;
+
+/// From which looseness on a frame is closed without a token of its own.
+fn closes(frame: &Frame) -> u32
+    ensures { result ≡ machine.closes bounded (frame_of frame.now) }
+{
+    match frame {
+        Frame::InArgs(_, _, _) => 1,
+        Frame::InArrow(_) => 3,
+        _ => 4,
+    }
+}
+
+/// How loose a type may stand in a frame.
+fn hole(frame: &Frame) -> u32
+    ensures { result ≡ machine.hole bounded (frame_of frame.now) }
+{
+    match frame {
+        Frame::InAlt(_, _, _) => 0,
+        Frame::InArgs(_, _, _) => 0,
+        _ => 3,
+    }
+}
+
+/// How loose a type may stand on the stack.
+pub(crate) fn room(stack: &mut SmallVec<Frame, 16>) -> Result<u32, Memory>
+    ensures same { OnOk result (stack_of stack.new.items ≡ stack_of stack.old.items) }
+    ensures room { IfOk result (λ n. n ≡ machine.room bounded (stack_of stack.old.items)) }
+{
+    match pop(stack) {
+        None => Ok(3),
+        Some(frame) => {
+            let loosest = hole(&frame);
+            push(stack, frame)?;
+            Ok(loosest)
+        }
+    }
+}
+
+/// The type of a frame that needs no token to be closed, with its hole filled.
+fn fill(alloc: Global, frame: Frame, tree: Option<BuiltType>) -> Result<Option<BuiltType>, Memory>
+    ensures { IfOk result (λ t. view_of t ≡ machine.fill bounded (frame_of frame) (view_of tree)) }
+{
+    match frame {
+        Frame::InArgs(place, name, args) => {
+            let args = lists::and_type(args, tree)?;
+            Ok(build::named(place, name, args))
+        }
+        Frame::InArrow(from) => build::arrow(alloc, from, tree),
+        _ => Ok(tree),
+    }
+}
+
+/// Closes the frames that bind at most so loosely.
+pub(crate) fn close(
+    alloc: Global,
+    stack: &mut SmallVec<Frame, 16>,
+    loosest: u32,
+    tree: Option<BuiltType>,
+) -> Result<Option<BuiltType>, Memory>
+    ensures { IfOk result (λ t. machine.closed bounded loosest (view_of tree) (stack_of stack.old.items) ≡ (view_of t, stack_of stack.new.items)) }
+{
+    let mut tree = tree;
+    loop {
+        match pop(stack) {
+            None => return Ok(tree),
+            Some(frame) => {
+                if closes(&frame) > loosest {
+                    push(stack, frame)?;
+                    return Ok(tree);
+                }
+                tree = fill(alloc, frame, tree)?;
+            }
+        }
+    }
+}
