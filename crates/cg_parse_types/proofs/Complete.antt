@@ -1,18 +1,18 @@
 -- The machine reads each type that the tokens spell.
-use Rattle.std.proofs.Common.{◌≡◌, ℕ, ◌≤◌, ◌<◌, List, [], ◌∷◌, ◌++◌, inl, inr, ⊎_elim, refl, sym, ◌∙◌, ap, subst, arith, true, false, Bool, cond, Option, Some, None, append_assoc}
-use Rattle.std.specs.Prelude.{⊤, nat_le, if◌then◌else◌}
+use Rattle.std.proofs.Common.{◌≡◌, ℕ, ◌≤◌, ◌<◌, List, [], ◌∷◌, ◌++◌, ⊎_elim, refl, sym, ◌∙◌, ap, subst, arith, true, false, Bool, Some, append_assoc}
+use Rattle.std.specs.Prelude.{nat_le}
 use Rattle.std.proofs.lemmas.Bool.{le-leb, lt-leb, leb-true}
 use Rattle.std.proofs.lemmas.List.{append-nil}
 use Rattle.cg_base.specs.declared.place.Place.{Place}
 use Rattle.cg_core.specs.declared.at.At.{At}
 use Rattle.cg_surface.specs.Written.{Written, named, nothing, tuple, paren, arrow as function, fields, variant, bang as observed, take_some, take_all, Writtens, no_types, and_type, WrittenFields, no_fields, and_field, WrittenAlts, no_alts, and_plain, and_alt, place_of}
-use Rattle.cg_symbols.specs.Symbols.{Symbol, lower, upper, take_word, opening, closing, brace, closing_brace, unboxed, less, greater, colon, arrow, bang, bar, comma, dots, Seen}
-use Rattle.cg_symbols.specs.Readings.{token, sign, ◌then◌}
-use Rattle.cg_parse_types.specs.Grammar.{looseness, record_sign, NamesBefore, ReadsNames, ReadsType, ReadsArgs, TypesBefore, ReadsList, FieldsBefore, ReadsFields, AltsBefore, ReadsAlts, AreMany, Binds, ArgsBind, TypesBind, FieldsBind, AltsBind, SpellsType}
+use Rattle.cg_symbols.specs.Symbols.{Symbol, lower, upper, take_word, opening, closing, closing_brace, less, greater, colon, arrow, bang, bar, comma, dots, Seen}
+use Rattle.cg_symbols.specs.Readings.{token}
+use Rattle.cg_parse_types.specs.Grammar.{looseness, record_sign, NamesBefore, ReadsNames, ReadsType, ReadsArgs, TypesBefore, FieldsBefore, AltsBefore, Binds, ArgsBind, TypesBind, FieldsBind, AltsBind, SpellsType}
 use Rattle.cg_parse_types.specs.Machine as machine
 use Rattle.cg_parse_types.specs.Machine.{InParen, InTuple, InField, InAlt, InArgs, InArrow, Want, Alone, Head, Taken, WantField, AfterField, WantAlt, AfterAlt, AfterTake, TakeOpen, TakeDots, TakeName, TakeMore, Stuck, name_at, starts, strength}
 use Rattle.cg_parse_types.specs.Plain.{trees}
-use Rattle.cg_parse_types.proofs.Short.{Frame, Mode, closed, hole, room, closes, bare, go_past, start, mode_step, whole, end_whole, mode_end, run}
+use Rattle.cg_parse_types.proofs.Short.{Frame, Mode, closed, hole, room, closes, bare, go_past, start, mode_step, end_whole, mode_end, run}
 
 pub loose_le : (t : Written) → looseness t ≤ 3
 loose_le (named p n no_types) = omega arith

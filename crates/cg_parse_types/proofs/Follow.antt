@@ -1,11 +1,11 @@
 -- The machine over bounded trees does the same as that over whole ones.
-use Rattle.std.proofs.Common.{◌≡◌, ℕ, ◌≤◌, ◌<◌, max, List, [], ◌∷◌, ◌++◌, refl, sym, ◌∙◌, ap, arith, true, false, Bool, cond, Option, Some, None}
+use Rattle.std.proofs.Common.{◌≡◌, ℕ, ◌<◌, max, List, [], ◌∷◌, refl, sym, ◌∙◌, ap, arith, true, false, Bool, cond, Option, Some, None}
 use Rattle.std.specs.Prelude.{nat_le}
 use Rattle.std.proofs.lemmas.Bool.{le-leb, lt-leb, leb-true, leb-false}
 use Rattle.cg_base.specs.declared.place.Place.{Place}
 use Rattle.cg_core.specs.declared.at.At.{At}
-use Rattle.cg_surface.specs.Written.{Written, named, nothing, tuple, paren, arrow as function, fields, variant, bang as observed, take_some, take_all, Writtens, no_types, and_type, WrittenFields, no_fields, and_field, WrittenAlts, no_alts, and_plain, and_alt, place_of, depth_of, types_depth, fields_depth, alts_depth}
-use Rattle.cg_symbols.specs.Symbols.{Symbol, lower, upper, take_word, opening, closing, brace, closing_brace, unboxed, less, greater, colon, arrow, bang, bar, comma, dots, Seen}
+use Rattle.cg_surface.specs.Written.{Written, named, tuple, paren, fields, variant, and_type, WrittenAlts, and_plain, depth_of, types_depth, fields_depth, alts_depth}
+use Rattle.cg_symbols.specs.Symbols.{Symbol, lower, upper, take_word, opening, closing, brace, closing_brace, unboxed, less, greater, colon, arrow, bang, bar, comma, dots}
 use Rattle.cg_symbols.specs.Follows.{Follows, option_map}
 use Rattle.cg_parse_types.specs.Machine.{Builder, Frame, Mode, InParen, InTuple, InField, InAlt, InArgs, InArrow, Want, Alone, Head, Taken, WantField, AfterField, WantAlt, AfterAlt, AfterTake, TakeOpen, TakeDots, TakeName, TakeMore, Stuck, mode_is_open, starts, strength}
 use Rattle.cg_parse_types.specs.Machine as machine

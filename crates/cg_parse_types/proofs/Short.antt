@@ -2,7 +2,6 @@
 use Rattle.std.proofs.Common.{ℕ, List, Option}
 use Rattle.cg_base.specs.declared.place.Place.{Place}
 use Rattle.cg_base.specs.Reader.{run as reader_run}
-use Rattle.cg_core.specs.declared.at.At.{At}
 use Rattle.cg_surface.specs.Written.{Written, Writtens, WrittenFields, WrittenAlts}
 use Rattle.cg_symbols.specs.Symbols.{Symbol, Seen}
 use Rattle.cg_parse_types.specs.Machine as machine

@@ -4,7 +4,7 @@ use Rattle.std.specs.Prelude.{nat_le, if◌then◌else◌, ⊤}
 use Rattle.std.proofs.lemmas.Bool.{leb-true}
 use Rattle.cg_base.specs.declared.place.Place.{Place}
 use Rattle.cg_core.specs.declared.at.At.{At}
-use Rattle.cg_surface.specs.Written.{Written, named, nothing, tuple, paren, arrow as function, fields, variant, bang as observed, take_some, take_all, Writtens, no_types, and_type, WrittenFields, no_fields, and_field, WrittenAlts, no_alts, and_plain, and_alt, place_of}
+use Rattle.cg_surface.specs.Written.{Written, no_types, and_type, WrittenFields, WrittenAlts}
 use Rattle.cg_symbols.specs.Symbols.{Symbol, lower, upper, take_word, opening, closing, brace, closing_brace, unboxed, less, greater, colon, arrow, bang, bar, comma, dots, Seen}
 use Rattle.cg_symbols.specs.Readings.{Reading, ◌then◌, token, sign}
 use Rattle.cg_parse_types.specs.Grammar.{looseness, record_sign, NamesBefore, ReadsNames, ReadsType, ReadsArgs, TypesBefore, FieldsBefore, AltsBefore, AreMany, Binds, ArgsBind, TypesBind, FieldsBind, AltsBind, SpellsType}
