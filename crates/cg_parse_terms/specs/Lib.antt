@@ -1,0 +1,4 @@
+pub mod Bounded
+pub mod Grammar
+pub mod Machine
+pub mod Plain
