@@ -1,2 +1,5 @@
 pub mod Complete
+pub mod Follow
+pub mod Laws
 pub mod Short
+pub mod Sound
