@@ -104,6 +104,13 @@ pub(crate) fn close(
     }
 }
 
+/// Nothing goes on where this frame is open.
+fn stuck(_frame: Frame) -> Mode
+    ensures { result ≡ Mode.Stuck }
+{
+    Mode::Stuck
+}
+
 /// At a closing parenthesis.
 fn on_close(
     alloc: Global,
@@ -117,7 +124,8 @@ fn on_close(
             let tree = build::paren(alloc, place, tree)?;
             atom(alloc, stack, tree)
         }
-        _ => Ok(Mode::Stuck),
+        Some(frame) => Ok(stuck(frame)),
+        None => Ok(Mode::Stuck),
     }
 }
 
@@ -130,7 +138,8 @@ fn on_in(stack: &mut SmallVec<Frame, 16>, tree: Option<BuiltExpr>) -> Result<Mod
             push(stack, Frame::Body(place, at, tree))?;
             Ok(Mode::Want)
         }
-        _ => Ok(Mode::Stuck),
+        Some(frame) => Ok(stuck(frame)),
+        None => Ok(Mode::Stuck),
     }
 }
 
@@ -155,7 +164,8 @@ fn on_empty(alloc: Global, stack: &mut SmallVec<Frame, 16>) -> Result<Mode, Memo
 {
     match pop(stack) {
         Some(Frame::InParen(place)) => atom(alloc, stack, build::unit(place)),
-        _ => Ok(Mode::Stuck),
+        Some(frame) => Ok(stuck(frame)),
+        None => Ok(Mode::Stuck),
     }
 }
 
