@@ -111,6 +111,13 @@ fn stuck(_frame: Frame) -> Mode
     Mode::Stuck
 }
 
+/// Nothing goes on behind this expression.
+fn refused(_tree: Option<BuiltExpr>) -> Mode
+    ensures { result ≡ Mode.Stuck }
+{
+    Mode::Stuck
+}
+
 /// At a closing parenthesis.
 fn on_close(
     alloc: Global,
@@ -240,7 +247,7 @@ fn go_on<'a>(
             let tree = close(alloc, stack, 3, tree)?;
             on_plus(stack, place, tree)
         }
-        _ => Ok(Mode::Stuck),
+        _ => Ok(refused(tree)),
     }
 }
 
