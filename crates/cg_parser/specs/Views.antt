@@ -10,14 +10,11 @@ use Rattle.cg_surface.specs.Exprs.{Expr}
 use Rattle.cg_surface.specs.Programs.{Entry, entry_of, program_of}
 use Rattle.cg_symbols.specs.Symbols.{Seen}
 use Rattle.cg_parse_types.specs.Bounded as bounded_types
-use Rattle.cg_parse_types.specs.State as type_state
-use Rattle.cg_parse_types.specs.Views as type_views
+use Rattle.cg_parse_types.specs.States as type_state
 use Rattle.cg_parse_patterns.specs.Bounded as bounded_patterns
 use Rattle.cg_parse_patterns.specs.State as pattern_state
-use Rattle.cg_parse_patterns.specs.Views as pattern_views
 use Rattle.cg_parse_terms.specs.Bounded as bounded_exprs
-use Rattle.cg_parse_terms.specs.State as expr_state
-use Rattle.cg_parse_terms.specs.Views as expr_views
+use Rattle.cg_parse_terms.specs.Views as expr_state
 use Rattle.cg_parse_types.specs.declared.reader.TypeEnd.{TypeEnd}
 use Rattle.cg_parse_terms.specs.declared.reader.ExprEnd.{ExprEnd}
 use Rattle.cg_parser.specs.Bounded.{bounded}
@@ -39,10 +36,10 @@ exprs = bounded_exprs.bounded_reader
 
 -- how a part ends
 abbrev pub type_end : TypeEnd → Option (Option Written)
-type_end = type_views.end_of
+type_end = type_state.end_of
 
 abbrev pub expr_end : ExprEnd → Option (Option Expr)
-expr_end = expr_views.end_of
+expr_end = expr_state.end_of
 
 -- where the readers of the parts stand
 pub record Read : Type 0 where
