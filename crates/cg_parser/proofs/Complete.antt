@@ -149,15 +149,15 @@ module _ {TS PS XS : Type 0} (types : Reader TS Seen Written) (patterns : Reader
         let behind = r.2 in
         ⊎_elim
         (λ w.
-          move (WantVar done h vs ps) (lower v.name) q ts r.0 (AfterVar done h vs ps v.name q) w.1 refl
-          ∙ move (AfterVar done h vs ps v.name q) y behind.0 r.0 rest to behind.1
-              (plainly v q ∙ ap (λ x. machine.after_kinds types patterns exprs entries done h vs ps x q y) (sym w.0) ∙ e))
+        move (WantVar done h vs ps) (lower v.name) q ts r.0 (AfterVar done h vs ps v.name q) w.1 refl
+        ∙ move (AfterVar done h vs ps v.name q) y behind.0 r.0 rest to behind.1
+        (plainly v q ∙ ap (λ x. machine.after_kinds types patterns exprs entries done h vs ps x q y) (sym w.0) ∙ e))
         (λ w.
-          let m = w.3 in let k = m.2 in
-          move (WantVar done h vs ps) (lower v.name) q ts m.0 (AfterVar done h vs ps v.name q) m.1 refl
-          ∙ move (AfterVar done h vs ps v.name q) has_kinds k.1.0 m.0 k.0 (WantKinds done h vs ps v.name q) k.1.1 refl
-          ∙ move (WantKinds done h vs ps v.name q) (upper w.0) k.2.0 k.0 r.0 (AfterKinds done h vs ps v q) k.2.1 (rw w.1 (ap (λ x. AfterKinds done h vs ps x q) (sym w.2)))
-          ∙ move (AfterKinds done h vs ps v q) y behind.0 r.0 rest to behind.1 e)
+        let m = w.3 in let k = m.2 in
+        move (WantVar done h vs ps) (lower v.name) q ts m.0 (AfterVar done h vs ps v.name q) m.1 refl
+        ∙ move (AfterVar done h vs ps v.name q) has_kinds k.1.0 m.0 k.0 (WantKinds done h vs ps v.name q) k.1.1 refl
+        ∙ move (WantKinds done h vs ps v.name q) (upper w.0) k.2.0 k.0 r.0 (AfterKinds done h vs ps v q) k.2.1 (rw w.1 (ap (λ x. AfterKinds done h vs ps x q) (sym w.2)))
+        ∙ move (AfterKinds done h vs ps v q) y behind.0 r.0 rest to behind.1 e)
         r.1
 
     vars_read : (vars : List Bound) (places : List Place) (vs : List Bound) (ps : List Place) (ts rest : List Seen) → VarsBefore vars places ts rest
@@ -242,7 +242,7 @@ module _ {TS PS XS : Type 0} (types : Reader TS Seen Written) (patterns : Reader
             ∙ ap (run (AfterName done h)) pattern.parts
             ∙ param_reads done h pattern.front u.0 x pattern.past whole
             ∙ move (InParam done h (readers.run patterns patterns.begin pattern.front)) equals v.1.0 u.0 v.0 (InBody done h x exprs.begin) v.1.1
-                (ap (machine.on_equals types patterns exprs entries done h (readers.run patterns patterns.begin pattern.front) v.1.0) whole)
+            (ap (machine.on_equals types patterns exprs entries done h (readers.run patterns patterns.begin pattern.front) v.1.0) whole)
             ∙ ap (run (InBody done h x exprs.begin)) part.parts
             ∙ body_along done h x part.front rest exprs.begin part.past,
       )

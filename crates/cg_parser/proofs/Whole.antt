@@ -1,26 +1,27 @@
 -- The parser's reader: that of items, over those of types, patterns and expressions.
-use Rattle.std.proofs.Common.{◌≡◌, ℕ, List, [], refl, Option, Some, None}
+use Rattle.std.proofs.Common.{◌≡◌, ℕ, List, refl, Option, Some, false}
 use Rattle.cg_base.specs.Reader.{Reader, Reads}
+use Rattle.cg_surface.specs.Written.{Written}
+use Rattle.cg_surface.specs.Patterns.{Pattern}
+use Rattle.cg_surface.specs.Exprs.{Expr}
 use Rattle.cg_surface.specs.Programs.{Entry}
 use Rattle.cg_symbols.specs.Symbols.{Seen}
 use Rattle.cg_symbols.specs.Follows.{Follows}
 use Rattle.cg_parse_types.specs.Grammar.{SpellsType}
 use Rattle.cg_parse_types.specs.Plain as plain_types
 use Rattle.cg_parse_types.proofs.Laws as type_laws
-use Rattle.cg_parse_types.proofs.Viable as type_ends
 use Rattle.cg_parse_types.proofs.Follow as type_follows
 use Rattle.cg_parse_patterns.specs.Grammar.{SpellsPattern}
 use Rattle.cg_parse_patterns.specs.Plain as plain_patterns
 use Rattle.cg_parse_patterns.proofs.Laws as pattern_laws
-use Rattle.cg_parse_patterns.proofs.Viable as pattern_ends
 use Rattle.cg_parse_patterns.proofs.Follow as pattern_follows
 use Rattle.cg_parse_terms.specs.Grammar.{SpellsExpr}
 use Rattle.cg_parse_terms.specs.Plain as plain_exprs
 use Rattle.cg_parse_terms.proofs.Laws as expr_laws
-use Rattle.cg_parse_terms.proofs.Viable as expr_ends
 use Rattle.cg_parse_terms.proofs.Follow as expr_follows
 use Rattle.cg_parser.specs.Bounded.{bounded, within_program}
 use Rattle.cg_parser.specs.Grammar.{SpellsTokens}
+use Rattle.cg_parser.specs.Machine.{State}
 use Rattle.cg_parser.specs.Machine as machine
 use Rattle.cg_parser.specs.Plain.{entries}
 use Rattle.cg_parser.specs.Views.{types, patterns, exprs, Held}
@@ -28,8 +29,37 @@ use Rattle.cg_parser.proofs.Complete.{Parts}
 use Rattle.cg_parser.proofs.Viable as viable
 use Rattle.cg_parser.proofs.Follow as follow
 
-abbrev pub plain : Reader _ Seen (List Entry)
+abbrev pub Stage : Type 0
+Stage = State plain_types.Stage plain_patterns.Stage plain_exprs.Stage Pattern (List Entry)
+
+abbrev pub plain : Reader Stage Seen (List Entry)
 plain = machine.reader plain_types.plain_reader plain_patterns.plain_reader plain_exprs.plain_reader entries
 
-abbrev pub reader : Reader Held Seen (Option (List Entry))
-reader = machine.reader types patterns exprs bounded
+abbrev pub bounded_items : Reader Held Seen (Option (List Entry))
+bounded_items = machine.reader types patterns exprs bounded
+
+parts : Parts plain_types.Stage plain_patterns.Stage plain_exprs.Stage plain_types.plain_reader plain_patterns.plain_reader plain_exprs.plain_reader SpellsType SpellsPattern SpellsExpr
+parts = record {
+  type_laws = type_laws.laws;
+  pattern_laws = pattern_laws.laws;
+  expr_laws = expr_laws.laws;
+  type_ends = type_laws.viable_past;
+  pattern_ends = pattern_laws.viable_past;
+  expr_ends = expr_laws.viable_past;
+  no_type = refl;
+  no_pattern = refl;
+  no_all = λ p. refl;
+  no_colon = λ p. refl;
+  no_equals = pattern_laws.ends;
+}
+
+-- it is exact
+pub laws : Reads plain SpellsTokens
+laws = viable.laws plain_types.plain_reader plain_patterns.plain_reader plain_exprs.plain_reader SpellsType SpellsPattern SpellsExpr parts
+
+abbrev pub held : Stage → Held
+held = follow.held plain_types.plain_reader plain_patterns.plain_reader plain_exprs.plain_reader types patterns exprs type_follows.held pattern_follows.held expr_follows.held type_follows.follows pattern_follows.follows expr_follows.follows
+
+-- and the one up to the depth follows it
+pub follows : Follows plain bounded_items held within_program
+follows = follow.follows plain_types.plain_reader plain_patterns.plain_reader plain_exprs.plain_reader types patterns exprs type_follows.held pattern_follows.held expr_follows.held type_follows.follows pattern_follows.follows expr_follows.follows

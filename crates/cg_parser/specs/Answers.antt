@@ -14,6 +14,7 @@ use Rattle.cg_symbols.specs.Symbols.{seen}
 use Rattle.cg_parser.specs.Grammar.{SpellsTokens, Spells}
 use Rattle.cg_parser.specs.declared.fault.ParseFault.{ParseFault}
 use Rattle.cg_parser.specs.declared.fault.ParseFault.TheVariants.{S1, S2, S3, Nesting, Memory}
+
 -- no program has more depth
 abbrev pub depth_limit : ℕ
 depth_limit = 1024

@@ -4,3 +4,4 @@ pub mod Grammar
 pub mod Laws
 pub mod Machine
 pub mod Plain
+pub mod Views

@@ -1,5 +1,6 @@
 // Adding items to those before them, where none of them is too deep.
 ghost use Rattle.std.specs.Prelude.{◌≡◌, Some, None, OnOk, IfOk, if◌then◌else◌};
+ghost use Rattle.cg_surface.specs.Programs.{entry_of};
 ghost use Rattle.cg_parser.specs.Bounded.{added, bounded};
 ghost use Rattle.cg_parser.specs.Machine as machine;
 ghost use Rattle.cg_parser.specs.Views.{types, patterns, exprs, items_of, item_of, pat_of, type_end, expr_end};
@@ -11,18 +12,27 @@ use cg_parse_terms::ExprEnd;
 use cg_parse_types::TypeEnd;
 use cg_surface::{Item, Pat, Program};
 
+/// Adds an item to those before it.
+fn push(done: &mut Option<Program>, item: Item) -> Result<(), Memory>
+    ensures { OnOk result (items_of done.new ≡ added (items_of done.old) (Some (entry_of item))) }
+{
+    if let Some(program) = done {
+        program.items.push(item)?;
+    }
+    Ok(())
+}
+
 /// Adds an item. Where it is too deep, no item is left.
 pub(crate) fn add(done: &mut Option<Program>, item: Option<Item>) -> Result<(), Memory>
     ensures { OnOk result (items_of done.new ≡ added (items_of done.old) (item_of item)) }
 {
-    let Some(program) = done else {
-        return Ok(());
-    };
     match item {
-        Some(item) => program.items.push(item)?,
-        None => *done = None,
+        Some(item) => push(done, item),
+        None => {
+            *done = None;
+            Ok(())
+        }
     }
-    Ok(())
 }
 
 /// Ends a synonym, where its type can end.
@@ -56,13 +66,14 @@ pub(crate) fn end_signature(
 ) -> Result<bool, Memory>
     ensures { IfOk result (λ b. machine.end_signature types patterns exprs bounded (items_of done.old) at vars.bounds vars.places (type_end end) ≡ (if b then Some (items_of done.new) else None)) }
 {
+    let Vars { bounds, places } = vars;
     let item = match end {
         TypeEnd::Unfinished => return Ok(false),
         TypeEnd::TooDeep => None,
         TypeEnd::Whole(built) => Some(Item::Signature {
             at,
-            vars: vars.bounds,
-            places: vars.places,
+            vars: bounds,
+            places,
             ty: built.tree,
         }),
     };

@@ -238,13 +238,7 @@ fn want_kinds<'a>(at: At, vars: Vars, name: Name, place: Place, symbol: Symbol<'
 }
 
 /// Behind the type variables.
-fn want_dot<'a>(
-    alloc: Global,
-    parts: &mut Parts,
-    at: At,
-    vars: Vars,
-    symbol: Symbol<'a>,
-) -> Phase
+fn want_dot<'a>(alloc: Global, parts: &mut Parts, at: At, vars: Vars, symbol: Symbol<'a>) -> Phase
     ensures { (done : Option (List Entry)) → state_of done result (parts_of parts.new) ≡ machine.want_dot types patterns exprs bounded done at vars.bounds vars.places (symbol_view symbol.entry) }
 {
     match symbol {

@@ -1,5 +1,6 @@
 // Kinds, as they are written: some of the letters D, S and E.
-ghost use Rattle.std.specs.Prelude.{◌≡◌};
+ghost use Rattle.std.specs.Prelude.{◌≡◌, ◌==◌};
+ghost use Rattle.std.specs.List.{list_any};
 ghost use Rattle.cg_parser.specs.Grammar.{is_letter as is_kind, are_letters as are_kinds, kinds_of as kinds_in, no_kinds as none_of_them};
 
 use cg_base::Kinds;
@@ -18,14 +19,21 @@ pub(crate) fn are_letters(text: &[u8]) -> bool
     text.iter().all(|byte| is_letter(*byte))
 }
 
+/// Whether a letter is among bytes.
+fn has(text: &[u8], letter: u8) -> bool
+    ensures { result ≡ list_any (λ c. c == letter) text.now }
+{
+    text.iter().any(|byte| *byte == letter)
+}
+
 /// The kinds that letters give.
 pub(crate) fn kinds_of(text: &[u8]) -> Kinds
     ensures { result ≡ kinds_in text.now }
 {
     Kinds {
-        drop: text.iter().any(|byte| *byte == b'D'),
-        share: text.iter().any(|byte| *byte == b'S'),
-        escape: text.iter().any(|byte| *byte == b'E'),
+        drop: has(text, b'D'),
+        share: has(text, b'S'),
+        escape: has(text, b'E'),
     }
 }
 
