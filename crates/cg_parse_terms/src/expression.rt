@@ -9,7 +9,6 @@ use crate::build;
 use crate::built::BuiltExpr;
 use crate::frame::{Frame, Mode};
 use crate::stack::{pop, push};
-
 use cg_base::{Memory, Name, Place};
 use cg_core::At;
 use cg_symbols::Symbol;
@@ -17,7 +16,11 @@ use smallvec::SmallVec;
 use std::alloc::Global;
 
 /// An atom, which is an argument where one is waited for.
-fn atom(alloc: Global, stack: &mut SmallVec<Frame, 16>, tree: Option<BuiltExpr>) -> Result<Mode, Memory>
+fn atom(
+    alloc: Global,
+    stack: &mut SmallVec<Frame, 16>,
+    tree: Option<BuiltExpr>,
+) -> Result<Mode, Memory>
     ensures { IfOk result (λ m. mode_of m (stack_of stack.new.items) ≡ machine.atom bounded (view_of tree) (stack_of stack.old.items)) }
 {
     match pop(stack) {
@@ -252,12 +255,7 @@ fn go_on<'a>(
 }
 
 /// Behind `let`, which stands at `at`.
-fn name_it<'a>(
-    alloc: Global,
-    symbol: Symbol<'a>,
-    place: Place,
-    at: Place,
-) -> Result<Mode, Memory>
+fn name_it<'a>(alloc: Global, symbol: Symbol<'a>, place: Place, at: Place) -> Result<Mode, Memory>
     ensures { IfOk result (λ m. (fs : List Open) → mode_of m fs ≡ machine.name_it bounded (symbol_view symbol.entry) place at fs) }
 {
     match symbol {
