@@ -1,5 +1,5 @@
 -- What expressions are that have lists in them.
-use Rattle.std.proofs.Common.{◌≡◌, ℕ, List, [], ◌∷◌, ◌++◌, map, refl, sym, ◌∙◌, ap}
+use Rattle.std.proofs.Common.{◌≡◌, ℕ, List, [], ◌∷◌, ◌++◌, map, ◌∙◌, ap}
 use Rattle.cg_base.specs.declared.place.Place.{Place}
 use Rattle.cg_core.specs.declared.at.At.{At}
 use Rattle.cg_surface.specs.declared.written.STy.{STy}
@@ -14,8 +14,8 @@ use Rattle.cg_surface.specs.declared.expr.SForm.TheFolds.{fold-SForm}
 use Rattle.cg_surface.specs.declared.expr.SForm.TheVariants.{Name}
 use Rattle.cg_surface.specs.declared.expr.SForm.{the_lemmas}
 use Rattle.cg_surface.specs.declared.expr.Bind.{Bind, roll-Bind}
-use Rattle.cg_surface.specs.Written.{written_of, to_types, no_types, types_none}
-use Rattle.cg_surface.specs.Exprs.{Expr, OneAlt, OneBind, OneField, layer, alt_layer, bind_layer, field_layer, expr_layer, name, expr_of, bind_of, Binds, and_bind, no_binds, to_binds, binds_push, binds_none}
+use Rattle.cg_surface.specs.Written.{written_of, to_types, types_none}
+use Rattle.cg_surface.specs.Exprs.{Expr, OneAlt, OneBind, OneField, layer, alt_layer, bind_layer, field_layer, expr_layer, name, expr_of, bind_of, and_bind, no_binds, to_binds, binds_push, binds_none}
 use Rattle.cg_surface.specs.Patterns as patterns
 use Rattle.cg_surface.specs.Patterns.{Pattern, pattern_of, name as variable}
 use Rattle.cg_parse_terms.specs.Grammar.{plain_name, one_bind}

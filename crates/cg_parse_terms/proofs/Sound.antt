@@ -20,7 +20,7 @@ outcome (Operand p a) = 3
 outcome (Bound p x) = 5
 outcome (Body p x a) = 5
 
--- the name of a `let`, and its `=`
+-- the name of a `let`
 abbrev pub Named : At → Reading
 Named x = token (lower x.name) x.place
 

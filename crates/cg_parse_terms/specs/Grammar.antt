@@ -1,5 +1,5 @@
 -- Which tokens spell which expression (docs/LANGUAGE.md, "Expressions"). The forms that aren't read yet are spelled by none.
-use Rattle.std.specs.Prelude.{◌≡◌, ℕ, ◌≤◌, List, [], ◌∷◌, ⊤}
+use Rattle.std.specs.Prelude.{◌≡◌, ℕ, ◌≤◌, List, [], ⊤}
 use Rattle.cg_base.specs.declared.place.Place.{Place}
 use Rattle.cg_core.specs.declared.at.At.{At}
 use Rattle.cg_core.specs.declared.op.Op.TheVariants.{Add}

@@ -14,5 +14,5 @@ end_of TooDeep = Some None
 end_of (Whole b) = Some (Some (expr_of b.tree))
 
 -- the state of the machine that a reader is in
-abbrev pub reader_state : ExprReader → Held
+unfoldable pub reader_state : ExprReader → Held
 reader_state r = mode_of r.mode (stack_of r.stack.items)

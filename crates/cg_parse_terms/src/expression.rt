@@ -1,15 +1,14 @@
 // Reading an expression, one symbol at a time.
-ghost use Rattle.std.specs.Prelude.{◌≡◌, IfOk, OnOk};
+ghost use Rattle.std.specs.Prelude.{◌≡◌, List, IfOk, OnOk};
 ghost use Rattle.cg_parse_terms.specs.Machine as machine;
 ghost use Rattle.cg_parse_terms.specs.Bounded.{bounded};
 ghost use Rattle.cg_symbols.specs.Views.{symbol_view};
-ghost use Rattle.cg_parse_terms.specs.Stack.{view_of, frame_of, stack_of, mode_of};
+ghost use Rattle.cg_parse_terms.specs.Stack.{Open, view_of, frame_of, stack_of, mode_of};
 
 use crate::build;
 use crate::built::BuiltExpr;
 use crate::frame::{Frame, Mode};
 use crate::stack::{pop, push};
-
 use cg_base::{Memory, Name, Place};
 use cg_core::At;
 use cg_symbols::Symbol;
@@ -17,7 +16,11 @@ use smallvec::SmallVec;
 use std::alloc::Global;
 
 /// An atom, which is an argument where one is waited for.
-fn atom(alloc: Global, stack: &mut SmallVec<Frame, 16>, tree: Option<BuiltExpr>) -> Result<Mode, Memory>
+fn atom(
+    alloc: Global,
+    stack: &mut SmallVec<Frame, 16>,
+    tree: Option<BuiltExpr>,
+) -> Result<Mode, Memory>
     ensures { IfOk result (λ m. mode_of m (stack_of stack.new.items) ≡ machine.atom bounded (view_of tree) (stack_of stack.old.items)) }
 {
     match pop(stack) {
@@ -251,6 +254,37 @@ fn go_on<'a>(
     }
 }
 
+/// Behind `let`, which stands at `at`.
+fn name_it<'a>(alloc: Global, symbol: Symbol<'a>, place: Place, at: Place) -> Result<Mode, Memory>
+    ensures { IfOk result (λ m. (fs : List Open) → mode_of m fs ≡ machine.name_it bounded (symbol_view symbol.entry) place at fs) }
+{
+    match symbol {
+        Symbol::Lower(name) => {
+            let name = Name::new(alloc, name)?;
+            Ok(Mode::AfterName(at, At { place, name }))
+        }
+        _ => Ok(Mode::Stuck),
+    }
+}
+
+/// Behind the name of a `let`, which stands at `at`.
+fn bind_it<'a>(
+    stack: &mut SmallVec<Frame, 16>,
+    symbol: Symbol<'a>,
+    at: Place,
+    name: At,
+) -> Result<Mode, Memory>
+    ensures { IfOk result (λ m. mode_of m (stack_of stack.new.items) ≡ machine.bind_it bounded (symbol_view symbol.entry) at name (stack_of stack.old.items)) }
+{
+    match symbol {
+        Symbol::Equals => {
+            push(stack, Frame::Bound(at, name))?;
+            Ok(Mode::Want)
+        }
+        _ => Ok(Mode::Stuck),
+    }
+}
+
 /// One symbol more of an expression.
 pub(crate) fn mode_step<'a>(
     alloc: Global,
@@ -264,20 +298,8 @@ pub(crate) fn mode_step<'a>(
     match mode {
         Mode::Want => start(alloc, stack, symbol, place),
         Mode::Have(tree) => go_on(alloc, stack, symbol, place, tree),
-        Mode::AfterLet(at) => match symbol {
-            Symbol::Lower(name) => {
-                let name = Name::new(alloc, name)?;
-                Ok(Mode::AfterName(at, At { place, name }))
-            }
-            _ => Ok(Mode::Stuck),
-        },
-        Mode::AfterName(at, name) => match symbol {
-            Symbol::Equals => {
-                push(stack, Frame::Bound(at, name))?;
-                Ok(Mode::Want)
-            }
-            _ => Ok(Mode::Stuck),
-        },
+        Mode::AfterLet(at) => name_it(alloc, symbol, place, at),
+        Mode::AfterName(at, name) => bind_it(stack, symbol, at, name),
         Mode::Stuck => Ok(Mode::Stuck),
     }
 }

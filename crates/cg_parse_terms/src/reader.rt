@@ -1,13 +1,16 @@
 // The reader, as a value.
-ghost use Rattle.std.specs.Prelude.{◌≡◌, IfOk, OnOk};
+#![tactic(auto, unfolding(crate::specs::Views::reader_state))]
+
+ghost use Rattle.std.specs.Prelude.{◌≡◌, Some, IfOk, OnOk};
 ghost use Rattle.cg_symbols.specs.Views.{symbol_view};
 ghost use Rattle.cg_parse_terms.specs.Bounded.{bounded_reader};
+ghost use Rattle.cg_parse_terms.specs.Stack.{view_of};
 ghost use Rattle.cg_parse_terms.specs.Views.{end_of, reader_state};
 
 use crate::built::BuiltExpr;
 use crate::expression::{close, mode_step};
 use crate::frame::{Frame, Mode};
-use crate::stack::{clear, pop};
+use crate::stack::{empty, pop};
 use cg_base::{Memory, Place};
 use cg_symbols::Symbol;
 use smallvec::SmallVec;
@@ -23,6 +26,16 @@ pub enum ExprEnd {
     Whole(BuiltExpr),
 }
 
+/// What ends with this expression.
+fn ended(tree: Option<BuiltExpr>) -> ExprEnd
+    ensures { end_of result ≡ Some (view_of tree) }
+{
+    match tree {
+        Some(built) => ExprEnd::Whole(built),
+        None => ExprEnd::TooDeep,
+    }
+}
+
 /// A reader of one expression: docs/LANGUAGE.md, "Expressions". It takes no more of the program's stack where the expression
 /// is deeply nested.
 #[derive(Drop)]
@@ -36,10 +49,8 @@ impl ExprReader {
     pub fn new(alloc: Global) -> ExprReader
         ensures { reader_state result ≡ bounded_reader.begin }
     {
-        let mut stack: SmallVec<Frame, 16> = SmallVec::new(alloc);
-        clear(alloc, &mut stack);
         ExprReader {
-            stack,
+            stack: empty(alloc),
             mode: Mode::Want,
         }
     }
@@ -48,7 +59,7 @@ impl ExprReader {
     pub fn begin(&mut self, alloc: Global)
         ensures { reader_state self.new ≡ bounded_reader.begin }
     {
-        clear(alloc, &mut self.stack);
+        self.stack = empty(alloc);
         self.mode = Mode::Want;
     }
 
@@ -86,10 +97,7 @@ impl ExprReader {
         let tree = close(alloc, &mut self.stack, 5, tree)?;
         match pop(&mut self.stack) {
             Some(_) => Ok(ExprEnd::Unfinished),
-            None => match tree {
-                Some(built) => Ok(ExprEnd::Whole(built)),
-                None => Ok(ExprEnd::TooDeep),
-            },
+            None => Ok(ended(tree)),
         }
     }
 }

@@ -24,10 +24,10 @@ pub(crate) fn pop(stack: &mut SmallVec<Frame, 16>) -> Option<Frame>
     stack.pop()
 }
 
-/// Takes all frames off.
+/// A stack without frames.
 #[tactic(auto, using(crate::specs::Stack::stack_none))]
-pub(crate) fn clear(alloc: Global, stack: &mut SmallVec<Frame, 16>)
-    ensures { stack_of stack.new.items ≡ [] }
+pub(crate) fn empty(alloc: Global) -> SmallVec<Frame, 16>
+    ensures { stack_of result.items ≡ [] }
 {
-    *stack = SmallVec::new(alloc);
+    SmallVec::new(alloc)
 }
