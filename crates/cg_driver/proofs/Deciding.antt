@@ -13,10 +13,12 @@ use Rattle.cg_eval.specs.Plain.{plain_kernel}
 use Rattle.cg_heaptext.specs.Laws.{OneArgument}
 use Rattle.cg_outside.specs.Held.{Held, IsReadOf, bytes_at}
 use Rattle.cg_outside.specs.Causes.{Rose}
-use Rattle.cg_parser.specs.Answers.{depth_limit}
+use Rattle.cg_parser.specs.Answers.{depth_limit, NoProgram}
 use Rattle.cg_parser.specs.Laws.{OneProgram}
-use Rattle.cg_surface.specs.Desugar.{functions_of}
-use Rattle.cg_surface.specs.Trees.{Entry, program_depth}
+use Rattle.cg_small.specs.Desugar.{functions_of}
+use Rattle.cg_small.specs.Small.{small_program}
+use Rattle.cg_small.specs.Trees.{Entry as SmallEntry}
+use Rattle.cg_surface.specs.Programs.{Entry, program_depth}
 use Rattle.cg_base.specs.declared.kind.Kinds.{Kinds}
 use Rattle.cg_base.specs.Types.{Tau, arrow}
 use Rattle.cg_typing.specs.Kept.{IsKeptBody, IsKeptMaybe, IsKept, AreKept}
@@ -25,9 +27,9 @@ use Rattle.cg_value.specs.Values.{number, function}
 use Rattle.cg_words.specs.Words.{Command, check, run}
 use Rattle.cg_driver.specs.declared.status.Status.{Status}
 use Rattle.cg_driver.specs.declared.status.Status.TheVariants.{Done, Refused, Usage, ReadFault, WriteFault, Memory, StepLimit, HeapRefused, CertRefused, TooLarge}
-use Rattle.cg_driver.specs.Answer.{source_limit, heap_limit, SpellsWithin, IsAcceptedSource, Refuses, not_built, not_accepted, Exceeds, too_long, too_deep, Judges, entry_at, IsReady, RefusesRun, of_source, not_plain, no_entry, RefusesHeap, no_heap_text, out_of_range, IsArgument, IsJudgedRun}
+use Rattle.cg_driver.specs.Answer.{source_limit, heap_limit, SpellsWithin, SpellsSmall, IsAcceptedSource, Refuses, not_built, not_small, not_accepted, Exceeds, too_long, too_deep, Judges, entry_at, IsReady, RefusesRun, of_source, not_plain, no_entry, RefusesHeap, no_heap_text, out_of_range, IsArgument, IsJudgedRun}
 use Rattle.cg_driver.specs.Run.{table_in, Runs, RunsOut}
-use Rattle.cg_driver.specs.Says.{ReadFails, of_source as source_fails, of_heap, SaysOf, Answers, IsVerdict, IsReadBy, IsTooLarge, IsRefused, CheckStatus, Ready, Evaluates, IsNotPlain, HasNoEntry, HasNoArgument, RunStatus, Decides}
+use Rattle.cg_driver.specs.Says.{ReadFails, of_source as source_fails, of_heap, SaysOf, Answers, IsVerdict, IsReadBy, IsTooLarge, IsNotSmall, IsNotAccepted, IsRefused, CheckStatus, Ready, Evaluates, IsNotPlain, HasNoEntry, HasNoArgument, RunStatus, Decides}
 
 -- ---- what was read of files whose contents are told
 
@@ -45,19 +47,39 @@ told_is h held file most read told r = subst (λ x. IsReadOf x file most read) t
 
 refused_as : (file source text : List ℕ) → Refuses file source text → length source ≤ source_limit → IsRefused source
 refused_as file source text (not_built none is) short = (short, inl none)
-refused_as file source text (not_accepted p spelled never is) short = (short, inr ((p, spelled), never))
+refused_as file source text (not_small p spelled other is) short = (short, inr (inl (p, spelled, other)))
+refused_as file source text (not_accepted q spelled never is) short = (short, inr (inr ((q, spelled), never)))
 
 exceeds : (file : List ℕ) (bytes source text : List ℕ) → source ≡ take (source_limit + 1) bytes → Exceeds source text → IsTooLarge bytes
 exceeds file bytes source text is (too_long long line) = inl (longer source_limit bytes source is long)
 exceeds file bytes source text is (too_deep short p spelled beyond line) = subst IsTooLarge (whole source_limit bytes source is short) (inr (short, p, spelled, beyond))
 
 module _ (one : OneProgram) (single : OneArgument) where
+  -- a source spells one small program
+  same_small : (source : List ℕ) (p q : List SmallEntry) → SpellsSmall source p → SpellsSmall source q → p ≡ q
+  same_small source p q a b =
+      let same : small_program a.program ≡ small_program b.program = ap small_program (one source a.program b.program a.within.spells b.within.spells) in
+      let first : small_program a.program ≡ Some p = a.small in
+      let second : small_program b.program ≡ Some q = b.small in
+      cc
+
+  small_or_not : (source : List ℕ) (p : List Entry) (q : List SmallEntry) → SpellsWithin source p → small_program p ≡ None → SpellsSmall source q → ⊥
+  small_or_not source p q s none b =
+      let same : small_program p ≡ small_program b.program = ap small_program (one source p b.program s.spells b.within.spells) in
+      let some : small_program b.program ≡ Some q = b.small in
+      absurd (cc)
+
   -- a source is accepted with one kernel, and isn't refused, nor too large
   same_kernel : (source : List ℕ) (f g : List Function) → IsAcceptedSource source f → IsAcceptedSource source g → f ≡ g
-  same_kernel source f g a b = a.kernel ∙ ap functions_of (one source a.program b.program a.spelled.spells b.spelled.spells) ∙ sym b.kernel
+  same_kernel source f g a b = a.kernel ∙ ap functions_of (same_small source a.program b.program a.spelled b.spelled) ∙ sym b.kernel
 
   no_refusal : (source : List ℕ) (f : List Function) → IsAcceptedSource source f → IsRefused source → ⊥
-  no_refusal source f a r = elim r.1 [ inl none ↦ none a.program a.spelled.spells | inr never ↦ never.1 (a.program, a.spelled.spells, a.accepted) ]
+  no_refusal source f a r = go r.1
+    where
+      go : NoProgram source ⊎ (IsNotSmall source ⊎ IsNotAccepted source) → ⊥
+      go (inl none) = none a.spelled.program a.spelled.within.spells
+      go (inr (inl other)) = small_or_not source other.0 a.program other.1 other.2 a.spelled
+      go (inr (inr never)) = never.1 (a.spelled.program, a.program, a.spelled.within.spells, a.spelled.small, a.accepted)
 
   not_large : (source : List ℕ) (p : List Entry) → length source ≤ source_limit → SpellsWithin source p → IsTooLarge source → ⊥
   not_large source p short s (inl long) = absurd (omega arith)
@@ -68,11 +90,16 @@ module _ (one : OneProgram) (single : OneArgument) where
       absurd (omega arith)
 
   no_limit : (source : List ℕ) (f : List Function) → IsAcceptedSource source f → IsTooLarge source → ⊥
-  no_limit source f a = not_large source a.program a.short a.spelled
+  no_limit source f a = not_large source a.spelled.program a.short a.spelled.within
 
   refused_not_large : (source : List ℕ) → IsRefused source → IsTooLarge source → ⊥
   refused_not_large source r (inl long) = absurd (omega (arith, r.0))
-  refused_not_large source r (inr beyond) = elim r.1 [ inl none ↦ none beyond.1 beyond.2 | inr never ↦ not_large source never.0.0 r.0 never.0.1 (inr beyond) ]
+  refused_not_large source r (inr beyond) = go r.1
+    where
+      go : NoProgram source ⊎ (IsNotSmall source ⊎ IsNotAccepted source) → ⊥
+      go (inl none) = none beyond.1 beyond.2
+      go (inr (inl other)) = not_large source other.0 r.0 other.1 (inr beyond)
+      go (inr (inr never)) = not_large source never.0.1.program r.0 never.0.1.within (inr beyond)
 
   -- ---- checks
 

@@ -10,9 +10,11 @@ use Rattle.cg_core.specs.declared.kernel.Kernel.{Kernel}
 use Rattle.cg_core.specs.Kernels.{Function, function_of, kernel_of}
 use Rattle.cg_eval.specs.Plain.{plain_kernel}
 use Rattle.cg_heaptext.specs.HeapText.{HeapText}
-use Rattle.cg_surface.specs.Trees.{Entry, program_depth}
-use Rattle.cg_surface.specs.Desugar.{name_faults, functions_of}
-use Rattle.cg_surface.specs.Circles.{mentions, NoCircle}
+use Rattle.cg_small.specs.Circles.{mentions, NoCircle}
+use Rattle.cg_small.specs.Desugar.{name_faults, functions_of}
+use Rattle.cg_small.specs.Small.{small_program}
+use Rattle.cg_small.specs.Trees.{Entry as SmallEntry}
+use Rattle.cg_surface.specs.Programs.{Entry, program_depth}
 use Rattle.cg_parser.specs.Grammar.{Spells}
 use Rattle.cg_parser.specs.Answers.{depth_limit}
 use Rattle.cg_typing.specs.Accepted.{IsAcceptedKernel}
@@ -27,8 +29,8 @@ use Rattle.cg_driver.specs.declared.report.Step.{Step}
 use Rattle.cg_driver.specs.declared.report.Step.TheVariants.{Goes, Ends as Ended}
 use Rattle.cg_driver.specs.declared.status.Status.{Status}
 use Rattle.cg_driver.specs.declared.status.Status.TheVariants.{Done, Refused, Usage, ReadFault, WriteFault, Memory, StepLimit, HeapRefused, CertRefused, TooLarge}
-use Rattle.cg_driver.specs.Answer.{source_limit, heap_limit, IsAcceptedProgram, not_accepted, too_deep, RefusesSource, Judges, entry_at, of_source, not_plain, no_entry, IsReady, out_of_range}
-use Rattle.cg_driver.specs.Judged.{functions_in, IsCheckedKernel, IsCheckedProgram, IsCheckedSource, RefusesKernel, RefusesProgram, IsEntry, RefusesBytes}
+use Rattle.cg_driver.specs.Answer.{source_limit, heap_limit, Accepted, IsAcceptedProgram, Refuses, not_small, not_accepted, too_deep, RefusesSource, Judges, entry_at, of_source, not_plain, no_entry, IsReady, out_of_range}
+use Rattle.cg_driver.specs.Judged.{functions_in, IsCheckedKernel, IsCheckedProgram, IsCheckedSpelled, IsCheckedSource, RefusesKernel, RefusesProgram, RefusesSpelled, IsEntry, RefusesBytes}
 use Rattle.cg_driver.specs.Lines.{limit_line, out_of_range_line}
 use Rattle.cg_driver.specs.Reports.{IsLine, Reports, Steps}
 use Rattle.cg_driver.specs.Running.{SaysChecked, SaysSource}
@@ -55,13 +57,13 @@ steps_follow P Q S U goes ends (Err e) said = tt
 
 -- ---- sources
 
--- a program whose names are in order is judged as its kernel is
-pub kernel_checked : (p : List Entry) (functions : List Function) → name_faults p ≡ [] → NoCircle (mentions p) → functions ≡ functions_of p
+-- a small program whose names are in order is judged as its kernel is
+pub kernel_checked : (p : List SmallEntry) (functions : List Function) → name_faults p ≡ [] → NoCircle (mentions p) → functions ≡ functions_of p
     → (checked : Checked) → IsCheckedKernel functions checked → IsCheckedProgram p checked
 kernel_checked p functions names circles is checked c =
     record { accepted = record { names = names; circles = circles; typed = subst IsAcceptedKernel is c.accepted }; same = c.same ∙ is; cores = c.cores }
 
-pub kernel_refused : (file : List ℕ) (p : List Entry) (functions : List Function) → functions ≡ functions_of p
+pub kernel_refused : (file : List ℕ) (p : List SmallEntry) (functions : List Function) → functions ≡ functions_of p
     → (s : Status) (text : List ℕ) → RefusesKernel file functions s text → RefusesProgram file p s text
 kernel_refused file p functions is Refused text j = ((λ accepted. j.0 (subst IsAcceptedKernel (sym is) accepted.typed)), j.1)
 kernel_refused file p functions is Done text j = absurd j
@@ -74,25 +76,46 @@ kernel_refused file p functions is HeapRefused text j = absurd j
 kernel_refused file p functions is CertRefused text j = absurd j
 kernel_refused file p functions is TooLarge text j = absurd j
 
+-- a program that is small is judged as its small program is
+pub small_checked : (p : List Entry) (q : List SmallEntry) → small_program p ≡ Some q → (checked : Checked) → IsCheckedProgram q checked → IsCheckedSpelled p checked
+small_checked p q is checked c = record { program = q; small = is; holds = c }
+
+pub small_refused : (file : List ℕ) (p : List Entry) (q : List SmallEntry) → small_program p ≡ Some q → (s : Status) (text : List ℕ) → RefusesProgram file q s text → RefusesSpelled file p s text
+small_refused file p q is Refused text j = inr (q, is, j)
+small_refused file p q is s text j = absurd j
+
 -- a source is judged as the one program that it spells within the depth
 pub program_checked : (source : List ℕ) (p : List Entry) → length source ≤ source_limit → Spells source p → program_depth p ≤ depth_limit
-    → (checked : Checked) → IsCheckedProgram p checked → IsCheckedSource source checked
+    → (checked : Checked) → IsCheckedSpelled p checked → IsCheckedSource source checked
 program_checked source p short spelled deep checked c =
-    record { accepted = record { program = p; short = short; spelled = record { spells = spelled; within = deep }; accepted = c.accepted; kernel = c.same }; cores = c.cores }
+    record {
+      accepted = record {
+        program = c.program;
+        short = short;
+        spelled = record { program = p; within = record { spells = spelled; within = deep }; small = c.small };
+        accepted = c.holds.accepted;
+        kernel = c.holds.same;
+      };
+      cores = c.holds.cores;
+    }
 
-pub program_refused : (file source : List ℕ) (p : List Entry) → length source ≤ source_limit → Spells source p → program_depth p ≤ depth_limit
-    → ((q : List Entry) → Spells source q → q ≡ p) → (s : Status) (text : List ℕ) → RefusesProgram file p s text → RefusesSource file source s text
-program_refused file source p short spelled deep only Refused text j =
-    (short, not_accepted p (record { spells = spelled; within = deep }) (λ accepted. j.0 (subst IsAcceptedProgram (only accepted.0 accepted.1) accepted.2)) j.1)
-program_refused file source p short spelled deep only Done text j = absurd j
-program_refused file source p short spelled deep only Usage text j = absurd j
-program_refused file source p short spelled deep only ReadFault text j = absurd j
-program_refused file source p short spelled deep only WriteFault text j = absurd j
-program_refused file source p short spelled deep only Memory text j = absurd j
-program_refused file source p short spelled deep only StepLimit text j = absurd j
-program_refused file source p short spelled deep only HeapRefused text j = absurd j
-program_refused file source p short spelled deep only CertRefused text j = absurd j
-program_refused file source p short spelled deep only TooLarge text j = absurd j
+module _ (file source : List ℕ) (p : List Entry) (short : length source ≤ source_limit) (spelled : Spells source p) (deep : program_depth p ≤ depth_limit)
+    (only : (q : List Entry) → Spells source q → q ≡ p) where
+  -- the small program of the source is the one that is accepted, where one is
+  never_accepted : (q : List SmallEntry) → small_program p ≡ Some q → (IsAcceptedProgram q → ⊥) → Accepted source → ⊥
+  never_accepted q is never accepted =
+      let same : small_program accepted.0 ≡ small_program p = ap small_program (only accepted.0 accepted.2) in
+      let other : small_program accepted.0 ≡ Some accepted.1 = accepted.3 in
+      let equal : accepted.1 ≡ q = cc in
+      never (subst IsAcceptedProgram equal accepted.4)
+
+  refused : (text : List ℕ) → RefusesSpelled file p Refused text → Refuses file source text
+  refused text (inl j) = not_small p (record { spells = spelled; within = deep }) j.0 j.1
+  refused text (inr j) = not_accepted j.0 (record { program = p; within = record { spells = spelled; within = deep }; small = j.1 }) (never_accepted j.0 j.1 j.2.0) j.2.1
+
+  pub program_refused : (s : Status) (text : List ℕ) → RefusesSpelled file p s text → RefusesSource file source s text
+  program_refused Refused text j = (short, refused text j)
+  program_refused s text j = absurd j
 
 pub deep : (file source : List ℕ) (p : List Entry) → length source ≤ source_limit → Spells source p → depth_limit < program_depth p
     → (r : Report) → IsLine TooLarge (limit_line (codes "nesting")) r → Reports (RefusesSource file source) r

@@ -6,9 +6,11 @@ use Rattle.cg_heaptext.specs.HeapText.{HeapText}
 use Rattle.cg_outside.specs.Held.{Held, IsReadOf}
 use Rattle.cg_parser.specs.Grammar.{Spells}
 use Rattle.cg_parser.specs.Answers.{depth_limit, NoProgram}
-use Rattle.cg_surface.specs.Trees.{Entry, program_depth}
-use Rattle.cg_surface.specs.Desugar.{name_faults, functions_of}
-use Rattle.cg_surface.specs.Circles.{mentions, NoCircle}
+use Rattle.cg_small.specs.Circles.{mentions, NoCircle}
+use Rattle.cg_small.specs.Desugar.{name_faults, functions_of}
+use Rattle.cg_small.specs.Small.{small_program}
+use Rattle.cg_small.specs.Trees.{Entry as SmallEntry}
+use Rattle.cg_surface.specs.Programs.{Entry, program_depth}
 use Rattle.cg_typing.specs.Accepted.{IsAcceptedKernel}
 use Rattle.cg_driver.specs.declared.status.Status.{Status}
 use Rattle.cg_driver.specs.declared.status.Status.TheVariants.{Done, Refused, StepLimit, HeapRefused, TooLarge}
@@ -24,34 +26,42 @@ heap_limit = 16777216
 
 -- ---- sources
 
--- a program is accepted: no name is at fault, no function mentions itself through bodies, and the typing rules derive each
+-- a small program is accepted: no name is at fault, no function mentions itself through bodies, and the typing rules derive each
 -- function of its kernel
-pub record IsAcceptedProgram (p : List Entry) : Type 0 where
+pub record IsAcceptedProgram (p : List SmallEntry) : Type 0 where
   pub names : name_faults p ≡ []
   pub circles : NoCircle (mentions p)
   pub typed : IsAcceptedKernel (functions_of p)
 
--- the bytes of a source are accepted: they spell a program that is
+-- the bytes of a source are accepted: they spell a program that is small, and accepted as such
 abbrev pub Accepted : List ℕ → Type 0
-Accepted source = (p : List Entry) × Spells source p × IsAcceptedProgram p
+Accepted source = (p : List Entry) × (q : List SmallEntry) × Spells source p × (small_program p ≡ Some q) × IsAcceptedProgram q
 
 -- a program within the depth, which the source spells
 pub record SpellsWithin (source : List ℕ) (p : List Entry) : Type 0 where
   pub spells : Spells source p
   pub within : program_depth p ≤ depth_limit
 
+-- the small program of the program within the depth that the source spells
+pub record SpellsSmall (source : List ℕ) (q : List SmallEntry) : Type 0 where
+  pub program : List Entry
+  pub within : SpellsWithin source program
+  pub small : small_program program ≡ Some q
+
 -- a source within the limits is accepted, and this is its kernel
 pub record IsAcceptedSource (source : List ℕ) (functions : List Function) : Type 0 where
-  pub program : List Entry
+  pub program : List SmallEntry
   pub short : length source ≤ source_limit
-  pub spelled : SpellsWithin source program
+  pub spelled : SpellsSmall source program
   pub accepted : IsAcceptedProgram program
   pub kernel : functions ≡ functions_of program
 
--- The line of a refusal: the bytes spell no program of the grammar, or one within the depth that isn't accepted.
+-- The line of a refusal: the bytes spell no program of the grammar, or one within the depth that isn't small, or one that is
+-- small and isn't accepted.
 pub data Refuses (file source text : List ℕ) : Type 0 where
   not_built : NoProgram source → text ≡ not_built_line file → Refuses file source text
-  not_accepted : (p : List Entry) → SpellsWithin source p → (Accepted source → ⊥) → text ≡ not_accepted_line file → Refuses file source text
+  not_small : (p : List Entry) → SpellsWithin source p → small_program p ≡ None → text ≡ not_built_line file → Refuses file source text
+  not_accepted : (q : List SmallEntry) → SpellsSmall source q → (Accepted source → ⊥) → text ≡ not_accepted_line file → Refuses file source text
 
 -- The line of a limit: the source is too long, or it spells a program that is too deep.
 pub data Exceeds (source text : List ℕ) : Type 0 where

@@ -2,8 +2,10 @@
 use Rattle.std.specs.Prelude.{◌≡◌, ℕ, ◌<◌, ◌≤◌, true, false, List, length, map, Some, None, codes, ◌⊎◌}
 use Rattle.cg_core.specs.Kernels.{Function, kernel_of}
 use Rattle.cg_eval.specs.Plain.{plain_kernel}
-use Rattle.cg_surface.specs.Trees.{Entry}
-use Rattle.cg_surface.specs.Desugar.{functions_of}
+use Rattle.cg_small.specs.Desugar.{functions_of}
+use Rattle.cg_small.specs.Small.{small_program}
+use Rattle.cg_small.specs.Trees.{Entry as SmallEntry}
+use Rattle.cg_surface.specs.Programs.{Entry}
 use Rattle.cg_typing.specs.Accepted.{IsAcceptedKernel}
 use Rattle.cg_typing.specs.declared.checked.Checked.{Checked}
 use Rattle.cg_typing.specs.Holds.{kernel_in, cores_in}
@@ -28,25 +30,37 @@ pub record IsCheckedKernel (functions : List Function) (checked : Checked) : Typ
   pub same : functions_in checked ≡ functions
   pub cores : HoldsCores checked
 
--- a program is accepted, and its kernel is kept so
-pub record IsCheckedProgram (p : List Entry) (checked : Checked) : Type 0 where
+-- a small program is accepted, and its kernel is kept so
+pub record IsCheckedProgram (p : List SmallEntry) (checked : Checked) : Type 0 where
   pub accepted : IsAcceptedProgram p
   pub same : functions_in checked ≡ functions_of p
   pub cores : HoldsCores checked
+
+-- a program is a small one, which is accepted, and its kernel is kept so
+pub record IsCheckedSpelled (p : List Entry) (checked : Checked) : Type 0 where
+  pub program : List SmallEntry
+  pub small : small_program p ≡ Some program
+  pub holds : IsCheckedProgram program checked
 
 -- a source is accepted, and its kernel is kept so
 pub record IsCheckedSource (source : List ℕ) (checked : Checked) : Type 0 where
   pub accepted : IsAcceptedSource source (functions_in checked)
   pub cores : HoldsCores checked
 
--- the refusal of a kernel, and of a program
+-- the refusal of a kernel, of a small program, and of a program
 abbrev pub RefusesKernel : List ℕ → List Function → Status → List ℕ → Type 0
 RefusesKernel file functions Refused text = (IsAcceptedKernel functions → ⊥) × (text ≡ not_accepted_line file)
 RefusesKernel file functions _ text = ⊥
 
-abbrev pub RefusesProgram : List ℕ → List Entry → Status → List ℕ → Type 0
+abbrev pub RefusesProgram : List ℕ → List SmallEntry → Status → List ℕ → Type 0
 RefusesProgram file p Refused text = (IsAcceptedProgram p → ⊥) × (text ≡ not_accepted_line file)
 RefusesProgram file p _ text = ⊥
+
+abbrev pub RefusesSpelled : List ℕ → List Entry → Status → List ℕ → Type 0
+RefusesSpelled file p Refused text =
+    ((small_program p ≡ None) × (text ≡ not_built_line file))
+    ⊎ ((q : List SmallEntry) × (small_program p ≡ Some q) × RefusesProgram file q Refused text)
+RefusesSpelled file p _ text = ⊥
 
 -- the refusal of an entry of an accepted source
 abbrev pub RefusesEntry : List ℕ → List ℕ → List Function → Status → List ℕ → Type 0

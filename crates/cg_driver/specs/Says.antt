@@ -11,12 +11,14 @@ use Rattle.cg_outside.specs.Held.{Held, IsReadOf}
 use Rattle.cg_outside.specs.Causes.{Rose}
 use Rattle.cg_parser.specs.Grammar.{Spells}
 use Rattle.cg_parser.specs.Answers.{depth_limit, NoProgram}
-use Rattle.cg_surface.specs.Trees.{Entry, program_depth}
+use Rattle.cg_small.specs.Small.{small_program}
+use Rattle.cg_small.specs.Trees.{Entry as SmallEntry}
+use Rattle.cg_surface.specs.Programs.{Entry, program_depth}
 use Rattle.cg_value.specs.Values.{number, function}
 use Rattle.cg_words.specs.Words.{Command, check, run, command_of}
 use Rattle.cg_driver.specs.declared.status.Status.{Status}
 use Rattle.cg_driver.specs.declared.status.Status.TheVariants.{Done, Refused, Usage, ReadFault, WriteFault, Memory, StepLimit, HeapRefused, TooLarge}
-use Rattle.cg_driver.specs.Answer.{source_limit, heap_limit, Accepted, SpellsWithin, IsAcceptedSource, Exceeds, Judges, entry_at, IsReady, RefusesRun, IsArgument, IsJudgedRun}
+use Rattle.cg_driver.specs.Answer.{source_limit, heap_limit, Accepted, SpellsWithin, SpellsSmall, IsAcceptedSource, Exceeds, Judges, entry_at, IsReady, RefusesRun, IsArgument, IsJudgedRun}
 use Rattle.cg_driver.specs.Lines.{usage_text, unread_line}
 use Rattle.cg_driver.specs.Run.{AreCores, table_in, RunsOut}
 
@@ -86,9 +88,17 @@ IsReadBy (Some (run file entry heap steps)) name = (name ≡ file) ⊎ (name ≡
 abbrev pub IsTooLarge : List ℕ → Type 0
 IsTooLarge source = (source_limit < length source) ⊎ ((length source ≤ source_limit) × (p : List Entry) × Spells source p × (depth_limit < program_depth p))
 
--- the source is within its limit and spells no program, or one within the depth that isn't accepted
+-- the source spells a program within the depth that isn't small
+abbrev pub IsNotSmall : List ℕ → Type 0
+IsNotSmall source = (p : List Entry) × SpellsWithin source p × (small_program p ≡ None)
+
+-- it spells a small program within the depth that isn't accepted
+abbrev pub IsNotAccepted : List ℕ → Type 0
+IsNotAccepted source = ((q : List SmallEntry) × SpellsSmall source q) × (Accepted source → ⊥)
+
+-- the source is within its limit and spells no program, or one within the depth that isn't small, or isn't accepted
 abbrev pub IsRefused : List ℕ → Type 0
-IsRefused source = (length source ≤ source_limit) × (NoProgram source ⊎ (((p : List Entry) × SpellsWithin source p) × (Accepted source → ⊥)))
+IsRefused source = (length source ≤ source_limit) × (NoProgram source ⊎ (IsNotSmall source ⊎ IsNotAccepted source))
 
 -- what a check comes to, of the bytes of its file
 abbrev pub CheckStatus : List ℕ → Status → Type 0

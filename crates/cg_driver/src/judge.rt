@@ -3,9 +3,10 @@ ghost use Rattle.std.specs.Prelude.{IfOk};
 ghost use Rattle.std.specs.List.{All};
 ghost use Rattle.cg_core.specs.Kernels.{kernel_of};
 ghost use Rattle.cg_core.specs.Small.{IsSmallKernel};
-ghost use Rattle.cg_surface.specs.Trees.{program_of, OnlySumsEntry};
+ghost use Rattle.cg_small.specs.Trees.{program_of, OnlySumsEntry};
+ghost use Rattle.cg_surface.specs.Programs as programs;
 ghost use Rattle.cg_driver.specs.Answer.{RefusesSource};
-ghost use Rattle.cg_driver.specs.Judged.{IsCheckedKernel, IsCheckedProgram, IsCheckedSource, RefusesKernel, RefusesProgram};
+ghost use Rattle.cg_driver.specs.Judged.{IsCheckedKernel, IsCheckedProgram, IsCheckedSpelled, IsCheckedSource, RefusesKernel, RefusesProgram, RefusesSpelled};
 ghost use Rattle.cg_driver.specs.Reports.{Steps};
 
 use crate::lines::{beyond, not_accepted, not_built};
@@ -15,7 +16,7 @@ use cg_check::{Refusal, check};
 use cg_core::Kernel;
 use cg_parser::{ParseFault, parse};
 use cg_resolve::{Fault, resolve};
-use cg_surface::Program;
+use cg_small::{Program, small};
 use cg_typing::Checked;
 use std::alloc::Global;
 
@@ -34,7 +35,7 @@ fn judge_kernel(alloc: Global, file: &str, kernel: Kernel) -> Result<Step<Checke
     }
 }
 
-/// Judges a program: its names, and then its kernel.
+/// Judges a small program: its names, and then its kernel.
 fn judge_program(alloc: Global, file: &str, program: &Program) -> Result<Step<Checked>, Memory>
     requires { All OnlySumsEntry (program_of program.now) }
     ensures { IfOk result (Steps (IsCheckedProgram (program_of program.now)) (RefusesProgram file.now (program_of program.now))) }
@@ -46,7 +47,22 @@ fn judge_program(alloc: Global, file: &str, program: &Program) -> Result<Step<Ch
     }
 }
 
-/// Judges a source: its size, the program that it spells, its depth, and whether that program is accepted.
+/// Judges a program: whether it is a small one, and then that.
+fn judge_spelled(
+    alloc: Global,
+    file: &str,
+    program: cg_surface::Program,
+) -> Result<Step<Checked>, Memory>
+    ensures { IfOk result (Steps (IsCheckedSpelled (programs.program_of program)) (RefusesSpelled file.now (programs.program_of program))) }
+{
+    match small(alloc, program) {
+        Ok(Some(program)) => judge_program(alloc, file, &program),
+        Ok(None) => Ok(Step::Ends(not_built(alloc, file)?)),
+        Err(_) => Err(Memory),
+    }
+}
+
+/// Judges a source: its size, the program that it spells, its depth, and whether that program is small and accepted.
 pub(crate) fn judge(alloc: Global, file: &str, source: &[u8]) -> Result<Step<Checked>, Memory>
     ensures { IfOk result (Steps (IsCheckedSource source.now) (RefusesSource file.now source.now)) }
 {
@@ -54,7 +70,7 @@ pub(crate) fn judge(alloc: Global, file: &str, source: &[u8]) -> Result<Step<Che
         return Ok(Step::Ends(beyond(alloc, "source")?));
     }
     match parse(alloc, source) {
-        Ok(program) => judge_program(alloc, file, &program),
+        Ok(program) => judge_spelled(alloc, file, program),
         Err(ParseFault::S1(_)) => Ok(Step::Ends(not_built(alloc, file)?)),
         Err(ParseFault::S2(_)) => Ok(Step::Ends(not_built(alloc, file)?)),
         Err(ParseFault::S3(_)) => Ok(Step::Ends(not_built(alloc, file)?)),

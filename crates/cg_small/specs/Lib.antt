@@ -1,3 +1,4 @@
 pub mod Circles
 pub mod Desugar
+pub mod Small
 pub mod Trees

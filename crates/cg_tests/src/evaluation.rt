@@ -5,7 +5,7 @@ ghost use Rattle.cg_core.specs.Kernels.{kernel_of};
 ghost use Rattle.cg_core.specs.Small.{IsSmallKernel};
 ghost use Rattle.cg_eval.specs.Plain.{plain_kernel};
 ghost use Rattle.cg_typing.specs.Holds.{kernel_in};
-ghost use Rattle.cg_surface.specs.Trees.{program_of, OnlySumsEntry};
+ghost use Rattle.cg_small.specs.Trees.{program_of, OnlySumsEntry};
 
 use cg_base::{Items, Name, Ty, Word};
 use cg_check::check;
@@ -16,7 +16,7 @@ use cg_eval::{EvalFault, eval, is_plain};
 use cg_lower::{lower, lower_function};
 use cg_parser::parse;
 use cg_resolve::resolve;
-use cg_surface::Program;
+use cg_small::{Program, small};
 use cg_typing::Checked;
 use cg_value::{Value, print_value};
 use std::alloc::Global;
@@ -33,13 +33,25 @@ fn checked_kernel(rt: &impl Abort, alloc: Global, kernel: Kernel) -> Result<Chec
     }
 }
 
-/// A program, resolved and checked.
+/// A small program, resolved and checked.
 fn checked_program(rt: &impl Abort, alloc: Global, program: &Program) -> Result<Checked, Fail>
     requires { All OnlySumsEntry (program_of program.now) }
 {
     match resolve(alloc, program) {
         Ok(kernel) => checked_kernel(rt, alloc, kernel),
         Err(_) => panic!(rt; "a name is at fault"),
+    }
+}
+
+/// A program, made a small one and checked.
+fn checked_spelled(
+    rt: &impl Abort,
+    alloc: Global,
+    program: cg_surface::Program,
+) -> Result<Checked, Fail> {
+    match small(alloc, program) {
+        Ok(Some(program)) => checked_program(rt, alloc, &program),
+        _ => panic!(rt; "not small"),
     }
 }
 
@@ -50,7 +62,7 @@ pub(crate) fn checked_source(
     source: &str,
 ) -> Result<Checked, Fail> {
     match parse(alloc, source.as_bytes()) {
-        Ok(program) => checked_program(rt, alloc, &program),
+        Ok(program) => checked_spelled(rt, alloc, program),
         Err(_) => panic!(rt; "not spelled"),
     }
 }
