@@ -1,5 +1,5 @@
 -- The machine reads each program that the tokens spell.
-use Rattle.std.proofs.Common.{◌≡◌, ℕ, List, [], ◌∷◌, ◌++◌, ⊎_elim, refl, sym, ◌∙◌, ap, subst, true, false, Bool, Option, Some, None, append_assoc}
+use Rattle.std.proofs.Common.{◌≡◌, List, [], ◌∷◌, ◌++◌, ⊎_elim, refl, sym, ◌∙◌, ap, true, false, Option, Some, None, append_assoc}
 use Rattle.std.proofs.lemmas.List.{append-nil}
 use Rattle.cg_base.specs.declared.kind.Bound.{Bound}
 use Rattle.cg_base.specs.declared.place.Place.{Place}
@@ -12,7 +12,7 @@ use Rattle.cg_surface.specs.Exprs.{Expr}
 use Rattle.cg_surface.specs.Programs.{Entry, synonym, abstract, signature, define}
 use Rattle.cg_symbols.specs.Symbols.{Symbol, lower, upper, type_word, all_word, opening, closing, colon, has_kinds, equals, comma, dot, Seen, is_first}
 use Rattle.cg_symbols.specs.Readings.{◌then◌, head, inner, inner_sign, ArePast, IsPart}
-use Rattle.cg_parser.specs.Grammar.{are_letters, kinds_of, no_kinds, bound, ReadsParams, ReadsVar, VarsBefore, ReadsVars, ReadsAll, nothing, alone, listed, ReadsEntry, ReadsProgram}
+use Rattle.cg_parser.specs.Grammar.{no_kinds, bound, ReadsParams, ReadsVar, VarsBefore, ReadsAll, nothing, alone, listed, ReadsEntry, ReadsProgram}
 use Rattle.cg_parser.specs.Machine.{State, Between, AfterType, InParams, InSynonym, AfterName, AfterColon, AfterAll, WantVar, AfterVar, WantKinds, AfterKinds, WantDot, InSignature, InParam, InBody, Failed, name_at}
 use Rattle.cg_parser.specs.Machine as machine
 use Rattle.cg_parser.specs.Plain.{entries}

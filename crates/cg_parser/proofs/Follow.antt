@@ -1,5 +1,5 @@
 -- The machine over bounded items follows that over whole ones.
-use Rattle.std.proofs.Common.{◌≡◌, ℕ, ◌≤◌, ◌<◌, max, List, [], ◌∷◌, ◌++◌, refl, sym, ◌∙◌, ap, arith, true, false, Bool, cond, Option, Some, None}
+use Rattle.std.proofs.Common.{◌≡◌, ℕ, max, List, [], ◌∷◌, ◌++◌, refl, sym, ◌∙◌, ap, arith, true, false, Bool, cond, Option, Some, None}
 use Rattle.std.specs.Prelude.{nat_le}
 use Rattle.std.proofs.lemmas.Bool.{le-leb, lt-leb, leb-true, leb-false}
 use Rattle.cg_base.specs.declared.kind.Bound.{Bound}

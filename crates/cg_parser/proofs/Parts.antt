@@ -1,6 +1,5 @@
 -- What a part of an item, read by a reader of its own, has read.
-use Rattle.std.proofs.Common.{◌≡◌, List, [], ◌∷◌, ◌++◌, refl, sym, ◌∙◌, ap, subst, true, false, Bool, Option, Some, None, append_assoc}
-use Rattle.std.specs.Prelude.{⊤}
+use Rattle.std.proofs.Common.{◌≡◌, List, [], ◌∷◌, ◌++◌, refl, sym, ◌∙◌, ap, true, false, Bool, Some, None, append_assoc}
 use Rattle.cg_base.specs.Reader.{Reader, Reads, run}
 use Rattle.cg_symbols.specs.Symbols.{Seen, is_first}
 use Rattle.cg_symbols.specs.Readings.{ArePast, IsPart}

@@ -1,5 +1,5 @@
 -- What is open can be completed, and what is shut stays shut.
-use Rattle.std.proofs.Common.{◌≡◌, ℕ, List, [], ◌∷◌, ◌++◌, refl, sym, ◌∙◌, ap, true, false, Bool, cond, Option, Some, None}
+use Rattle.std.proofs.Common.{◌≡◌, ℕ, List, [], ◌∷◌, ◌++◌, refl, ◌∙◌, ap, true, false, Bool, cond, Option, Some, None}
 use Rattle.cg_base.specs.declared.kind.Bound.{Bound}
 use Rattle.cg_base.specs.declared.place.Place.{Place}
 use Rattle.cg_base.specs.Reader.{Reader, Reads}
@@ -15,7 +15,7 @@ use Rattle.cg_parser.specs.Grammar.{ReadsProgram}
 use Rattle.cg_parser.specs.Machine.{State, Between, AfterType, InParams, InSynonym, AfterName, AfterColon, AfterAll, WantVar, AfterVar, WantKinds, AfterKinds, WantDot, InSignature, InParam, InBody, Failed}
 use Rattle.cg_parser.specs.Machine as machine
 use Rattle.cg_parser.specs.Plain.{entries}
-use Rattle.cg_parser.proofs.Parts.{HasRead, completes}
+use Rattle.cg_parser.proofs.Parts.{completes}
 use Rattle.cg_parser.proofs.Complete as complete
 use Rattle.cg_parser.proofs.Complete.{Parts}
 use Rattle.cg_parser.proofs.Sound as sound

@@ -1,9 +1,7 @@
 -- The parser's reader: that of items, over those of types, patterns and expressions.
-use Rattle.std.proofs.Common.{◌≡◌, ℕ, List, refl, Option, Some, false}
+use Rattle.std.proofs.Common.{List, refl, Option}
 use Rattle.cg_base.specs.Reader.{Reader, Reads}
-use Rattle.cg_surface.specs.Written.{Written}
 use Rattle.cg_surface.specs.Patterns.{Pattern}
-use Rattle.cg_surface.specs.Exprs.{Expr}
 use Rattle.cg_surface.specs.Programs.{Entry}
 use Rattle.cg_symbols.specs.Symbols.{Seen}
 use Rattle.cg_symbols.specs.Follows.{Follows}

@@ -1,8 +1,5 @@
 -- The machine over whole trees, however deep they are.
 use Rattle.std.specs.Prelude.{List, [], ◌∷◌, ◌++◌}
-use Rattle.cg_base.specs.declared.place.Place.{Place}
-use Rattle.cg_base.specs.declared.kind.Bound.{Bound}
-use Rattle.cg_core.specs.declared.at.At.{At}
 use Rattle.cg_surface.specs.Written.{Written}
 use Rattle.cg_surface.specs.Patterns.{Pattern}
 use Rattle.cg_surface.specs.Exprs.{Expr}

@@ -17,7 +17,6 @@ use Rattle.cg_parse_terms.specs.Bounded as bounded_exprs
 use Rattle.cg_parse_terms.specs.Views as expr_state
 use Rattle.cg_parse_types.specs.declared.reader.TypeEnd.{TypeEnd}
 use Rattle.cg_parse_terms.specs.declared.reader.ExprEnd.{ExprEnd}
-use Rattle.cg_parser.specs.Bounded.{bounded}
 use Rattle.cg_parser.specs.Machine.{State}
 use Rattle.cg_parser.specs.Machine as machine
 use Rattle.cg_parser.specs.declared.phase.Parts.{Parts}
