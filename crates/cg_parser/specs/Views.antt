@@ -69,19 +69,19 @@ Held = State bounded_types.Held bounded_patterns.Held bounded_exprs.Held (Option
 
 -- where among items the reader stands, with the items before and the readers of the parts
 abbrev pub state_of : Option (List Entry) → Phase → Read → Held
-state_of done Between r = machine.Between done
-state_of done AfterType r = machine.AfterType done
-state_of done (InParams at params) r = machine.InParams done at params
-state_of done (InSynonym at params) r = machine.InSynonym done at params r.types
-state_of done (AfterName at) r = machine.AfterName done at
-state_of done (AfterColon at) r = machine.AfterColon done at
-state_of done (AfterAll at) r = machine.AfterAll done at
-state_of done (WantVar at vars) r = machine.WantVar done at vars.bounds vars.places
-state_of done (AfterVar at vars n q) r = machine.AfterVar done at vars.bounds vars.places n q
-state_of done (WantKinds at vars n q) r = machine.WantKinds done at vars.bounds vars.places n q
-state_of done (AfterKinds at vars v q) r = machine.AfterKinds done at vars.bounds vars.places v q
-state_of done (WantDot at vars) r = machine.WantDot done at vars.bounds vars.places
-state_of done (InSignature at vars) r = machine.InSignature done at vars.bounds vars.places r.types
-state_of done (InParam at) r = machine.InParam done at r.patterns
-state_of done (InBody at x) r = machine.InBody done at (pat_of x) r.exprs
-state_of done Failed r = machine.Failed
+state_of before Between r = machine.Between before
+state_of before AfterType r = machine.AfterType before
+state_of before (InParams at params) r = machine.InParams before at params
+state_of before (InSynonym at params) r = machine.InSynonym before at params r.types
+state_of before (AfterName at) r = machine.AfterName before at
+state_of before (AfterColon at) r = machine.AfterColon before at
+state_of before (AfterAll at) r = machine.AfterAll before at
+state_of before (WantVar at vars) r = machine.WantVar before at vars.bounds vars.places
+state_of before (AfterVar at vars n q) r = machine.AfterVar before at vars.bounds vars.places n q
+state_of before (WantKinds at vars n q) r = machine.WantKinds before at vars.bounds vars.places n q
+state_of before (AfterKinds at vars v q) r = machine.AfterKinds before at vars.bounds vars.places v q
+state_of before (WantDot at vars) r = machine.WantDot before at vars.bounds vars.places
+state_of before (InSignature at vars) r = machine.InSignature before at vars.bounds vars.places r.types
+state_of before (InParam at) r = machine.InParam before at r.patterns
+state_of before (InBody at x) r = machine.InBody before at (pat_of x) r.exprs
+state_of before Failed r = machine.Failed
