@@ -3,7 +3,7 @@ use Rattle.std.proofs.Common.{◌≡◌, List, [], ◌∷◌, refl, true, false,
 use Rattle.cg_base.specs.declared.place.Place.{Place}
 use Rattle.cg_base.specs.Reader.{Reads}
 use Rattle.cg_surface.specs.Patterns.{Pattern, name, paren, tuple, and_pattern, and_field}
-use Rattle.cg_symbols.specs.Symbols.{Symbol, lower, wildcard, closing, closing_brace, equals, Seen}
+use Rattle.cg_symbols.specs.Symbols.{Symbol, lower, wildcard, closing, closing_brace, equals, arrow, Seen}
 use Rattle.cg_symbols.specs.Readings.{ArePast}
 use Rattle.cg_parse_patterns.specs.Grammar.{SpellsPattern}
 use Rattle.cg_parse_patterns.specs.Machine as machine
@@ -82,3 +82,12 @@ ends (Head q n fs) x p h = refl
 ends (WantField o done fs) x p h = cc
 ends (AfterField o done at fs) x p h = cc
 ends Stuck x p h = refl
+
+-- nor is an arrow, which begins none either
+pub no_arrow : (s : plain.Stage) (x : Pattern) (p : Place) → plain_reader.finish s ≡ Some x → plain_reader.is_open (plain_reader.step s (record { symbol = arrow; place = p })) ≡ false
+no_arrow (Want fs) x p h = cc
+no_arrow (Have y fs) x p h = refl
+no_arrow (Head q n fs) x p h = refl
+no_arrow (WantField o done fs) x p h = cc
+no_arrow (AfterField o done at fs) x p h = cc
+no_arrow Stuck x p h = refl

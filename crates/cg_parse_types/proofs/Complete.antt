@@ -34,8 +34,8 @@ is_end arrow = true
 is_end closing = true
 is_end comma = true
 is_end closing_brace = true
-is_end bar = true
-is_end greater = true
+is_end (bar begins) = true
+is_end (greater joined) = true
 is_end y = false
 
 -- a mode that stands behind a type under these frames
@@ -51,8 +51,8 @@ past_alone t fs arrow p e = refl
 past_alone t fs closing p e = refl
 past_alone t fs comma p e = refl
 past_alone t fs closing_brace p e = refl
-past_alone t fs bar p e = refl
-past_alone t fs greater p e = refl
+past_alone t fs (bar begins) p e = refl
+past_alone t fs (greater joined) p e = refl
 past_alone t fs y p e = cc
 
 past_head : (q : Place) (n : List ℕ) (fs : List Frame) (y : Symbol) (p : Place) → is_end y ≡ true → mode_step (Head q n fs) y p ≡ go_past y p (bare q n) fs
@@ -61,8 +61,8 @@ past_head q n fs arrow p e = refl
 past_head q n fs closing p e = refl
 past_head q n fs comma p e = refl
 past_head q n fs closing_brace p e = refl
-past_head q n fs bar p e = refl
-past_head q n fs greater p e = refl
+past_head q n fs (bar begins) p e = refl
+past_head q n fs (greater joined) p e = refl
 past_head q n fs y p e = cc
 
 behind_alone : (t : Written) (fs : List Frame) → Behind t fs (Alone t fs)
@@ -139,7 +139,7 @@ first (tuple p parts) ts rest r = record { y = opening; p = p; more = r.0; reads
 first (paren p a) ts rest r = record { y = opening; p = p; more = r.0; reads = r.1; begins = refl }
 first (function p a b) ts rest r = first a ts r.1.0 r.1.1
 first (fields p boxed gs) ts rest r = record { y = record_sign boxed; p = p; more = r.0; reads = r.1; begins = record_starts boxed }
-first (variant p choices) ts rest r = record { y = less; p = p; more = r.0; reads = r.1; begins = refl }
+first (variant p choices) ts rest r = record { y = less r.1.0; p = p; more = r.0; reads = r.1.1; begins = refl }
 first (observed p a) ts rest r = first a ts r.1.0 r.1.1
 first (take_some p a ns) ts rest r = first a ts r.1.0 r.1.1
 first (take_all p a q) ts rest r = first a ts r.1.0 r.1.1
@@ -157,8 +157,8 @@ args_start : (q : Place) (n : List ℕ) (args : Writtens) (t : Written) (fs : Li
 args_start q n args t fs y p h = rw h refl
 
 alt_starts : (q : Place) (choices : WrittenAlts) (at : At) (fs : List Frame) (y : Symbol) (p : Place) → starts y ≡ true → mode_step (AfterAlt q choices at fs) y p ≡ start y p (InAlt q choices at ∷ fs)
-alt_starts q choices at fs bar p h = cc
-alt_starts q choices at fs greater p h = cc
+alt_starts q choices at fs (bar begins) p h = cc
+alt_starts q choices at fs (greater joined) p h = cc
 alt_starts q choices at fs y p h = refl
 
 -- the mode behind a name and some of its arguments
@@ -303,18 +303,18 @@ mutual
   reads (variant p (and_plain choices at)) fs ts rest b h r =
       let k = r.2.1 in
       reached (variant p (and_plain choices at)) fs ts rest
-      (go (Want fs) less p ts r.0 (WantAlt p no_alts fs) r.1 refl
+      (go (Want fs) (less r.1.0) p ts r.0 (WantAlt p no_alts fs) r.1.1 refl
       ∙ alts_read p fs choices r.0 k.0 b k.1
       ∙ go (WantAlt p choices fs) (upper at.name) at.place k.0 r.2.0 (AfterAlt p choices at fs) k.2 refl
-      ∙ go (AfterAlt p choices at fs) greater r.2.2.0 r.2.0 rest (Alone (variant p (and_plain choices at)) fs) r.2.2.1 refl)
+      ∙ go (AfterAlt p choices at fs) (greater r.2.2.1.0) r.2.2.0 r.2.0 rest (Alone (variant p (and_plain choices at)) fs) r.2.2.1.1 refl)
   reads (variant p (and_alt choices at a)) fs ts rest b h r =
       let k = r.2.1 in
       reached (variant p (and_alt choices at a)) fs ts rest
-      (go (Want fs) less p ts r.0 (WantAlt p no_alts fs) r.1 refl
+      (go (Want fs) (less r.1.0) p ts r.0 (WantAlt p no_alts fs) r.1.1 refl
       ∙ alts_read p fs choices r.0 k.0 b.0 k.1
       ∙ go (WantAlt p choices fs) (upper at.name) at.place k.0 k.2.0 (AfterAlt p choices at fs) k.2.1 refl
       ∙ payload_read p fs choices at a k.2.0 r.2.0 b.1 k.2.2 (reads a (InAlt p choices at ∷ fs) k.2.0 r.2.0 b.2 b.1 k.2.2)
-      ∙ go (Alone a (InAlt p choices at ∷ fs)) greater r.2.2.0 r.2.0 rest (Alone (variant p (and_alt choices at a)) fs) r.2.2.1 refl)
+      ∙ go (Alone a (InAlt p choices at ∷ fs)) (greater r.2.2.1.0) r.2.2.0 r.2.0 rest (Alone (variant p (and_alt choices at a)) fs) r.2.2.1.1 refl)
   reads (observed p a) fs ts rest b h r =
       let k = r.1 in
       let m = reads a fs ts k.0 b.1 (omega (arith, b.0)) k.1 in
@@ -382,13 +382,13 @@ mutual
       let k = r.2 in
       alts_read p fs choices ts r.0 b r.1
       ∙ go (WantAlt p choices fs) (upper at.name) at.place r.0 k.0 (AfterAlt p choices at fs) k.1 refl
-      ∙ go (AfterAlt p choices at fs) bar k.2.0 k.0 rest (WantAlt p (and_plain choices at) fs) k.2.1 refl
+      ∙ go (AfterAlt p choices at fs) (bar k.2.1.0) k.2.0 k.0 rest (WantAlt p (and_plain choices at) fs) k.2.1.1 refl
   alts_read p fs (and_alt choices at a) ts rest b r =
       let k = r.2 in let j = k.2 in
       alts_read p fs choices ts r.0 b.0 r.1
       ∙ go (WantAlt p choices fs) (upper at.name) at.place r.0 k.0 (AfterAlt p choices at fs) k.1 refl
       ∙ payload_read p fs choices at a k.0 j.0 b.1 j.1 (reads a (InAlt p choices at ∷ fs) k.0 j.0 b.2 b.1 j.1)
-      ∙ go (Alone a (InAlt p choices at ∷ fs)) bar j.2.0 j.0 rest (WantAlt p (and_alt choices at a) fs) j.2.1 refl
+      ∙ go (Alone a (InAlt p choices at ∷ fs)) (bar j.2.1.0) j.2.0 j.0 rest (WantAlt p (and_alt choices at a) fs) j.2.1.1 refl
 
 -- each type that the tokens spell is read
 pub complete : (ts : List Seen) (t : Written) → SpellsType ts t → mode_end (run (Want []) ts) ≡ Some t

@@ -195,8 +195,8 @@ module _ {X L F V Y M G W : Type 0} (B : Builder X L F V) (C : Builder Y M G W) 
   same_on_end closing p t fs = same_on_close t fs
   same_on_end comma p t fs = same_on_comma t fs
   same_on_end closing_brace p t fs = same_on_closing_brace t fs
-  same_on_end bar p t fs = same_on_bar t fs
-  same_on_end greater p t fs = same_on_greater t fs
+  same_on_end (bar first) p t fs = same_on_bar t fs
+  same_on_end (greater joined) p t fs = same_on_greater t fs
   same_on_end y p t fs = refl
 
   same_go_past : (y : Symbol) (p : Place) (t : X) (fs : Stack) → machine.go_past C y p (h.x t) (stack fs) ≡ mode (machine.go_past B y p t fs)
@@ -226,7 +226,7 @@ module _ {X L F V Y M G W : Type 0} (B : Builder X L F V) (C : Builder Y M G W) 
   same_start closing p fs = same_on_empty fs
   same_start brace p fs = ap (λ us. WantField p true us (stack fs)) (sym h.on_no_fields)
   same_start unboxed p fs = ap (λ us. WantField p false us (stack fs)) (sym h.on_no_fields)
-  same_start less p fs = ap (λ us. WantAlt p us (stack fs)) (sym h.on_no_alts)
+  same_start (less joined) p fs = ap (λ us. WantAlt p us (stack fs)) (sym h.on_no_alts)
   same_start y p fs = refl
 
   same_next_argument : (y : Symbol) (p : Place) (t : X) (fs : Stack) → machine.next_argument C y p (h.x t) (stack fs) ≡ mode (machine.next_argument B y p t fs)
@@ -270,8 +270,8 @@ module _ {X L F V Y M G W : Type 0} (B : Builder X L F V) (C : Builder Y M G W) 
   same_alt_name y p q choices fs = refl
 
   same_after_alt : (y : Symbol) (p q : Place) (choices : V) (at : At) (fs : Stack) → machine.after_alt C y p q (h.v choices) at (stack fs) ≡ mode (machine.after_alt B y p q choices at fs)
-  same_after_alt bar p q choices at fs = ap (λ us. WantAlt q us (stack fs)) (sym (h.on_plain choices at))
-  same_after_alt greater p q choices at fs =
+  same_after_alt (bar first) p q choices at fs = ap (λ us. WantAlt q us (stack fs)) (sym (h.on_plain choices at))
+  same_after_alt (greater joined) p q choices at fs =
       new_alone _ (B.variant q (B.and_plain choices at)) fs (h.on_variant q (B.and_plain choices at) ∙ ap (C.variant q) (h.on_plain choices at))
   same_after_alt y p q choices at fs = same_start y p (InAlt q choices at ∷ fs)
 

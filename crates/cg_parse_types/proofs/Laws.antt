@@ -26,7 +26,7 @@ at y = record { symbol = y; place = there }
 abbrev is_closer : Symbol → Bool
 is_closer closing = true
 is_closer closing_brace = true
-is_closer greater = true
+is_closer (greater joined) = true
 is_closer y = false
 
 -- tokens that begin with one of them
@@ -49,7 +49,7 @@ shut f t fs h = rw (le-leb (closes f) 3 h) refl
 same_step : (f : Frame) (t : Written) (fs : List Frame) (y : Symbol) (p : Place) → closes f ≤ 3 → is_closer y ≡ true → go_past y p t (f ∷ fs) ≡ go_past y p (fill f t) fs
 same_step f t fs closing p h c = ap (λ r. machine.on_close trees r.0 r.1) (shut f t fs h)
 same_step f t fs closing_brace p h c = ap (λ r. machine.on_closing_brace trees r.0 r.1) (shut f t fs h)
-same_step f t fs greater p h c = ap (λ r. machine.on_greater trees r.0 r.1) (shut f t fs h)
+same_step f t fs (greater joined) p h c = ap (λ r. machine.on_greater trees r.0 r.1) (shut f t fs h)
 same_step f t fs y p h c = cc
 
 skip : (f : Frame) (t : Written) (fs : List Frame) (rest : List Seen) → closes f ≤ 3 → IsClosing rest → mode_end (run (Taken t (f ∷ fs)) rest) ≡ mode_end (run (Taken (fill f t) fs) rest)
@@ -63,7 +63,7 @@ skipped f t fs h c = (c.0, c.1, c.2, c.3, skip f t fs c.0 h c.1 ∙ c.4)
 alone_step : (t : Written) (fs : List Frame) (y : Symbol) (p : Place) → is_closer y ≡ true → mode_step (Alone t fs) y p ≡ go_past y p t fs
 alone_step t fs closing p c = refl
 alone_step t fs closing_brace p c = refl
-alone_step t fs greater p c = refl
+alone_step t fs (greater joined) p c = refl
 alone_step t fs y p c = cc
 
 alone_same : (t : Written) (fs : List Frame) (rest : List Seen) → IsClosing rest → mode_end (run (Alone t fs) rest) ≡ mode_end (run (Taken t fs) rest)
@@ -73,7 +73,7 @@ alone_same t fs (s ∷ ts) c = ap (λ m. mode_end (run m ts)) (alone_step t fs s
 head_step : (q : Place) (n : List ℕ) (fs : List Frame) (y : Symbol) (p : Place) → is_closer y ≡ true → mode_step (Head q n fs) y p ≡ go_past y p (bare q n) fs
 head_step q n fs closing p c = refl
 head_step q n fs closing_brace p c = refl
-head_step q n fs greater p c = refl
+head_step q n fs (greater joined) p c = refl
 head_step q n fs y p c = cc
 
 head_same : (q : Place) (n : List ℕ) (fs : List Frame) (rest : List Seen) → IsClosing rest → mode_end (run (Head q n fs) rest) ≡ mode_end (run (Taken (bare q n) fs) rest)
@@ -90,7 +90,7 @@ completed [] t = ([], tt, tt, t, refl)
 completed (InParen p ∷ fs) t = closed_by closing t _ (InParen p ∷ fs) fs refl refl (completed fs _)
 completed (InTuple p ts ∷ fs) t = closed_by closing t _ (InTuple p ts ∷ fs) fs refl refl (completed fs _)
 completed (InField p boxed gs n ∷ fs) t = closed_by closing_brace t _ (InField p boxed gs n ∷ fs) fs refl refl (completed fs _)
-completed (InAlt p choices n ∷ fs) t = closed_by greater t _ (InAlt p choices n ∷ fs) fs refl refl (completed fs _)
+completed (InAlt p choices n ∷ fs) t = closed_by (greater false) t _ (InAlt p choices n ∷ fs) fs refl refl (completed fs _)
 completed (InArgs p n args ∷ fs) t = skipped (InArgs p n args) t fs (omega arith) (completed fs _)
 completed (InArrow a ∷ fs) t = skipped (InArrow a) t fs (omega arith) (completed fs _)
 
@@ -113,8 +113,8 @@ completable (Head q n fs) o = headed q n fs
 completable (Taken t fs) o = taken t fs
 completable (WantField q boxed gs fs) o = let d = wanted (InField q boxed gs (name_at there []) ∷ fs) in (at (lower []) ∷ at colon ∷ d.0, (refl, (refl, d.1)), d.2, d.3)
 completable (AfterField q boxed gs n fs) o = let d = wanted (InField q boxed gs n ∷ fs) in (at colon ∷ d.0, (refl, d.1), d.2, d.3)
-completable (WantAlt q choices fs) o = let d = alone _ fs in (at (upper []) ∷ at greater ∷ d.0, (refl, (refl, d.1)), d.2, d.3)
-completable (AfterAlt q choices n fs) o = let d = alone _ fs in (at greater ∷ d.0, (refl, d.1), d.2, d.3)
+completable (WantAlt q choices fs) o = let d = alone _ fs in (at (upper []) ∷ at (greater false) ∷ d.0, (refl, (refl, d.1)), d.2, d.3)
+completable (AfterAlt q choices n fs) o = let d = alone _ fs in (at (greater false) ∷ d.0, (refl, d.1), d.2, d.3)
 completable (AfterTake q t fs) o = let d = taken _ fs in (at opening ∷ at dots ∷ at closing ∷ d.0, (refl, (refl, (refl, d.1))), d.2, d.3)
 completable (TakeOpen q t fs) o = let d = taken _ fs in (at dots ∷ at closing ∷ d.0, (refl, (refl, d.1)), d.2, d.3)
 completable (TakeDots q t fs) o = let d = taken _ fs in (at closing ∷ d.0, (refl, d.1), d.2, d.3)

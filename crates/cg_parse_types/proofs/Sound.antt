@@ -6,7 +6,7 @@ use Rattle.cg_base.specs.declared.place.Place.{Place}
 use Rattle.cg_core.specs.declared.at.At.{At}
 use Rattle.cg_surface.specs.Written.{Written, no_types, and_type, WrittenFields, WrittenAlts}
 use Rattle.cg_symbols.specs.Symbols.{Symbol, lower, upper, take_word, opening, closing, brace, closing_brace, unboxed, less, greater, colon, arrow, bang, bar, comma, dots, Seen}
-use Rattle.cg_symbols.specs.Readings.{Reading, ◌then◌, token, sign}
+use Rattle.cg_symbols.specs.Readings.{Reading, ◌then◌, token, sign, either_token}
 use Rattle.cg_parse_types.specs.Grammar.{looseness, record_sign, NamesBefore, ReadsNames, ReadsType, ReadsArgs, TypesBefore, FieldsBefore, AltsBefore, AreMany, Binds, ArgsBind, TypesBind, FieldsBind, AltsBind, SpellsType}
 use Rattle.cg_parse_types.specs.Machine as machine
 use Rattle.cg_parse_types.specs.Machine.{InParen, InTuple, InField, InAlt, InArgs, InArrow, Want, Alone, Head, Taken, WantField, AfterField, WantAlt, AfterAlt, AfterTake, TakeOpen, TakeDots, TakeName, TakeMore, Stuck, name_at, starts, strength}
@@ -28,7 +28,7 @@ abbrev pub Begun : Frame → Reading
 Begun (InParen p) = token opening p
 Begun (InTuple p parts) = token opening p then TypesBefore parts
 Begun (InField p boxed gs at) = token (record_sign boxed) p then FieldsBefore gs then token (lower at.name) at.place then sign colon
-Begun (InAlt p choices at) = token less p then AltsBefore choices then token (upper at.name) at.place
+Begun (InAlt p choices at) = either_token less p then AltsBefore choices then token (upper at.name) at.place
 Begun (InArgs p n args) = token (upper n) p then ReadsArgs args
 Begun (InArrow a) = ReadsType a then sign arrow
 
@@ -74,8 +74,8 @@ ModeRead (Head p n fs) = Below fs then token (upper n) p
 ModeRead (Taken t fs) = Below fs then ReadsType t
 ModeRead (WantField p boxed gs fs) = Below fs then token (record_sign boxed) p then FieldsBefore gs
 ModeRead (AfterField p boxed gs at fs) = Below fs then token (record_sign boxed) p then FieldsBefore gs then token (lower at.name) at.place
-ModeRead (WantAlt p choices fs) = Below fs then token less p then AltsBefore choices
-ModeRead (AfterAlt p choices at fs) = Below fs then token less p then AltsBefore choices then token (upper at.name) at.place
+ModeRead (WantAlt p choices fs) = Below fs then either_token less p then AltsBefore choices
+ModeRead (AfterAlt p choices at fs) = Below fs then either_token less p then AltsBefore choices then token (upper at.name) at.place
 ModeRead (AfterTake p t fs) = Below fs then ReadsType t then token take_word p
 ModeRead (TakeOpen p t fs) = Below fs then ReadsType t then token take_word p then sign opening
 ModeRead (TakeDots p t fs) = Below fs then ReadsType t then token take_word p then sign opening then sign dots
@@ -195,19 +195,19 @@ module _ (all rest : List Seen) (p : Place) where
       record { sound = (omega arith, (s.good.1, s.binds), s.good.2); read = (r.1.0, r.1.1, (b.0, b.1, (_, (c.0, c.1, (d.0, d.1, (r.0, d.2, r.2))), (p, refl)))) }
   on_closing_brace_holds t (f ∷ fs) s = stuck all rest
 
-  on_bar_holds : (t : Written) (fs : List Frame) → Spelled all (at_token bar p rest) t fs → Holds all rest (machine.on_bar trees t fs)
-  on_bar_holds t [] s = stuck all rest
-  on_bar_holds t (InAlt q choices at ∷ fs) s =
+  on_bar_holds : (first : Bool) (t : Written) (fs : List Frame) → Spelled all (at_token (bar first) p rest) t fs → Holds all rest (machine.on_bar trees t fs)
+  on_bar_holds first t [] s = stuck all rest
+  on_bar_holds first t (InAlt q choices at ∷ fs) s =
       let r = s.read in let b = r.1.2 in let c = b.2 in
-      record { sound = ((s.good.1, s.loose, s.binds), s.good.2); read = (r.1.0, r.1.1, (b.0, b.1, (c.0, c.1, (r.0, c.2, (_, r.2, (p, refl)))))) }
-  on_bar_holds t (f ∷ fs) s = stuck all rest
+      record { sound = ((s.good.1, s.loose, s.binds), s.good.2); read = (r.1.0, r.1.1, (b.0, b.1, (c.0, c.1, (r.0, c.2, (_, r.2, (p, (first, refl))))))) }
+  on_bar_holds first t (f ∷ fs) s = stuck all rest
 
-  on_greater_holds : (t : Written) (fs : List Frame) → Spelled all (at_token greater p rest) t fs → Holds all rest (machine.on_greater trees t fs)
-  on_greater_holds t [] s = stuck all rest
-  on_greater_holds t (InAlt q choices at ∷ fs) s =
+  on_greater_holds : (joined : Bool) (t : Written) (fs : List Frame) → Spelled all (at_token (greater joined) p rest) t fs → Holds all rest (machine.on_greater trees t fs)
+  on_greater_holds joined t [] s = stuck all rest
+  on_greater_holds joined t (InAlt q choices at ∷ fs) s =
       let r = s.read in let b = r.1.2 in let c = b.2 in
-      record { sound = (omega arith, (s.good.1, s.loose, s.binds), s.good.2); read = (r.1.0, r.1.1, (b.0, b.1, (_, (c.0, c.1, (r.0, c.2, r.2)), (p, refl)))) }
-  on_greater_holds t (f ∷ fs) s = stuck all rest
+      record { sound = (omega arith, (s.good.1, s.loose, s.binds), s.good.2); read = (r.1.0, r.1.1, (b.0, b.1, (_, (c.0, c.1, (r.0, c.2, r.2)), (p, (joined, refl))))) }
+  on_greater_holds joined t (f ∷ fs) s = stuck all rest
 
   on_take_holds : (t : Written) (fs : List Frame) → looseness t ≤ 2 → Spelled all (at_token take_word p rest) t fs → Holds all rest (machine.on_take trees p t fs)
   on_take_holds t fs l s =
@@ -227,8 +227,8 @@ module _ (all rest : List Seen) (p : Place) where
   on_end_holds closing t fs l s = on_close_holds t fs s
   on_end_holds comma t fs l s = on_comma_holds t fs s
   on_end_holds closing_brace t fs l s = on_closing_brace_holds t fs s
-  on_end_holds bar t fs l s = on_bar_holds t fs s
-  on_end_holds greater t fs l s = on_greater_holds t fs s
+  on_end_holds (bar first) t fs l s = on_bar_holds first t fs s
+  on_end_holds (greater joined) t fs l s = on_greater_holds joined t fs s
   on_end_holds y t fs l s = stuck all rest
 
   go_past_holds : (y : Symbol) (t : Written) (fs : List Frame) → looseness t ≤ 2 → Spelled all (at_token y p rest) t fs → Holds all rest (go_past y p t fs)
@@ -253,7 +253,7 @@ module _ (all rest : List Seen) (p : Place) where
   start_holds closing fs g r = on_empty_holds fs g r
   start_holds brace fs g r = record { sound = (tt, g); read = (_, r, (_, refl, refl)) }
   start_holds unboxed fs g r = record { sound = (tt, g); read = (_, r, (_, refl, refl)) }
-  start_holds less fs g r = record { sound = (tt, g); read = (_, r, (_, refl, refl)) }
+  start_holds (less joined) fs g r = record { sound = (tt, g); read = (_, r, (_, (joined, refl), refl)) }
   start_holds y fs g r = stuck all rest
 
   next_argument_holds : (y : Symbol) (t : Written) (fs : List Frame) → Holds all (at_token y p rest) (Alone t fs) → Holds all rest (machine.next_argument trees y p t fs)
@@ -299,12 +299,12 @@ module _ (all rest : List Seen) (p : Place) where
   payload_holds y q choices at fs s = start_holds y (InAlt q choices at ∷ fs) (omega arith, s.sound.0, s.sound.1) s.read
 
   after_alt_holds : (y : Symbol) (q : Place) (choices : WrittenAlts) (at : At) (fs : List Frame) → Holds all (at_token y p rest) (AfterAlt q choices at fs) → Holds all rest (machine.after_alt trees y p q choices at fs)
-  after_alt_holds bar q choices at fs s =
+  after_alt_holds (bar first) q choices at fs s =
       let r = s.read in let b = r.2 in let c = b.2 in
-      record { sound = s.sound; read = (r.0, r.1, (b.0, b.1, (c.0, c.1, (_, c.2, (p, refl))))) }
-  after_alt_holds greater q choices at fs s =
+      record { sound = s.sound; read = (r.0, r.1, (b.0, b.1, (c.0, c.1, (_, c.2, (p, (first, refl)))))) }
+  after_alt_holds (greater joined) q choices at fs s =
       let r = s.read in let b = r.2 in
-      record { sound = (omega arith, s.sound.0, s.sound.1); read = (r.0, r.1, (b.0, b.1, (_, b.2, (p, refl)))) }
+      record { sound = (omega arith, s.sound.0, s.sound.1); read = (r.0, r.1, (b.0, b.1, (_, b.2, (p, (joined, refl))))) }
   after_alt_holds y q choices at fs s = payload_holds y q choices at fs s
 
   after_take_holds : (y : Symbol) (q : Place) (t : Written) (fs : List Frame) → Holds all (at_token y p rest) (AfterTake q t fs) → Holds all rest (machine.after_take trees y q t fs)

@@ -3,7 +3,7 @@ use Rattle.std.specs.Prelude.{◌≡◌, ◌⊎◌, ℕ, ◌≤◌, Bool, List, 
 use Rattle.cg_core.specs.declared.at.At.{At}
 use Rattle.cg_surface.specs.Written.{Written, named, nothing, tuple, paren, arrow as function, fields, variant, bang as observed, take_some, take_all, Writtens, no_types, and_type, WrittenFields, no_fields, and_field, WrittenAlts, no_alts, and_plain, and_alt, place_of}
 use Rattle.cg_symbols.specs.Symbols.{Symbol, lower, upper, take_word, opening, closing, brace, closing_brace, unboxed, less, greater, colon, arrow, bang, bar, comma, dots, Seen}
-use Rattle.cg_symbols.specs.Readings.{Reading, ◌then◌, token, sign}
+use Rattle.cg_symbols.specs.Readings.{Reading, ◌then◌, token, sign, either_token, either_sign}
 
 -- how loosely a type is bound: 0 stands alone, 1 has arguments, of 2 fields are taken, 3 is an arrow
 abbrev pub looseness : Written → ℕ
@@ -40,7 +40,7 @@ abbrev mutual
   ReadsType (paren p a) ts rest = (token opening p then ReadsType a then sign closing) ts rest
   ReadsType (function p a b) ts rest = (p ≡ place_of a) × (ReadsType a then sign arrow then ReadsType b) ts rest
   ReadsType (fields p boxed fs) ts rest = (token (record_sign boxed) p then ReadsFields fs then sign closing_brace) ts rest
-  ReadsType (variant p choices) ts rest = (token less p then ReadsAlts choices then sign greater) ts rest
+  ReadsType (variant p choices) ts rest = (either_token less p then ReadsAlts choices then either_sign greater) ts rest
   ReadsType (observed p a) ts rest = (p ≡ place_of a) × (ReadsType a then sign bang) ts rest
   ReadsType (take_some p a ns) ts rest = (p ≡ place_of a) × (ReadsType a then sign take_word then sign opening then ReadsNames ns then sign closing) ts rest
   ReadsType (take_all p a q) ts rest = (p ≡ place_of a) × (ReadsType a then token take_word q then sign opening then sign dots then sign closing) ts rest
@@ -71,8 +71,8 @@ abbrev mutual
   -- alternatives
   pub AltsBefore : WrittenAlts → Reading
   AltsBefore no_alts ts rest = ts ≡ rest
-  AltsBefore (and_plain choices at) ts rest = (AltsBefore choices then token (upper at.name) at.place then sign bar) ts rest
-  AltsBefore (and_alt choices at a) ts rest = (AltsBefore choices then token (upper at.name) at.place then ReadsType a then sign bar) ts rest
+  AltsBefore (and_plain choices at) ts rest = (AltsBefore choices then token (upper at.name) at.place then either_sign bar) ts rest
+  AltsBefore (and_alt choices at a) ts rest = (AltsBefore choices then token (upper at.name) at.place then ReadsType a then either_sign bar) ts rest
 
   pub ReadsAlts : WrittenAlts → Reading
   ReadsAlts no_alts ts rest = ⊥

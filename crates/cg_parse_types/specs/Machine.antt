@@ -64,7 +64,7 @@ starts (upper n) = true
 starts opening = true
 starts brace = true
 starts unboxed = true
-starts less = true
+starts (less joined) = true
 starts s = false
 
 -- how loose a type may be before the symbol
@@ -163,8 +163,8 @@ module _ {X L F V : Type 0} (B : Builder X L F V) where
   on_end closing p t fs = on_close t fs
   on_end comma p t fs = on_comma t fs
   on_end closing_brace p t fs = on_closing_brace t fs
-  on_end bar p t fs = on_bar t fs
-  on_end greater p t fs = on_greater t fs
+  on_end (bar first) p t fs = on_bar t fs
+  on_end (greater joined) p t fs = on_greater t fs
   on_end s p t fs = Stuck
 
   -- behind a type, at a symbol that begins none
@@ -188,7 +188,7 @@ module _ {X L F V : Type 0} (B : Builder X L F V) where
   start closing p fs = on_empty fs
   start brace p fs = WantField p true B.no_fields fs
   start unboxed p fs = WantField p false B.no_fields fs
-  start less p fs = WantAlt p B.no_alts fs
+  start (less joined) p fs = WantAlt p B.no_alts fs
   start s p fs = Stuck
 
   -- at a symbol that begins an argument, behind one
@@ -224,8 +224,8 @@ module _ {X L F V : Type 0} (B : Builder X L F V) where
   alt_name s p q choices fs = Stuck
 
   abbrev pub after_alt : Symbol → Place → Place → V → At → Stack → Mode X L F V
-  after_alt bar p q choices at fs = WantAlt q (B.and_plain choices at) fs
-  after_alt greater p q choices at fs = Alone (B.variant q (B.and_plain choices at)) fs
+  after_alt (bar first) p q choices at fs = WantAlt q (B.and_plain choices at) fs
+  after_alt (greater joined) p q choices at fs = Alone (B.variant q (B.and_plain choices at)) fs
   after_alt s p q choices at fs = start s p (InAlt q choices at ∷ fs)
 
   -- behind `take`, behind its `(`, behind the dots in it, behind a name in it and behind a comma in it

@@ -3,6 +3,7 @@ ghost use Rattle.std.specs.Prelude.{◌≡◌, IfOk, OnOk};
 ghost use Rattle.cg_parse_types.specs.Bounded.{bounded};
 ghost use Rattle.cg_parse_types.specs.Machine as machine;
 ghost use Rattle.cg_parse_types.specs.Stack.{frame_of, stack_of};
+ghost use Rattle.cg_parse_types.specs.States.{all_close};
 ghost use Rattle.cg_parse_types.specs.Views.{view_of};
 
 use crate::built::BuiltType;
@@ -86,4 +87,17 @@ pub(crate) fn close(
             }
         }
     }
+}
+
+/// Whether each frame is closed without a token of its own.
+pub(crate) fn all_close(stack: &SmallVec<Frame, 16>) -> bool
+    ensures { result ≡ all_close (stack_of stack.now.items) }
+{
+    let frames = stack.as_slice();
+    for at in (0..frames.len()).rev() {
+        if closes(&frames[at]) > 3 {
+            return false;
+        }
+    }
+    true
 }

@@ -144,8 +144,8 @@ fn on_end<'a>(
         Symbol::Closing => on_close(alloc, stack, tree),
         Symbol::Comma => on_comma(alloc, stack, tree),
         Symbol::ClosingBrace => on_closing_brace(stack, tree),
-        Symbol::Bar => on_bar(stack, tree),
-        Symbol::Greater => on_greater(stack, tree),
+        Symbol::Bar(_) => on_bar(stack, tree),
+        Symbol::Greater(_) => on_greater(stack, tree),
         _ => Ok(Mode::Stuck),
     }
 }

@@ -1,7 +1,7 @@
 // The reader of types.
 #![tactic(auto, using(crate::specs::Stack::stack_none), unfolding(crate::specs::States::reader_state))]
 
-ghost use Rattle.std.specs.Prelude.{◌≡◌, List, IfOk, OnOk};
+ghost use Rattle.std.specs.Prelude.{◌≡◌, List, IfOk, OnOk, is_some};
 ghost use Rattle.cg_symbols.specs.Views.{symbol_view};
 ghost use Rattle.cg_parse_types.specs.Bounded.{bounded, bounded_reader};
 ghost use Rattle.cg_parse_types.specs.Machine as machine;
@@ -11,7 +11,7 @@ ghost use Rattle.cg_parse_types.specs.Views.{view_of};
 
 use crate::build;
 use crate::built::BuiltType;
-use crate::close::close;
+use crate::close::{all_close, close};
 use crate::frame::{Frame, Mode};
 use crate::stack::pop;
 use crate::step::mode_step;
@@ -117,6 +117,17 @@ impl TypeReader {
         ensures { result ≡ bounded_reader.is_open (reader_state self.now) }
     {
         mode_is_open(&self.mode)
+    }
+
+    /// Whether the symbols so far spell a type: docs/LANGUAGE.md, "Types".
+    #[tactic(auto, using(crate::proofs::Whole::whole_closes), unfolding(crate::specs::States::reader_state))]
+    pub fn is_whole(&self) -> bool
+        ensures { result ≡ is_some (bounded_reader.finish (reader_state self.now)) }
+    {
+        match self.mode {
+            Mode::Alone(_) | Mode::Head(_, _) | Mode::Taken(_) => all_close(&self.stack),
+            _ => false,
+        }
     }
 
     /// The type that the symbols so far spell, if they spell one: docs/LANGUAGE.md, "Types". It is `TooDeep` where its depth

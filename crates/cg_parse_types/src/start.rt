@@ -24,7 +24,7 @@ pub(crate) fn starts<'a>(symbol: Symbol<'a>) -> bool
         Symbol::Opening => true,
         Symbol::Brace => true,
         Symbol::Unboxed => true,
-        Symbol::Less => true,
+        Symbol::Less(_) => true,
         _ => false,
     }
 }
@@ -82,7 +82,7 @@ pub(crate) fn start<'a>(
         Symbol::Closing => Ok(on_empty(stack)),
         Symbol::Brace => Ok(Mode::WantField(place, true, lists::no_fields(alloc))),
         Symbol::Unboxed => Ok(Mode::WantField(place, false, lists::no_fields(alloc))),
-        Symbol::Less => Ok(Mode::WantAlt(place, lists::no_alts(alloc))),
+        Symbol::Less(_) => Ok(Mode::WantAlt(place, lists::no_alts(alloc))),
         _ => Ok(Mode::Stuck),
     }
 }

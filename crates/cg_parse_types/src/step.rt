@@ -164,8 +164,8 @@ fn after_alt<'a>(
     ensures { IfOk result (λ m. mode_of m (stack_of stack.new.items) ≡ machine.after_alt bounded (symbol_view symbol.entry) place variant (alts_view alts) at (stack_of stack.old.items)) }
 {
     match symbol {
-        Symbol::Bar => Ok(Mode::WantAlt(variant, lists::and_plain(alts, at)?)),
-        Symbol::Greater => {
+        Symbol::Bar(_) => Ok(Mode::WantAlt(variant, lists::and_plain(alts, at)?)),
+        Symbol::Greater(_) => {
             let alts = lists::and_plain(alts, at)?;
             Ok(Mode::Alone(build::variant(variant, alts)))
         }
