@@ -1,0 +1,11 @@
+pub mod Asked
+pub mod Bars
+pub mod Bounded
+pub mod Grammar
+pub mod Machine
+pub mod Plain
+pub mod Stack
+pub mod State
+pub mod Unfinished
+pub mod Views
+pub mod Walk

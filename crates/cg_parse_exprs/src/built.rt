@@ -1,0 +1,64 @@
+// Expressions, and lists of them, up to a depth.
+ghost use Rattle.std.specs.Prelude.{◌≡◌, ◌≤◌, map};
+ghost use Rattle.cg_surface.specs.Written.{written_of, to_types, types_depth};
+ghost use Rattle.cg_surface.specs.Exprs.{expr_of, field_of, bind_of, alt_of, depth_of, exprs_depth, fields_depth, binds_depth, alts_depth, to_exprs, to_fields, to_binds, to_alts};
+
+use cg_base::Items;
+use cg_surface::{Alt, Bind, FExpr, SExpr, STy};
+
+/// The greatest depth of an expression that is built: docs/LANGUAGE.md, "Limits".
+pub(crate) const MOST: u32 = 1024;
+
+/// An expression that is no deeper than the language allows, with its depth: docs/LANGUAGE.md, "Expressions" and "Limits".
+#[derive(Drop)]
+pub struct BuiltExpr {
+    pub tree: SExpr,
+    pub depth: u32,
+    ghost depth_is: { depth ≡ depth_of (expr_of tree) },
+    ghost within: { depth ≤ 1024 },
+}
+
+/// Expressions, none of which is too deep, with the greatest of their depths.
+#[derive(Drop)]
+pub(crate) struct BuiltExprs {
+    pub(crate) items: Items<SExpr>,
+    pub(crate) depth: u32,
+    ghost depth_is: { depth ≡ exprs_depth (to_exprs (map expr_of items)) },
+    ghost within: { depth ≤ 1024 },
+}
+
+/// Fields, likewise.
+#[derive(Drop)]
+pub(crate) struct BuiltFields {
+    pub(crate) items: Items<FExpr>,
+    pub(crate) depth: u32,
+    ghost depth_is: { depth ≡ fields_depth (to_fields (map field_of items)) },
+    ghost within: { depth ≤ 1024 },
+}
+
+/// Bindings, likewise.
+#[derive(Drop)]
+pub(crate) struct BuiltBinds {
+    pub(crate) items: Items<Bind>,
+    pub(crate) depth: u32,
+    ghost depth_is: { depth ≡ binds_depth (to_binds (map bind_of items)) },
+    ghost within: { depth ≤ 1024 },
+}
+
+/// Alternatives, likewise.
+#[derive(Drop)]
+pub(crate) struct BuiltAlts {
+    pub(crate) items: Items<Alt>,
+    pub(crate) depth: u32,
+    ghost depth_is: { depth ≡ alts_depth (to_alts (map alt_of items)) },
+    ghost within: { depth ≤ 1024 },
+}
+
+/// Type arguments, likewise.
+#[derive(Drop)]
+pub(crate) struct BuiltArgs {
+    pub(crate) items: Items<STy>,
+    pub(crate) depth: u32,
+    ghost depth_is: { depth ≡ types_depth (to_types (map written_of items)) },
+    ghost within: { depth ≤ 1024 },
+}

@@ -1,0 +1,212 @@
+// Behind an expression, at a symbol that ends it.
+ghost use Rattle.std.specs.Prelude.{◌≡◌, List, [], IfOk};
+ghost use Rattle.cg_symbols.specs.Views.{symbol_view};
+ghost use Rattle.cg_parse_exprs.specs.Bounded.{bounded};
+ghost use Rattle.cg_parse_exprs.specs.Machine as machine;
+ghost use Rattle.cg_parse_exprs.specs.Stack.{types, patterns, Types, Patterns, owner_of, stack_of, mode_of, stage_of};
+ghost use Rattle.cg_parse_exprs.specs.Views.{view_of, fields_view};
+
+use crate::built::{BuiltExpr, BuiltFields};
+use crate::frame::{Frame, Mode, Owner};
+use crate::readers::Parts;
+use crate::stack::{pop, push};
+use crate::start::stuck;
+use crate::{build, lists};
+use cg_base::{Items, Memory};
+use cg_core::At;
+use cg_symbols::Symbol;
+use smallvec::SmallVec;
+use std::alloc::Global;
+
+/// The fields of a record, or of a put.
+pub(crate) fn owned(
+    alloc: Global,
+    owner: Owner,
+    fields: Option<BuiltFields>,
+) -> Result<Option<BuiltExpr>, Memory>
+    ensures { IfOk result (λ e. view_of e ≡ machine.owned types patterns bounded (owner_of owner) (fields_view fields)) }
+{
+    match owner {
+        Owner::Record(place) => Ok(build::fields(place, fields)),
+        Owner::Put(tree) => build::put(alloc, tree, fields),
+    }
+}
+
+/// At a closing parenthesis.
+fn on_close(
+    alloc: Global,
+    stack: &mut SmallVec<Frame, 16>,
+    tree: Option<BuiltExpr>,
+) -> Result<Mode, Memory>
+    ensures { IfOk result (λ m. (ts : Types) (ps : Patterns) → mode_of m ts ps (stack_of stack.new.items) ≡ machine.on_close types patterns bounded (view_of tree) (stack_of stack.old.items)) }
+{
+    match pop(stack) {
+        None => Ok(Mode::Stuck),
+        Some(Frame::InParen(place)) => Ok(Mode::Have(build::paren(alloc, place, tree)?)),
+        Some(Frame::InTuple(place, exprs)) => {
+            let exprs = lists::and_expr(exprs, tree)?;
+            Ok(Mode::Have(build::tuple(place, exprs)))
+        }
+        Some(frame) => stuck(stack, frame),
+    }
+}
+
+/// At a comma.
+fn on_comma(
+    alloc: Global,
+    stack: &mut SmallVec<Frame, 16>,
+    tree: Option<BuiltExpr>,
+) -> Result<Mode, Memory>
+    ensures { IfOk result (λ m. (ts : Types) (ps : Patterns) → mode_of m ts ps (stack_of stack.new.items) ≡ machine.on_comma types patterns bounded (view_of tree) (stack_of stack.old.items)) }
+{
+    match pop(stack) {
+        None => Ok(Mode::Stuck),
+        Some(Frame::InParen(place)) => {
+            let exprs = lists::and_expr(lists::no_exprs(alloc), tree)?;
+            push(stack, Frame::InTuple(place, exprs))?;
+            Ok(Mode::Want)
+        }
+        Some(Frame::InTuple(place, exprs)) => {
+            let exprs = lists::and_expr(exprs, tree)?;
+            push(stack, Frame::InTuple(place, exprs))?;
+            Ok(Mode::Want)
+        }
+        Some(Frame::InField(owner, fields, at)) => {
+            let fields = lists::and_field(fields, at, tree)?;
+            Ok(Mode::WantField(owner, fields))
+        }
+        Some(frame) => stuck(stack, frame),
+    }
+}
+
+/// At a closing brace.
+fn on_brace(
+    alloc: Global,
+    stack: &mut SmallVec<Frame, 16>,
+    tree: Option<BuiltExpr>,
+) -> Result<Mode, Memory>
+    ensures { IfOk result (λ m. (ts : Types) (ps : Patterns) → mode_of m ts ps (stack_of stack.new.items) ≡ machine.on_brace types patterns bounded (view_of tree) (stack_of stack.old.items)) }
+{
+    match pop(stack) {
+        None => Ok(Mode::Stuck),
+        Some(Frame::InField(owner, fields, at)) => {
+            let fields = lists::and_field(fields, at, tree)?;
+            Ok(Mode::Have(owned(alloc, owner, fields)?))
+        }
+        Some(frame) => stuck(stack, frame),
+    }
+}
+
+/// At a colon, behind which a type is read.
+fn on_colon(
+    alloc: Global,
+    stack: &mut SmallVec<Frame, 16>,
+    parts: &mut Parts,
+    tree: Option<BuiltExpr>,
+) -> Result<Mode, Memory>
+    ensures { IfOk result (λ m. stage_of m parts.new (stack_of stack.new.items) ≡ machine.on_colon types patterns bounded (view_of tree) (stack_of stack.old.items)) }
+{
+    match pop(stack) {
+        None => Ok(Mode::Stuck),
+        Some(Frame::InParen(place)) => {
+            parts.types.begin(alloc);
+            Ok(Mode::InSig(place, tree))
+        }
+        Some(frame) => stuck(stack, frame),
+    }
+}
+
+/// At `in`.
+pub(crate) fn on_in(
+    stack: &mut SmallVec<Frame, 16>,
+    seen: Items<At>,
+    tree: Option<BuiltExpr>,
+) -> Result<Mode, Memory>
+    ensures { IfOk result (λ m. (ts : Types) (ps : Patterns) → mode_of m ts ps (stack_of stack.new.items) ≡ machine.on_in types patterns bounded seen (view_of tree) (stack_of stack.old.items)) }
+{
+    match pop(stack) {
+        None => Ok(Mode::Stuck),
+        Some(Frame::Bound(place, binds, pattern)) => {
+            let binds = lists::and_bind(binds, pattern, tree, seen)?;
+            push(stack, Frame::Body(place, binds))?;
+            Ok(Mode::Want)
+        }
+        Some(frame) => stuck(stack, frame),
+    }
+}
+
+/// At `and`, behind which another pattern is read.
+pub(crate) fn on_and(
+    alloc: Global,
+    stack: &mut SmallVec<Frame, 16>,
+    parts: &mut Parts,
+    seen: Items<At>,
+    tree: Option<BuiltExpr>,
+) -> Result<Mode, Memory>
+    ensures { IfOk result (λ m. stage_of m parts.new (stack_of stack.new.items) ≡ machine.on_and types patterns bounded seen (view_of tree) (stack_of stack.old.items)) }
+{
+    match pop(stack) {
+        None => Ok(Mode::Stuck),
+        Some(Frame::Bound(place, binds, pattern)) => {
+            let binds = lists::and_bind(binds, pattern, tree, seen)?;
+            parts.patterns.begin(alloc);
+            Ok(Mode::InPattern(place, binds))
+        }
+        Some(frame) => stuck(stack, frame),
+    }
+}
+
+/// At `then`.
+pub(crate) fn on_then(
+    stack: &mut SmallVec<Frame, 16>,
+    seen: Items<At>,
+    tree: Option<BuiltExpr>,
+) -> Result<Mode, Memory>
+    ensures { IfOk result (λ m. (ts : Types) (ps : Patterns) → mode_of m ts ps (stack_of stack.new.items) ≡ machine.on_then types patterns bounded seen (view_of tree) (stack_of stack.old.items)) }
+{
+    match pop(stack) {
+        None => Ok(Mode::Stuck),
+        Some(Frame::Condition(place)) => {
+            push(stack, Frame::Then(place, tree, seen))?;
+            Ok(Mode::Want)
+        }
+        Some(frame) => stuck(stack, frame),
+    }
+}
+
+/// At `else`.
+fn on_else(stack: &mut SmallVec<Frame, 16>, tree: Option<BuiltExpr>) -> Result<Mode, Memory>
+    ensures { IfOk result (λ m. (ts : Types) (ps : Patterns) → mode_of m ts ps (stack_of stack.new.items) ≡ machine.on_else types patterns bounded (view_of tree) (stack_of stack.old.items)) }
+{
+    match pop(stack) {
+        None => Ok(Mode::Stuck),
+        Some(Frame::Then(place, condition, seen)) => {
+            push(stack, Frame::Else(place, condition, seen, tree))?;
+            Ok(Mode::Want)
+        }
+        Some(frame) => stuck(stack, frame),
+    }
+}
+
+/// At a word or a sign that ends an expression, with the frames closed that it closes.
+pub(crate) fn on_end<'a>(
+    alloc: Global,
+    stack: &mut SmallVec<Frame, 16>,
+    parts: &mut Parts,
+    symbol: Symbol<'a>,
+    tree: Option<BuiltExpr>,
+) -> Result<Mode, Memory>
+    ensures { IfOk result (λ m. stage_of m parts.new (stack_of stack.new.items) ≡ machine.on_end types patterns bounded (symbol_view symbol.entry) (view_of tree) (stack_of stack.old.items)) }
+{
+    match symbol {
+        Symbol::Closing => on_close(alloc, stack, tree),
+        Symbol::Comma => on_comma(alloc, stack, tree),
+        Symbol::ClosingBrace => on_brace(alloc, stack, tree),
+        Symbol::Colon => on_colon(alloc, stack, parts, tree),
+        Symbol::In => on_in(stack, Items::new(alloc), tree),
+        Symbol::And => on_and(alloc, stack, parts, Items::new(alloc), tree),
+        Symbol::Then => on_then(stack, Items::new(alloc), tree),
+        Symbol::Else => on_else(stack, tree),
+        _ => Ok(Mode::Stuck),
+    }
+}
