@@ -27,7 +27,7 @@ use Rattle.cg_value.specs.Values.{number, function}
 use Rattle.cg_words.specs.Words.{Command, check, run}
 use Rattle.cg_driver.specs.declared.status.Status.{Status}
 use Rattle.cg_driver.specs.declared.status.Status.TheVariants.{Done, Refused, Usage, ReadFault, WriteFault, Memory, StepLimit, HeapRefused, CertRefused, TooLarge}
-use Rattle.cg_driver.specs.Answer.{source_limit, heap_limit, SpellsWithin, SpellsSmall, IsAcceptedSource, Refuses, not_built, not_small, not_accepted, Exceeds, too_long, too_deep, Judges, entry_at, IsReady, RefusesRun, of_source, not_plain, no_entry, RefusesHeap, no_heap_text, out_of_range, IsArgument, IsJudgedRun}
+use Rattle.cg_driver.specs.Answer.{source_limit, heap_limit, SpellsWithin, SpellsSmall, IsAcceptedSource, unknown_byte, open_comment, unexpected, wrong_bar, Refuses, not_spelled, not_small, not_accepted, Exceeds, too_long, too_deep, Judges, entry_at, IsReady, RefusesRun, of_source, not_plain, no_entry, RefusesHeap, no_heap_text, out_of_range, IsArgument, IsJudgedRun}
 use Rattle.cg_driver.specs.Run.{table_in, Runs, RunsOut}
 use Rattle.cg_driver.specs.Says.{ReadFails, of_source as source_fails, of_heap, SaysOf, Answers, IsVerdict, IsReadBy, IsTooLarge, IsNotSmall, IsNotAccepted, IsRefused, CheckStatus, Ready, Evaluates, IsNotPlain, HasNoEntry, HasNoArgument, RunStatus, Decides}
 
@@ -46,7 +46,10 @@ told_is h held file most read told r = subst (λ x. IsReadOf x file most read) t
 -- ---- sources
 
 refused_as : (file source text : List ℕ) → Refuses file source text → length source ≤ source_limit → IsRefused source
-refused_as file source text (not_built none is) short = (short, inl none)
+refused_as file source text (not_spelled (unknown_byte place found is)) short = (short, inl found.4)
+refused_as file source text (not_spelled (open_comment place found is)) short = (short, inl found.4)
+refused_as file source text (not_spelled (unexpected place found is)) short = (short, inl found.4)
+refused_as file source text (not_spelled (wrong_bar place found is)) short = (short, inl found.4)
 refused_as file source text (not_small p spelled other is) short = (short, inr (inl (p, spelled, other)))
 refused_as file source text (not_accepted q spelled never is) short = (short, inr (inr ((q, spelled), never)))
 

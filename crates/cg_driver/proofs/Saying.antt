@@ -5,6 +5,7 @@ use Rattle.std.specs.Io.KnownBytes.{append_known}
 use Rattle.std.specs.List.{position_or_len}
 use Rattle.std.proofs.lemmas.Bool.{ltb-true}
 use Rattle.std.proofs.lemmas.Slice.Eq.{bytes_eq-Decides}
+use Rattle.cg_base.specs.declared.place.Place.{Place}
 use Rattle.cg_core.specs.declared.kernel.KFun.{KFun}
 use Rattle.cg_core.specs.declared.kernel.Kernel.{Kernel}
 use Rattle.cg_core.specs.Kernels.{Function, function_of, kernel_of}
@@ -29,9 +30,9 @@ use Rattle.cg_driver.specs.declared.report.Step.{Step}
 use Rattle.cg_driver.specs.declared.report.Step.TheVariants.{Goes, Ends as Ended}
 use Rattle.cg_driver.specs.declared.status.Status.{Status}
 use Rattle.cg_driver.specs.declared.status.Status.TheVariants.{Done, Refused, Usage, ReadFault, WriteFault, Memory, StepLimit, HeapRefused, CertRefused, TooLarge}
-use Rattle.cg_driver.specs.Answer.{source_limit, heap_limit, Accepted, IsAcceptedProgram, Refuses, not_small, not_accepted, too_deep, RefusesSource, Judges, entry_at, of_source, not_plain, no_entry, IsReady, out_of_range}
+use Rattle.cg_driver.specs.Answer.{source_limit, heap_limit, Accepted, IsAcceptedProgram, RefusesSyntax, Refuses, not_spelled, not_small, not_accepted, too_deep, RefusesSource, Judges, entry_at, of_source, not_plain, no_entry, IsReady, out_of_range}
 use Rattle.cg_driver.specs.Judged.{functions_in, IsCheckedKernel, IsCheckedProgram, IsCheckedSpelled, IsCheckedSource, RefusesKernel, RefusesProgram, RefusesSpelled, IsEntry, RefusesBytes}
-use Rattle.cg_driver.specs.Lines.{limit_line, out_of_range_line}
+use Rattle.cg_driver.specs.Lines.{fault_line, limit_line, out_of_range_line}
 use Rattle.cg_driver.specs.Reports.{IsLine, Reports, Steps}
 use Rattle.cg_driver.specs.Running.{SaysChecked, SaysSource}
 use Rattle.cg_driver.specs.Says.{SaysCheck, of_heap, SaysRun, SaysOf, Answers, Ends}
@@ -117,9 +118,21 @@ module _ (file source : List ℕ) (p : List Entry) (short : length source ≤ so
   program_refused Refused text j = (short, refused text j)
   program_refused s text j = absurd j
 
-pub deep : (file source : List ℕ) (p : List Entry) → length source ≤ source_limit → Spells source p → depth_limit < program_depth p
+deep : (file source : List ℕ) (p : List Entry) → length source ≤ source_limit → Spells source p → depth_limit < program_depth p
     → (r : Report) → IsLine TooLarge (limit_line (codes "nesting")) r → Reports (RefusesSource file source) r
 deep file source p short spelled beyond r is = line_says (RefusesSource file source) TooLarge (limit_line (codes "nesting")) r is (too_deep short p spelled beyond refl)
+
+-- a fault of syntax, as it is told
+pub syntax_says : {E : Type 0} (file source : List ℕ) (place : Place) (rule : List ℕ) → length source ≤ source_limit → RefusesSyntax file source (fault_line file place rule)
+    → (r : Result Report E) → IfOk r (IsLine Refused (fault_line file place rule)) → IfOk r (Reports (RefusesSource file source))
+syntax_says file source place rule short s r h =
+    each (IsLine Refused (fault_line file place rule)) (Reports (RefusesSource file source))
+    (λ x is. line_says (RefusesSource file source) Refused (fault_line file place rule) x is (short, not_spelled s)) r h
+
+pub deep_says : {E : Type 0} (file source : List ℕ) → length source ≤ source_limit → (p : List Entry) × Spells source p × (depth_limit < program_depth p) × ((q : List Entry) → Spells source q → q ≡ p)
+    → (r : Result Report E) → IfOk r (IsLine TooLarge (limit_line (codes "nesting"))) → IfOk r (Reports (RefusesSource file source))
+deep_says file source short beyond r h =
+    each (IsLine TooLarge (limit_line (codes "nesting"))) (Reports (RefusesSource file source)) (deep file source beyond.0 short beyond.1 beyond.2) r h
 
 -- what is judged of the bytes that were read is what `check` says
 pub checked_says : (file source : List ℕ) (held : Option Held) (before now : List ℕ → ℕ) → IsReadOf held file source_limit source

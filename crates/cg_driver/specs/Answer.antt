@@ -1,11 +1,13 @@
 -- Which sources are accepted, which runs are ready, and what is said of each, with its status.
-use Rattle.std.specs.Prelude.{◌≡◌, ℕ, ◌<◌, ◌≤◌, ◌^◌, true, false, List, [], length, position, Option, Some, None, codes, bytes_eq}
+use Rattle.std.specs.Prelude.{◌≡◌, ℕ, ◌<◌, ◌≤◌, ◌^◌, true, false, List, [], length, position, Option, Some, None, Err, codes, bytes_eq}
+use Rattle.cg_base.specs.declared.place.Place.{Place}
 use Rattle.cg_core.specs.Kernels.{Function}
 use Rattle.cg_eval.specs.Plain.{plain_kernel}
 use Rattle.cg_heaptext.specs.HeapText.{HeapText}
 use Rattle.cg_outside.specs.Held.{Held, IsReadOf}
 use Rattle.cg_parser.specs.Grammar.{Spells}
-use Rattle.cg_parser.specs.Answers.{depth_limit, NoProgram}
+use Rattle.cg_parser.specs.Answers.{depth_limit, Answers as Parses}
+use Rattle.cg_parser.specs.declared.fault.ParseFault.TheVariants.{S1, S2, S3, S4}
 use Rattle.cg_small.specs.Circles.{mentions, NoCircle}
 use Rattle.cg_small.specs.Desugar.{name_faults, functions_of}
 use Rattle.cg_small.specs.Small.{small_program}
@@ -14,7 +16,7 @@ use Rattle.cg_surface.specs.Programs.{Entry, program_depth}
 use Rattle.cg_typing.specs.Accepted.{IsAcceptedKernel}
 use Rattle.cg_driver.specs.declared.status.Status.{Status}
 use Rattle.cg_driver.specs.declared.status.Status.TheVariants.{Done, Refused, StepLimit, HeapRefused, TooLarge}
-use Rattle.cg_driver.specs.Lines.{ok_line, not_built_line, not_accepted_line, no_entry_line, no_heap_text_line, out_of_range_line, limit_line, step_limit_line}
+use Rattle.cg_driver.specs.Lines.{ok_line, fault_line, not_built_line, not_accepted_line, no_entry_line, no_heap_text_line, out_of_range_line, limit_line, step_limit_line}
 use Rattle.cg_driver.specs.Run.{Runs, RunsOut}
 
 -- no source has more bytes, and no heap file (docs/LANGUAGE.md, "Limits")
@@ -56,10 +58,17 @@ pub record IsAcceptedSource (source : List ℕ) (functions : List Function) : Ty
   pub accepted : IsAcceptedProgram program
   pub kernel : functions ≡ functions_of program
 
--- The line of a refusal: the bytes spell no program of the grammar, or one within the depth that isn't small, or one that is
+-- The line of a fault of syntax: the bytes spell no program, and this is the first place where they go on with none, by its rule.
+pub data RefusesSyntax (file source text : List ℕ) : Type 0 where
+  unknown_byte : (place : Place) → Parses source (Err (S1 place)) → text ≡ fault_line file place (codes "S1 unknown byte") → RefusesSyntax file source text
+  open_comment : (place : Place) → Parses source (Err (S2 place)) → text ≡ fault_line file place (codes "S2 comment not closed") → RefusesSyntax file source text
+  unexpected : (place : Place) → Parses source (Err (S3 place)) → text ≡ fault_line file place (codes "S3 unexpected token") → RefusesSyntax file source text
+  wrong_bar : (place : Place) → Parses source (Err (S4 place)) → text ≡ fault_line file place (codes "S4 bar in no open match") → RefusesSyntax file source text
+
+-- The line of a refusal: that of a fault of syntax; or the bytes spell a program within the depth that isn't small, or one that is
 -- small and isn't accepted.
 pub data Refuses (file source text : List ℕ) : Type 0 where
-  not_built : NoProgram source → text ≡ not_built_line file → Refuses file source text
+  not_spelled : RefusesSyntax file source text → Refuses file source text
   not_small : (p : List Entry) → SpellsWithin source p → small_program p ≡ None → text ≡ not_built_line file → Refuses file source text
   not_accepted : (q : List SmallEntry) → SpellsSmall source q → (Accepted source → ⊥) → text ≡ not_accepted_line file → Refuses file source text
 

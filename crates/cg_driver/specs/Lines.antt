@@ -1,5 +1,6 @@
 -- The lines that are printed (docs/LANGUAGE.md, "Commands").
 use Rattle.std.specs.Prelude.{ℕ, List, ◌++◌, codes, count_by, decimal, is_some, length}
+use Rattle.cg_base.specs.declared.place.Place.{Place}
 use Rattle.cg_core.specs.Kernels.{Function}
 use Rattle.cg_value.specs.Printed.{printed}
 use Rattle.cg_value.specs.Values.{Val}
@@ -11,6 +12,10 @@ usage_text = codes "usage: cogent check FILE\n       cogent run FILE ENTRY HEAPF
 -- what `check` prints of an accepted source: how many functions have a definition
 abbrev pub ok_line : List Function → List ℕ
 ok_line functions = codes "ok: " ++ decimal (count_by (λ f. is_some f.body) functions) ++ codes " functions\n"
+
+-- the refusal of a source at a place, by a rule with its text (docs/LANGUAGE.md, "Faults")
+abbrev pub fault_line : List ℕ → Place → List ℕ → List ℕ
+fault_line file place rule = file ++ codes ":" ++ decimal place.line ++ codes ":" ++ decimal place.column ++ codes ": " ++ rule ++ codes "\n"
 
 -- the refusals, with the name of the file
 abbrev pub not_built_line : List ℕ → List ℕ

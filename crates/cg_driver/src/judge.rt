@@ -1,16 +1,17 @@
 // Judging a source.
-ghost use Rattle.std.specs.Prelude.{IfOk};
+ghost use Rattle.std.specs.Prelude.{ℕ, ◌≤◌, List, length, Err, IfOk};
 ghost use Rattle.std.specs.List.{All};
 ghost use Rattle.cg_core.specs.Kernels.{kernel_of};
 ghost use Rattle.cg_core.specs.Small.{IsSmallKernel};
 ghost use Rattle.cg_small.specs.Trees.{program_of, OnlySumsEntry};
 ghost use Rattle.cg_surface.specs.Programs as programs;
-ghost use Rattle.cg_driver.specs.Answer.{RefusesSource};
+ghost use Rattle.cg_parser.specs.Answers.{Answers as Parses};
+ghost use Rattle.cg_driver.specs.Answer.{source_limit, RefusesSource};
 ghost use Rattle.cg_driver.specs.Judged.{IsCheckedKernel, IsCheckedProgram, IsCheckedSpelled, IsCheckedSource, RefusesKernel, RefusesProgram, RefusesSpelled};
-ghost use Rattle.cg_driver.specs.Reports.{Steps};
+ghost use Rattle.cg_driver.specs.Reports.{Reports, Steps};
 
-use crate::lines::{beyond, not_accepted, not_built};
-use crate::report::Step;
+use crate::lines::{beyond, fault, not_accepted, not_built};
+use crate::report::{Report, Step};
 use cg_base::Memory;
 use cg_check::{Refusal, check};
 use cg_core::Kernel;
@@ -62,6 +63,20 @@ fn judge_spelled(
     }
 }
 
+/// What is said where parsing finds no program within the depth.
+fn not_read(alloc: Global, file: &str, found: ParseFault) -> Result<Report, Memory>
+    ensures { (source : List ℕ) → length source ≤ source_limit → Parses source (Err found) → IfOk result (Reports (RefusesSource file.now source)) }
+{
+    match found {
+        ParseFault::S1(place) => fault(alloc, file, place, "S1 unknown byte"),
+        ParseFault::S2(place) => fault(alloc, file, place, "S2 comment not closed"),
+        ParseFault::S3(place) => fault(alloc, file, place, "S3 unexpected token"),
+        ParseFault::S4(place) => fault(alloc, file, place, "S4 bar in no open match"),
+        ParseFault::Nesting => beyond(alloc, "nesting"),
+        ParseFault::Memory => Err(Memory),
+    }
+}
+
 /// Judges a source: its size, the program that it spells, its depth, and whether that program is small and accepted.
 pub(crate) fn judge(alloc: Global, file: &str, source: &[u8]) -> Result<Step<Checked>, Memory>
     ensures { IfOk result (Steps (IsCheckedSource source.now) (RefusesSource file.now source.now)) }
@@ -71,10 +86,6 @@ pub(crate) fn judge(alloc: Global, file: &str, source: &[u8]) -> Result<Step<Che
     }
     match parse(alloc, source) {
         Ok(program) => judge_spelled(alloc, file, program),
-        Err(ParseFault::S1(_)) => Ok(Step::Ends(not_built(alloc, file)?)),
-        Err(ParseFault::S2(_)) => Ok(Step::Ends(not_built(alloc, file)?)),
-        Err(ParseFault::S3(_)) => Ok(Step::Ends(not_built(alloc, file)?)),
-        Err(ParseFault::Nesting) => Ok(Step::Ends(beyond(alloc, "nesting")?)),
-        Err(ParseFault::Memory) => Err(Memory),
+        Err(fault) => Ok(Step::Ends(not_read(alloc, file, fault)?)),
     }
 }

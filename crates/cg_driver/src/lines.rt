@@ -7,7 +7,7 @@ ghost use Rattle.cg_driver.specs.Reports.{IsLine};
 
 use crate::Status;
 use crate::report::Report;
-use cg_base::Memory;
+use cg_base::{Memory, Place};
 use cg_core::KFun;
 use std::alloc::Global;
 
@@ -21,6 +21,17 @@ pub(crate) fn usage(alloc: Global) -> Result<Report, Memory>
             alloc,
             "usage: cogent check FILE\n       cogent run FILE ENTRY HEAPFILE [--steps N]\n",
         )?,
+    })
+}
+
+/// The refusal of a source at a place, by a rule with its text.
+pub(crate) fn fault(alloc: Global, file: &str, place: Place, rule: &str) -> Result<Report, Memory>
+    ensures { IfOk result (λ r. IsLine Status.Refused (lines.fault_line file.now place rule.now) r) }
+{
+    let Place { line, column } = place;
+    Ok(Report {
+        status: Status::Refused,
+        text: format!(in alloc; "{file}:{line}:{column}: {rule}\n")?,
     })
 }
 

@@ -256,3 +256,25 @@ module _ {TS PS XS : Type 0} (types : Reader TS Seen Written) (patterns : Reader
   -- each program that the tokens spell is read
   pub complete : (ts : List Seen) (p : List Entry) → ReadsProgram OfType OfPattern OfExpr p ts [] → finish (run (Between []) ts) ≡ Some p
   complete ts p r = program_reads p [] (Between []) ts refl r
+
+  -- items that are read end in a state in which the last one can end
+  items_read : (items done : List Entry) (s : Stage) (ts rest : List Seen) → finish s ≡ Some done → ReadsProgram OfType OfPattern OfExpr items ts rest → EndsIn s (done ++ items) ts rest
+  items_read [] done s ts rest e r = (s, e ∙ ap Some (sym (append-nil done)), ap (run s) r)
+  items_read (i ∷ items) done s ts rest e r =
+      let u = entry_reads i s done ts r.0 e r.1 in
+      let v = items_read items (done ++ i ∷ []) u.0 r.0 rest u.1 r.2 in
+      (v.0, v.1 ∙ ap Some (append_assoc done (i ∷ []) items), u.2 ∙ v.2)
+
+  -- a body is read where a definition begins behind items
+  pub body_reads : (done : List Entry) (h : At) (x : Pattern) (all rest : List Seen)
+      → (ReadsProgram OfType OfPattern OfExpr done then head (lower h.name) h.place then IsPart OfPattern x then inner_sign equals) all rest → run (Between []) all ≡ run (InBody done h x exprs.begin) rest
+  body_reads done h x all rest r =
+      let d = items_read done [] (Between []) all r.0 refl r.1 in
+      let u = r.2 in let v = u.2 in let pattern = v.1 in
+      let whole = parts.pattern_laws.complete pattern.front x pattern.spelled in
+      d.2
+      ∙ began d.0 done (lower h.name) h.place r.0 u.0 (AfterName done h) d.1 u.1 refl
+      ∙ ap (run (AfterName done h)) pattern.parts
+      ∙ param_reads done h pattern.front v.0 x pattern.past whole
+      ∙ move (InParam done h (readers.run patterns patterns.begin pattern.front)) equals v.2.0 v.0 rest (InBody done h x exprs.begin) v.2.1
+      (ap (machine.on_equals types patterns exprs entries done h (readers.run patterns patterns.begin pattern.front) v.2.0) whole)

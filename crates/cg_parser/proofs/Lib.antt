@@ -1,8 +1,11 @@
 pub mod Complete
 pub mod Follow
+pub mod Misplaced
 pub mod One
 pub mod Parts
+pub mod Same
 pub mod Says
 pub mod Sound
 pub mod Viable
 pub mod Whole
+pub mod Wrong

@@ -3,6 +3,7 @@ use Rattle.std.proofs.Common.{◌≡◌, List, [], ◌∷◌, ◌++◌, refl, sy
 use Rattle.cg_base.specs.Reader.{Reader, Reads, run}
 use Rattle.cg_symbols.specs.Symbols.{Seen, is_first}
 use Rattle.cg_symbols.specs.Readings.{ArePast, IsPart}
+use Rattle.cg_symbols.specs.Follows.{Follows}
 
 pub past_more : (front : List Seen) (t : Seen) → ArePast front → is_first t.place ≡ false → ArePast (front ++ t ∷ [])
 past_more [] t past h = (h, tt)
@@ -62,3 +63,12 @@ module _ {State Tree : Type 0} (R : Reader State Seen Tree) where
   pub completes : Ends → (s : State) (ts rest : List Seen) → HasRead s ts rest → R.is_open s ≡ true → (more : List Seen) × ArePast more × (tree : Tree) × (R.finish (run R s more) ≡ Some tree)
   completes ends s ts rest r o =
       let e = ends r.front (ap R.is_open (sym r.state) ∙ o) in (e.0, e.1, e.2, ap (λ x. R.finish (run R x e.0)) r.state ∙ e.3)
+
+-- a reader that follows another is led by the same tokens to what the other's state stands for
+module _ {State Held Tree Kept : Type 0} (plain : Reader State Seen Tree) (bounded : Reader Held Seen Kept) (held : State → Held) (kept : Tree → Kept) (follows : Follows plain bounded held kept) where
+  runs_from : (ts : List Seen) (s : State) → run bounded (held s) ts ≡ held (run plain s ts)
+  runs_from [] s = refl
+  runs_from (t ∷ ts) s = ap (λ x. run bounded x ts) (follows.steps s t) ∙ runs_from ts (plain.step s t)
+
+  pub same_run : (ts : List Seen) → run bounded bounded.begin ts ≡ held (run plain plain.begin ts)
+  same_run ts = ap (λ x. run bounded x ts) follows.begins ∙ runs_from ts plain.begin

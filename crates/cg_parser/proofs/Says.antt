@@ -21,19 +21,17 @@ use Rattle.cg_symbols.specs.Symbols.{Seen, seen}
 use Rattle.cg_symbols.specs.Follows.{Follows, option_map}
 use Rattle.cg_parser.specs.Grammar.{SpellsTokens, Spells}
 use Rattle.cg_parser.specs.Bounded.{within_program}
-use Rattle.cg_parser.specs.Answers.{depth_limit, Viable, at_token, at_end, Answers, Concludes, lexer_fault}
+use Rattle.cg_parser.specs.Answers.{depth_limit, Viable, at_token, at_end, IsWrongBarIn, Answers, Concludes, lexer_fault}
 use Rattle.cg_parser.specs.declared.fault.ParseFault.{ParseFault}
-use Rattle.cg_parser.specs.declared.fault.ParseFault.TheVariants.{S1, S2, S3, Nesting, Memory}
-use Rattle.cg_parser.proofs.Parts.{run_append}
+use Rattle.cg_parser.specs.declared.fault.ParseFault.TheVariants.{S1, S2, S3, S4, Nesting, Memory}
+use Rattle.cg_parser.proofs.Parts.{run_append, same_run}
 
 module _ {S H : Type 0} (plain : Reader S Seen (List Entry)) (bounded : Reader H Seen (Option (List Entry))) (held : S → H) (laws : Reads plain SpellsTokens)
-    (follows : Follows plain bounded held within_program) where
-  bounded_from : (ts : List Seen) (s : S) → run bounded (held s) ts ≡ held (run plain s ts)
-  bounded_from [] s = refl
-  bounded_from (t ∷ ts) s = ap (λ x. run bounded x ts) (follows.steps s t) ∙ bounded_from ts (plain.step s t)
-
+    (follows : Follows plain bounded held within_program) (is_wrong : H → Bool)
+    (wrong_is : (front : List Seen) (t : Seen) → plain.is_open (run plain plain.begin front) ≡ true → is_wrong (bounded.step (run bounded bounded.begin front) t) ≡ true → IsWrongBarIn front t)
+    (wrong_told : (front : List Seen) (t : Seen) → IsWrongBarIn front t → is_wrong (bounded.step (run bounded bounded.begin front) t) ≡ true) where
   bounded_run : (ts : List Seen) → run bounded bounded.begin ts ≡ held (run plain plain.begin ts)
-  bounded_run ts = ap (λ x. run bounded x ts) follows.begins ∙ bounded_from ts plain.begin
+  bounded_run = same_run plain bounded held within_program follows
 
   shut_for_ever : (ts : List Seen) (s : S) → plain.is_open s ≡ false → plain.is_open (run plain s ts) ≡ false
   shut_for_ever [] s h = h
@@ -75,6 +73,10 @@ module _ {S H : Type 0} (plain : Reader S Seen (List Entry)) (bounded : Reader H
   plain_open : (ts : List Seen) (s : H) (b : Bool) → s ≡ run bounded bounded.begin ts → bounded.is_open s ≡ b → plain.is_open (run plain plain.begin ts) ≡ b
   plain_open ts s b e o = sym (follows.opens (run plain plain.begin ts)) ∙ ap bounded.is_open (sym (e ∙ bounded_run ts)) ∙ o
 
+  -- where a token shuts the machine, none begins with it
+  pub shut_none : (front : List Lexeme) (t : Lexeme) (s next : H) → s ≡ run bounded bounded.begin (map seen front) → next ≡ bounded.step s (seen t) → bounded.is_open next ≡ false → Begins SpellsTokens (map seen front ++ seen t ∷ []) → ⊥
+  shut_none front t s next e n o = not_begun _ (plain_open (map seen front ++ seen t ∷ []) next false (next_state front t s next e n) o)
+
   viable : (bytes : List ℕ) (at : Cursor) (s : H) (g : Going bytes at s) → Viable bytes g.front at
   viable bytes at s g = record { divides = g.divides; begins = begun (map seen g.front) (plain_open (map seen g.front) s true g.state g.opened) }
 
@@ -102,16 +104,36 @@ module _ {S H : Type 0} (plain : Reader S Seen (List Entry)) (bounded : Reader H
         let parts : map seen (g.front ++ u ∷ more) ≡ (map seen g.front ++ seen t ∷ []) ++ map seen more = map-append seen g.front (u ∷ more) ∙ ap (λ x. map seen g.front ++ seen x ∷ map seen more) (sym same) ∙ sym (append_assoc (map seen g.front) (seen t ∷ []) (map seen more)) in
         none (map seen more, p, let P : List Seen → Type 0 = λ xs. SpellsTokens xs p in subst P parts sp)
 
+    none_with : (t : Lexeme) (next : H) → next ≡ bounded.step s (seen t) → bounded.is_open next ≡ false → Begins SpellsTokens (map seen g.front ++ seen t ∷ []) → ⊥
+    none_with t next = shut_none g.front t s next g.state
+
+    none_spelled : (t : Lexeme) (after : Cursor) (next : H) → Takes at t after → next ≡ bounded.step s (seen t) → bounded.is_open next ≡ false → (p : List Entry) → Spells bytes p → ⊥
+    none_spelled t after next k n o p spelled =
+        let r = further spelled.0 spelled.1 in
+        token_ends t after p r.1 r.0 k (none_with t next n o) r.3 r.4 (let P : List Lexeme → Type 0 = λ xs. SpellsTokens (map seen xs) p in subst P r.2 spelled.2)
+
+    stepped : (t : Lexeme) (next : H) (b : Bool) → next ≡ bounded.step s (seen t) → is_wrong next ≡ b → is_wrong (bounded.step (run bounded bounded.begin (map seen g.front)) (seen t)) ≡ b
+    stepped t next b n w = ap (λ x. is_wrong (bounded.step x (seen t))) (sym g.state) ∙ ap is_wrong (sym n) ∙ w
+
     -- at a token that nothing goes on with
-    pub token_answers : (t : Lexeme) (after : Cursor) (next : H) → Takes at t after → next ≡ bounded.step s (seen t) → bounded.is_open next ≡ false → Answers bytes (Err (S3 t.place))
-    token_answers t after next k n o =
-        let none : Begins SpellsTokens (map seen g.front ++ seen t ∷ []) → ⊥ = not_begun _ (plain_open (map seen g.front ++ seen t ∷ []) next false (next_state g.front t s next g.state n) o) in (
-          g.front,
-          at,
-          viable bytes at s g,
-          at_token t after k refl none,
-          λ p spelled. let r = further spelled.0 spelled.1 in token_ends t after p r.1 r.0 k none r.3 r.4 (let P : List Lexeme → Type 0 = λ xs. SpellsTokens (map seen xs) p in subst P r.2 spelled.2),
-        )
+    pub token_answers : (t : Lexeme) (after : Cursor) (next : H) → Takes at t after → next ≡ bounded.step s (seen t) → bounded.is_open next ≡ false → is_wrong next ≡ false → Answers bytes (Err (S3 t.place))
+    token_answers t after next k n o w = (
+      g.front,
+      at,
+      viable bytes at s g,
+      at_token t after k refl (none_with t next n o) (λ wrong. let no = wrong_told (map seen g.front) (seen t) wrong in let yes = stepped t next false n w in cc),
+      none_spelled t after next k n o,
+    )
+
+    -- at a bar at a wrong column
+    pub bar_answers : (t : Lexeme) (after : Cursor) (next : H) → Takes at t after → next ≡ bounded.step s (seen t) → bounded.is_open next ≡ false → is_wrong next ≡ true → Answers bytes (Err (S4 t.place))
+    bar_answers t after next k n o w = (
+      g.front,
+      at,
+      viable bytes at s g,
+      record { bar = t; after = after; taken = k; stands = refl; wrong = wrong_is (map seen g.front) (seen t) (plain_open (map seen g.front) s true g.state g.opened) (stepped t next true n w) },
+      none_spelled t after next k n o,
+    )
 
     module _ (space : IsSpace at.rest) where
       lexed : Lexes bytes g.front
@@ -168,6 +190,7 @@ module _ {S H : Type 0} (plain : Reader S Seen (List Entry)) (bounded : Reader H
       end_answers place e (Err (S1 q)) c = absurd c
       end_answers place e (Err (S2 q)) c = absurd c
       end_answers place e (Err (S3 q)) c = none_answers q (c.1 ∙ e) _ refl (sym both ∙ c.0)
+      end_answers place e (Err (S4 q)) c = absurd c
       end_answers place e (Err Nesting) c = deep_answers _ refl (sym both ∙ c)
       end_answers place e (Err Memory) c = tt
 

@@ -2,48 +2,75 @@
 use Rattle.std.proofs.Common.{List, refl, Option}
 use Rattle.cg_base.specs.Reader.{Reader, Reads}
 use Rattle.cg_surface.specs.Patterns.{Pattern}
+use Rattle.cg_surface.specs.Exprs.{Expr}
 use Rattle.cg_surface.specs.Programs.{Entry}
 use Rattle.cg_symbols.specs.Symbols.{Seen}
 use Rattle.cg_symbols.specs.Follows.{Follows}
 use Rattle.cg_parse_types.specs.Grammar.{SpellsType}
 use Rattle.cg_parse_types.specs.Plain as plain_types
 use Rattle.cg_parse_types.proofs.Laws as type_laws
+use Rattle.cg_parse_types.proofs.Ends as type_ends
 use Rattle.cg_parse_types.proofs.Follow as type_follows
 use Rattle.cg_parse_patterns.specs.Grammar.{SpellsPattern}
 use Rattle.cg_parse_patterns.specs.Plain as plain_patterns
 use Rattle.cg_parse_patterns.proofs.Laws as pattern_laws
 use Rattle.cg_parse_patterns.proofs.Follow as pattern_follows
-use Rattle.cg_parse_terms.specs.Grammar.{SpellsExpr}
-use Rattle.cg_parse_terms.specs.Plain as plain_exprs
-use Rattle.cg_parse_terms.proofs.Laws as expr_laws
-use Rattle.cg_parse_terms.proofs.Follow as expr_follows
+use Rattle.cg_parse_exprs.specs.Asked.{Asked}
+use Rattle.cg_parse_exprs.specs.Plain as plain_exprs
+use Rattle.cg_parse_exprs.specs.Bounded.{within as expr_within}
+use Rattle.cg_parse_exprs.proofs.Laws as expr_laws
+use Rattle.cg_parse_exprs.proofs.Viable as expr_ends
+use Rattle.cg_parse_exprs.proofs.Follow as expr_follows
 use Rattle.cg_parser.specs.Bounded.{bounded, within_program}
-use Rattle.cg_parser.specs.Grammar.{SpellsTokens}
+use Rattle.cg_parser.specs.Grammar.{SpellsTokens, SpellsExpr}
 use Rattle.cg_parser.specs.Machine.{State}
 use Rattle.cg_parser.specs.Machine as machine
 use Rattle.cg_parser.specs.Plain.{entries}
-use Rattle.cg_parser.specs.Views.{types, patterns, exprs, Held}
+use Rattle.cg_parser.specs.Views.{types, patterns, exprs, ExprHeld, Held}
 use Rattle.cg_parser.proofs.Complete.{Parts}
 use Rattle.cg_parser.proofs.Viable as viable
 use Rattle.cg_parser.proofs.Follow as follow
 
+-- what the reader of expressions asks of those of types and patterns
+pub asked : Asked plain_types.Stage plain_patterns.Stage plain_types.plain_reader plain_patterns.plain_reader SpellsType SpellsPattern
+asked = record {
+  type_laws = type_laws.laws;
+  pattern_laws = pattern_laws.laws;
+  type_ends = type_laws.viable_past;
+  pattern_ends = pattern_laws.viable_past;
+  no_type = refl;
+  no_pattern = refl;
+  no_comma = type_ends.no_comma;
+  no_closing = type_ends.no_closing;
+  no_bracket = type_ends.no_bracket;
+  no_equals = pattern_laws.ends;
+  no_arrow = pattern_laws.no_arrow;
+  arrow_first = λ p. refl;
+}
+
+abbrev pub ExprStage : Type 0
+ExprStage = plain_exprs.Stage plain_types.plain_reader plain_patterns.plain_reader
+
+abbrev pub expr_reader : Reader ExprStage Seen Expr
+expr_reader = plain_exprs.plain_reader plain_types.plain_reader plain_patterns.plain_reader
+
 abbrev pub Stage : Type 0
-Stage = State plain_types.Stage plain_patterns.Stage plain_exprs.Stage Pattern (List Entry)
+Stage = State plain_types.Stage plain_patterns.Stage ExprStage Pattern (List Entry)
 
 abbrev pub plain : Reader Stage Seen (List Entry)
-plain = machine.reader plain_types.plain_reader plain_patterns.plain_reader plain_exprs.plain_reader entries
+plain = machine.reader plain_types.plain_reader plain_patterns.plain_reader expr_reader entries
 
 abbrev pub bounded_items : Reader Held Seen (Option (List Entry))
 bounded_items = machine.reader types patterns exprs bounded
 
-parts : Parts plain_types.Stage plain_patterns.Stage plain_exprs.Stage plain_types.plain_reader plain_patterns.plain_reader plain_exprs.plain_reader SpellsType SpellsPattern SpellsExpr
+pub parts : Parts plain_types.Stage plain_patterns.Stage ExprStage plain_types.plain_reader plain_patterns.plain_reader expr_reader SpellsType SpellsPattern SpellsExpr
 parts = record {
   type_laws = type_laws.laws;
   pattern_laws = pattern_laws.laws;
-  expr_laws = expr_laws.laws;
+  expr_laws = expr_laws.laws plain_types.plain_reader plain_patterns.plain_reader SpellsType SpellsPattern asked;
   type_ends = type_laws.viable_past;
   pattern_ends = pattern_laws.viable_past;
-  expr_ends = expr_laws.viable_past;
+  expr_ends = expr_ends.viable_past plain_types.plain_reader plain_patterns.plain_reader SpellsType SpellsPattern asked;
   no_type = refl;
   no_pattern = refl;
   no_all = λ p. refl;
@@ -53,11 +80,17 @@ parts = record {
 
 -- it is exact
 pub laws : Reads plain SpellsTokens
-laws = viable.laws plain_types.plain_reader plain_patterns.plain_reader plain_exprs.plain_reader SpellsType SpellsPattern SpellsExpr parts
+laws = viable.laws plain_types.plain_reader plain_patterns.plain_reader expr_reader SpellsType SpellsPattern SpellsExpr parts
+
+abbrev pub expr_held : ExprStage → ExprHeld
+expr_held = expr_follows.held plain_types.plain_reader plain_patterns.plain_reader types patterns type_follows.held pattern_follows.held type_follows.follows pattern_follows.follows
+
+pub expr_follow : Follows expr_reader exprs expr_held expr_within
+expr_follow = expr_follows.follows plain_types.plain_reader plain_patterns.plain_reader types patterns type_follows.held pattern_follows.held type_follows.follows pattern_follows.follows
 
 abbrev pub held : Stage → Held
-held = follow.held plain_types.plain_reader plain_patterns.plain_reader plain_exprs.plain_reader types patterns exprs type_follows.held pattern_follows.held expr_follows.held type_follows.follows pattern_follows.follows expr_follows.follows
+held = follow.held plain_types.plain_reader plain_patterns.plain_reader expr_reader types patterns exprs type_follows.held pattern_follows.held expr_held type_follows.follows pattern_follows.follows expr_follow
 
 -- and the one up to the depth follows it
 pub follows : Follows plain bounded_items held within_program
-follows = follow.follows plain_types.plain_reader plain_patterns.plain_reader plain_exprs.plain_reader types patterns exprs type_follows.held pattern_follows.held expr_follows.held type_follows.follows pattern_follows.follows expr_follows.follows
+follows = follow.follows plain_types.plain_reader plain_patterns.plain_reader expr_reader types patterns exprs type_follows.held pattern_follows.held expr_held type_follows.follows pattern_follows.follows expr_follow

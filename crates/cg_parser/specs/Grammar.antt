@@ -14,7 +14,7 @@ use Rattle.cg_symbols.specs.Symbols.{Symbol, lower, upper, type_word, all_word, 
 use Rattle.cg_symbols.specs.Readings.{Reading, ◌then◌, head, inner, inner_sign, IsPart}
 use Rattle.cg_parse_types.specs.Grammar.{SpellsType}
 use Rattle.cg_parse_patterns.specs.Grammar.{SpellsPattern}
-use Rattle.cg_parse_terms.specs.Grammar.{SpellsExpr}
+use Rattle.cg_parse_exprs.specs.Grammar as exprs
 
 -- the letters of kinds: D, S and E
 abbrev pub is_letter : ℕ → Bool
@@ -85,6 +85,10 @@ module _ (OfType : List Seen → Written → Type 0) (OfPattern : List Seen → 
   abbrev pub ReadsProgram : List Entry → Reading
   ReadsProgram [] ts rest = ts ≡ rest
   ReadsProgram (i ∷ items) ts rest = (ReadsEntry i then ReadsProgram items) ts rest
+
+-- the tokens that spell an expression, over those that spell types and patterns
+abbrev pub SpellsExpr : List Seen → Expr → Type 0
+SpellsExpr = exprs.SpellsExpr SpellsType SpellsPattern
 
 -- the tokens spell the program
 abbrev pub SpellsTokens : List Seen → List Entry → Type 0

@@ -1,5 +1,5 @@
 -- What the parser's own values stand for, over the readers of the parts up to the depth of the language.
-use Rattle.std.specs.Prelude.{List, Option, Some, None}
+use Rattle.std.specs.Prelude.{List, Bool, false, Option, Some, None}
 use Rattle.cg_base.specs.Reader.{Reader}
 use Rattle.cg_surface.specs.declared.pattern.Pat.{Pat}
 use Rattle.cg_surface.specs.declared.program.Item.{Item}
@@ -13,10 +13,10 @@ use Rattle.cg_parse_types.specs.Bounded as bounded_types
 use Rattle.cg_parse_types.specs.States as type_state
 use Rattle.cg_parse_patterns.specs.Bounded as bounded_patterns
 use Rattle.cg_parse_patterns.specs.State as pattern_state
-use Rattle.cg_parse_terms.specs.Bounded as bounded_exprs
-use Rattle.cg_parse_terms.specs.Views as expr_state
+use Rattle.cg_parse_exprs.specs.Bounded as bounded_exprs
+use Rattle.cg_parse_exprs.specs.State as expr_state
 use Rattle.cg_parse_types.specs.declared.reader.TypeEnd.{TypeEnd}
-use Rattle.cg_parse_terms.specs.declared.reader.ExprEnd.{ExprEnd}
+use Rattle.cg_parse_exprs.specs.declared.reader.ExprEnd.{ExprEnd}
 use Rattle.cg_parser.specs.Machine.{State}
 use Rattle.cg_parser.specs.Machine as machine
 use Rattle.cg_parser.specs.declared.phase.Parts.{Parts}
@@ -30,8 +30,12 @@ types = bounded_types.bounded_reader
 abbrev pub patterns : Reader bounded_patterns.Held Seen (Option Pattern)
 patterns = bounded_patterns.bounded_reader
 
-abbrev pub exprs : Reader bounded_exprs.Held Seen (Option Expr)
-exprs = bounded_exprs.bounded_reader
+-- where the reader of expressions stands
+abbrev pub ExprHeld : Type 0
+ExprHeld = bounded_exprs.Held types patterns
+
+abbrev pub exprs : Reader ExprHeld Seen (Option Expr)
+exprs = bounded_exprs.bounded_reader types patterns
 
 -- how a part ends
 abbrev pub type_end : TypeEnd → Option (Option Written)
@@ -44,7 +48,7 @@ expr_end = expr_state.end_of
 pub record Read : Type 0 where
   pub types : bounded_types.Held
   pub patterns : bounded_patterns.Held
-  pub exprs : bounded_exprs.Held
+  pub exprs : ExprHeld
 
 abbrev pub parts_of : Parts → Read
 parts_of p = record { types = type_state.reader_state p.types; patterns = pattern_state.reader_state p.patterns; exprs = expr_state.reader_state p.exprs }
@@ -65,7 +69,7 @@ items_of (Some p) = Some (program_of p)
 
 -- a state over bounded items
 abbrev pub Held : Type 0
-Held = State bounded_types.Held bounded_patterns.Held bounded_exprs.Held (Option Pattern) (Option (List Entry))
+Held = State bounded_types.Held bounded_patterns.Held ExprHeld (Option Pattern) (Option (List Entry))
 
 -- where among items the reader stands, with the items before and the readers of the parts
 abbrev pub state_of : Option (List Entry) → Phase → Read → Held
@@ -85,3 +89,8 @@ state_of before (InSignature at vars) r = machine.InSignature before at vars.bou
 state_of before (InParam at) r = machine.InParam before at r.patterns
 state_of before (InBody at x) r = machine.InBody before at (pat_of x) r.exprs
 state_of before Failed r = machine.Failed
+
+-- whether it stopped at a bar at a wrong column
+abbrev pub is_wrong : Held → Bool
+is_wrong (machine.InBody before at x s) = expr_state.is_wrong_bar s
+is_wrong m = false

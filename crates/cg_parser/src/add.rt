@@ -8,7 +8,7 @@ ghost use Rattle.cg_parser.specs.Views.{types, patterns, exprs, items_of, item_o
 use crate::phase::Vars;
 use cg_base::{Items, Memory};
 use cg_core::At;
-use cg_parse_terms::ExprEnd;
+use cg_parse_exprs::ExprEnd;
 use cg_parse_types::TypeEnd;
 use cg_surface::{Item, Pat, Program};
 

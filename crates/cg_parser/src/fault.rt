@@ -8,7 +8,8 @@ use cg_lexer::LexFault;
 use thiserror::Error;
 
 /// Why bytes are no program within the depth: S1, a byte begins no token; S2, a comment that begins there isn't closed; S3, no
-/// program goes on with the token there; a program is spelled whose depth passes 1,024; or memory is wanting.
+/// program goes on with the token there; S4, a bar stands there at a column of no open match; a program is spelled whose depth
+/// passes 1,024; or memory is wanting.
 #[derive(Clone, Copy, Debug, PartialEq, Eq, Error)]
 pub enum ParseFault {
     #[error("unknown byte")]
@@ -17,6 +18,8 @@ pub enum ParseFault {
     S2(Place),
     #[error("unexpected token")]
     S3(Place),
+    #[error("bar in no open match")]
+    S4(Place),
     #[error("nested too deeply")]
     Nesting,
     #[error("out of memory")]

@@ -11,5 +11,5 @@ mod phase;
 mod program;
 
 pub use fault::ParseFault;
-pub use law::one_program;
+pub use law::{one_answer, one_program};
 pub use program::parse;

@@ -4,7 +4,7 @@ ghost use Rattle.cg_surface.specs.Programs.{Entry};
 ghost use Rattle.cg_parser.specs.Answers.{Answers, Concludes};
 ghost use Rattle.cg_parser.specs.Bounded.{bounded};
 ghost use Rattle.cg_parser.specs.Machine as machine;
-ghost use Rattle.cg_parser.specs.Views.{types, patterns, exprs, items_of, parts_of, state_of};
+ghost use Rattle.cg_parser.specs.Views.{types, patterns, exprs, items_of, parts_of, state_of, is_wrong};
 
 use crate::fault::ParseFault;
 use crate::item::{finish, step};
@@ -24,6 +24,16 @@ fn is_open(phase: &Phase, parts: &Parts) -> bool
         Phase::InBody(_, _) => parts.exprs.is_open(),
         Phase::Failed => false,
         _ => true,
+    }
+}
+
+/// Whether the reader stopped at a bar that is first on its line and stands at a wrong column.
+fn is_wrong_bar(phase: &Phase, parts: &Parts) -> bool
+    ensures { (done : Option (List Entry)) → result ≡ is_wrong (state_of done phase.now (parts_of parts.now)) }
+{
+    match phase {
+        Phase::InBody(_, _) => parts.exprs.is_wrong_bar(),
+        _ => false,
     }
 }
 
@@ -61,8 +71,12 @@ pub fn parse(alloc: Global, bytes: &[u8]) -> Result<Program, ParseFault>
             return conclude(alloc, done, &mut parts, phase, token.place);
         }
         phase = step(alloc, &mut done, &mut parts, phase, &token)?;
-        if !is_open(&phase, &parts) {
-            return Err(ParseFault::S3(token.place));
+        if is_open(&phase, &parts) {
+            continue;
         }
+        if is_wrong_bar(&phase, &parts) {
+            return Err(ParseFault::S4(token.place));
+        }
+        return Err(ParseFault::S3(token.place));
     }
 }

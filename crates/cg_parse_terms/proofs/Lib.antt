@@ -1,6 +1,0 @@
-pub mod Complete
-pub mod Follow
-pub mod Laws
-pub mod Lists
-pub mod Short
-pub mod Sound
