@@ -74,7 +74,7 @@ pub(crate) fn copies(alloc: Global, text: &str, count: usize) -> Result<String, 
     Ok(all)
 }
 
-/// What is said of a source that isn't spelled.
+/// What is said of a source that isn't small.
 pub(crate) const NOT_BUILT: &str = "a.cg: F1 form not built\n";
 
 /// Tokens and items, with the status and what is printed.
@@ -84,19 +84,43 @@ const ITEMS: [(&str, u8, &str); 20] = [
     ("f : U32 -> U32\nf x = x + 1\n", 0, "ok: 1 functions\n"),
     ("f x = x\nf : U32 -> U32", 0, "ok: 1 functions\n"),
     ("f : U32 -> U32", 0, "ok: 0 functions\n"),
-    ("f:U32->U32\nf\tx\n =\r\n x+\n +1", 1, NOT_BUILT),
+    (
+        "f:U32->U32\nf\tx\n =\r\n x+\n +1",
+        1,
+        "a.cg:5:2: S3 unexpected token\n",
+    ),
     ("f:U32->U32\nf\tx\n =\r\n x+\n 1", 0, "ok: 1 functions\n"),
     ("f : U8 -> U8\nf x = x\n", 1, NOT_BUILT),
     ("f : U32 -> U32 -> U32\n", 1, NOT_BUILT),
-    (" f : U32 -> U32\n", 1, NOT_BUILT),
-    ("f : U32 -> U32 f x = x\n", 1, NOT_BUILT),
-    ("f : U32 -> U32\nf x = x\n+ 1\n", 1, NOT_BUILT),
-    ("f : U32 -> U32\nf let = let\n", 1, NOT_BUILT),
+    (" f : U32 -> U32\n", 1, "a.cg:1:2: S3 unexpected token\n"),
+    (
+        "f : U32 -> U32 f x = x\n",
+        1,
+        "a.cg:1:20: S3 unexpected token\n",
+    ),
+    (
+        "f : U32 -> U32\nf x = x\n+ 1\n",
+        1,
+        "a.cg:3:1: S3 unexpected token\n",
+    ),
+    (
+        "f : U32 -> U32\nf let = let\n",
+        1,
+        "a.cg:2:3: S3 unexpected token\n",
+    ),
     ("f : U32 -> U32\nf _ = 1\n", 1, NOT_BUILT),
     ("f : U32 -> U32\nf _x' = _x'\n", 0, "ok: 1 functions\n"),
     ("-- f\n", 0, "ok: 0 functions\n"),
-    ("f : U32 -> U32\nf x = (x\n", 1, NOT_BUILT),
-    ("f : U32 -> U32\nf x = x + let y = 1 in y\n", 1, NOT_BUILT),
+    (
+        "f : U32 -> U32\nf x = (x\n",
+        1,
+        "a.cg:3:1: S3 unexpected token\n",
+    ),
+    (
+        "f : U32 -> U32\nf x = x + let y = 1 in y\n",
+        1,
+        "a.cg:2:11: S3 unexpected token\n",
+    ),
     (
         "f : U32 -> U32\nf x = x + (let y = x in y)\n",
         0,
@@ -111,6 +135,56 @@ fn tokens_and_items_are_read(rt: HostRuntime) -> Result<(), Fail> {
     let words = ["check", "a.cg"].as_slice();
     for (source, code, printed) in ITEMS {
         expect(&rt, alloc, words, source.as_bytes(), code, printed)?;
+    }
+    Ok(())
+}
+
+/// Sources that spell no program, with the line of the first fault; and at the end one that spells one.
+const SYNTAX: [(&[u8], &str); 12] = [
+    (
+        b"f : U8 -> U8\nf x = x ; 1\n",
+        "a.cg:2:9: S1 unknown byte\n",
+    ),
+    (b"{- a", "a.cg:1:1: S2 comment not closed\n"),
+    (b"f : U8 ->\n", "a.cg:2:1: S3 unexpected token\n"),
+    (b"f : U8 ->", "a.cg:1:10: S3 unexpected token\n"),
+    (b"\xff", "a.cg:1:1: S1 unknown byte\n"),
+    (
+        b"type Cell = {val : U32, tag : U8}\nbump : Cell -> Cell\nbump c = let c' {val = v} = c in c' {val = v + 1",
+        "a.cg:3:49: S3 unexpected token\n",
+    ),
+    (
+        b"f : U8 -> U8\nf x = x < x < 1\n",
+        "a.cg:2:15: S3 unexpected token\n",
+    ),
+    (
+        b"f : U8 -> U8\nf x = A x x\n",
+        "a.cg:2:11: S3 unexpected token\n",
+    ),
+    (
+        b"f : U8 -> U8\nf x = let y = x !x\n",
+        "a.cg:3:1: S3 unexpected token\n",
+    ),
+    (
+        b"f v = v\n  | A -> 1\n | B -> 2\n",
+        "a.cg:3:2: S4 bar in no open match\n",
+    ),
+    (
+        b"type V = <A <C | D> | B>\nf : V -> U8\nf v = v\n  | A w -> w\n    | C -> 1\n   | D -> 2\n  | B -> 3\n",
+        "a.cg:6:4: S4 bar in no open match\n",
+    ),
+    (
+        b"type V = <A <C | D> | B>\nf : V -> U8\nf v = v\n  | A w -> w\n    | C -> 1\n    | D -> 2\n  | B -> 3\n",
+        NOT_BUILT,
+    ),
+];
+
+#[test]
+fn faults_of_reading_are_told_with_their_places(rt: HostRuntime) -> Result<(), Fail> {
+    let alloc = rt.alloc();
+    let words = ["check", "a.cg"].as_slice();
+    for (source, printed) in SYNTAX {
+        expect(&rt, alloc, words, source, 1, printed)?;
     }
     Ok(())
 }

@@ -9,10 +9,18 @@ use std::process::Abort;
 use std::test::Fail;
 
 /// Sources and heap files at which several steps would refuse, the reads that fail, and what the first of these steps says.
-const ORDER: [(&str, &str, &[u64], u8, &str); 12] = [
+const ORDER: [(&str, &str, &[u64], u8, &str); 13] = [
     (NEXT, "arg = 41", &[1, 2], 3, "a.cg: cannot be read\n"),
     // Not spelled, before names and types.
-    ("g : U32 -> U32\ng x = y\n-", "x", &[2], 1, NOT_BUILT),
+    (
+        "g : U32 -> U32\ng x = y\n-",
+        "x",
+        &[2],
+        1,
+        "a.cg:3:1: S3 unexpected token\n",
+    ),
+    // Not small, before names and types.
+    ("g : U8 -> U32\ng x = y\n", "x", &[2], 1, NOT_BUILT),
     // Names and types, before a source that isn't plain.
     (
         "f : SysState -> ()\nf s = ()\n",
@@ -114,7 +122,8 @@ fn the_limit_of_sources_has_its_place(rt: HostRuntime) -> Result<(), Fail> {
     refuses(&rt, alloc, &source, &[1, 2], 3, "a.cg: cannot be read\n")?;
     refuses(&rt, alloc, &source, &[2], 9, "limit: source\n")?;
     let _ = source.pop();
-    refuses(&rt, alloc, &source, &[2], 1, NOT_BUILT)
+    let unknown = "a.cg:1:1: S1 unknown byte\n";
+    refuses(&rt, alloc, &source, &[2], 1, unknown)
 }
 
 #[test]
@@ -127,7 +136,8 @@ fn the_limit_of_nesting_has_its_place(rt: HostRuntime) -> Result<(), Fail> {
     let limit = "limit: nesting\n";
     refuses(&rt, alloc, source.as_bytes(), &[2], 9, limit)?;
     let source = format!(in alloc; "f : U32 -> U32\nf x = {opened}y{closed})")?;
-    refuses(&rt, alloc, source.as_bytes(), &[2], 1, NOT_BUILT)
+    let unexpected = "a.cg:2:4008: S3 unexpected token\n";
+    refuses(&rt, alloc, source.as_bytes(), &[2], 1, unexpected)
 }
 
 #[test]

@@ -127,7 +127,7 @@ const ODD: [(&[&str], u8, &str); 14] = [
         7,
         "a.cg: H1 not in the heap grammar\n",
     ),
-    (&["run", "h", "f", "h"], 1, "h: F1 form not built\n"),
+    (&["run", "h", "f", "h"], 1, "h:1:5: S3 unexpected token\n"),
     (&["run", "a.cg", "-", "h"], 1, "a.cg: E1 no such function\n"),
     (&["run", "a.cg", "", "h"], 1, "a.cg: E1 no such function\n"),
 ];

@@ -5,12 +5,13 @@ use std::process::Abort;
 use std::test::Fail;
 
 /// What reading a source answers: `ok`, or its fault with its place.
-fn told(alloc: Global, source: &[u8]) -> Result<String, Fail> {
+pub(crate) fn told(alloc: Global, source: &[u8]) -> Result<String, Fail> {
     let (rule, place) = match parse(alloc, source) {
         Ok(_) => return Ok(format!(in alloc; "ok")?),
         Err(ParseFault::S1(place)) => ("S1", place),
         Err(ParseFault::S2(place)) => ("S2", place),
         Err(ParseFault::S3(place)) => ("S3", place),
+        Err(ParseFault::S4(place)) => ("S4", place),
         Err(ParseFault::Nesting) => return Ok(format!(in alloc; "nesting")?),
         Err(ParseFault::Memory) => return Ok(format!(in alloc; "no memory")?),
     };
@@ -20,7 +21,7 @@ fn told(alloc: Global, source: &[u8]) -> Result<String, Fail> {
 }
 
 /// Reads sources and compares the answers.
-fn expect(rt: &impl Abort, alloc: Global, cases: &[(&str, &str)]) -> Result<(), Fail> {
+pub(crate) fn expect(rt: &impl Abort, alloc: Global, cases: &[(&str, &str)]) -> Result<(), Fail> {
     for (source, answer) in cases {
         let found = told(alloc, source.as_bytes())?;
         assert_eq!(rt; found.as_str(), *answer, "at {source}");
