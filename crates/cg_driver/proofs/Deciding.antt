@@ -1,7 +1,8 @@
 -- From the answer of a call to what follows: where contents are told, which status the bytes of the files give, and that all in
 -- order gives status 0, unless memory runs out.
-use Rattle.std.proofs.Common.{◌≡◌, ◌⊎◌, ◌∙◌, ◌+◌, ◌<◌, ◌≤◌, ℕ, true, false, List, [], ◌∷◌, Option, Some, None, take, length, refl, sym, ap, subst, inl, inr, arith}
+use Rattle.std.proofs.Common.{◌≡◌, ◌⊎◌, ◌∙◌, ◌+◌, ◌<◌, ◌≤◌, ℕ, true, false, List, [], ◌∷◌, Option, Some, None, Result, Err, take, length, refl, sym, ap, subst, inl, inr, arith}
 use Rattle.std.specs.Io.KnownBytes.{append_known}
+use Rattle.std.specs.Prelude.{codes}
 use Rattle.std.proofs.lemmas.List.{take_all, length-take}
 use Rattle.cg_base.specs.declared.fun.Fun.TheVariants.{User}
 use Rattle.cg_check.proofs.Main.{one_core}
@@ -13,8 +14,12 @@ use Rattle.cg_eval.specs.Plain.{plain_kernel}
 use Rattle.cg_heaptext.specs.Laws.{OneArgument}
 use Rattle.cg_outside.specs.Held.{Held, IsReadOf, bytes_at}
 use Rattle.cg_outside.specs.Causes.{Rose}
-use Rattle.cg_parser.specs.Answers.{depth_limit, NoProgram}
-use Rattle.cg_parser.specs.Laws.{OneProgram}
+use Rattle.cg_parser.specs.Answers.{depth_limit, NoProgram, Answers as Parses}
+use Rattle.cg_parser.specs.Grammar.{Spells}
+use Rattle.cg_parser.specs.Laws.{OneProgram, OneAnswer}
+use Rattle.cg_parser.specs.declared.fault.ParseFault.{ParseFault}
+use Rattle.cg_parser.specs.declared.fault.ParseFault.TheVariants.{S1, S2, S3, S4, Memory as NoMemory}
+use Rattle.cg_surface.specs.declared.program.Program.{Program}
 use Rattle.cg_small.specs.Desugar.{functions_of}
 use Rattle.cg_small.specs.Small.{small_program}
 use Rattle.cg_small.specs.Trees.{Entry as SmallEntry}
@@ -27,9 +32,10 @@ use Rattle.cg_value.specs.Values.{number, function}
 use Rattle.cg_words.specs.Words.{Command, check, run}
 use Rattle.cg_driver.specs.declared.status.Status.{Status}
 use Rattle.cg_driver.specs.declared.status.Status.TheVariants.{Done, Refused, Usage, ReadFault, WriteFault, Memory, StepLimit, HeapRefused, CertRefused, TooLarge}
-use Rattle.cg_driver.specs.Answer.{source_limit, heap_limit, SpellsWithin, SpellsSmall, IsAcceptedSource, unknown_byte, open_comment, unexpected, wrong_bar, Refuses, not_spelled, not_small, not_accepted, Exceeds, too_long, too_deep, Judges, entry_at, IsReady, RefusesRun, of_source, not_plain, no_entry, RefusesHeap, no_heap_text, out_of_range, IsArgument, IsJudgedRun}
+use Rattle.cg_driver.specs.Answer.{source_limit, heap_limit, SpellsWithin, SpellsSmall, IsAcceptedSource, RefusesSyntax, unknown_byte, open_comment, unexpected, wrong_bar, Refuses, not_spelled, not_small, not_accepted, Exceeds, too_long, too_deep, Judges, entry_at, IsReady, RefusesRun, of_source, not_plain, no_entry, RefusesHeap, no_heap_text, out_of_range, IsArgument, IsJudgedRun}
+use Rattle.cg_driver.specs.Lines.{fault_line}
 use Rattle.cg_driver.specs.Run.{table_in, Runs, RunsOut}
-use Rattle.cg_driver.specs.Says.{ReadFails, of_source as source_fails, of_heap, SaysOf, Answers, IsVerdict, IsReadBy, IsTooLarge, IsNotSmall, IsNotAccepted, IsRefused, CheckStatus, Ready, Evaluates, IsNotPlain, HasNoEntry, HasNoArgument, RunStatus, Decides}
+use Rattle.cg_driver.specs.Says.{ReadFails, of_source as source_fails, of_heap, SaysOf, Answers, IsVerdict, IsReadBy, IsTooLarge, IsNotSmall, IsNotAccepted, IsRefused, CheckStatus, Ready, Evaluates, IsNotPlain, HasNoEntry, HasNoArgument, RunStatus, IsSyntaxLine, Decides}
 
 -- ---- what was read of files whose contents are told
 
@@ -500,3 +506,65 @@ module _ (one : OneProgram) (single : OneArgument) (c : Option Command) (h : Opt
   run_done file entry heap steps asked done same also =
       done_or_memory (RunStatus (bytes_at held file) (bytes_at held heap) entry steps) s done (λ e. run_unfailed c before now file entry heap steps asked same also (read_fault c h before now old new f f' s a e))
       (λ e. no_write (write_rose (SaysOf c h before now) old new f f' s a e)) (runs one single c h held before now old new f f' s a file entry heap steps told asked)
+
+-- ---- faults of reading
+
+-- the line of a fault of reading
+abbrev line_of : List ℕ → ParseFault → List ℕ
+line_of file (S1 place) = fault_line file place (codes "S1 unknown byte")
+line_of file (S2 place) = fault_line file place (codes "S2 comment not closed")
+line_of file (S3 place) = fault_line file place (codes "S3 unexpected token")
+line_of file (S4 place) = fault_line file place (codes "S4 bar in no open match")
+line_of file f = []
+
+abbrev answer_of : ParseFault → Result Program ParseFault
+answer_of f = Err f
+
+record Fault (file source text : List ℕ) : Type 0 where
+  fault : ParseFault
+  parses : Parses source (Err fault)
+  real : answer_of fault ≡ answer_of NoMemory → ⊥
+  line : text ≡ line_of file fault
+  none : NoProgram source
+
+fault_of : (file source text : List ℕ) → RefusesSyntax file source text → Fault file source text
+fault_of file source text (unknown_byte place found is) = record { fault = S1 place; parses = found; real = λ e. absurd (cc); line = is; none = found.4 }
+fault_of file source text (open_comment place found is) = record { fault = S2 place; parses = found; real = λ e. absurd (cc); line = is; none = found.4 }
+fault_of file source text (unexpected place found is) = record { fault = S3 place; parses = found; real = λ e. absurd (cc); line = is; none = found.4 }
+fault_of file source text (wrong_bar place found is) = record { fault = S4 place; parses = found; real = λ e. absurd (cc); line = is; none = found.4 }
+
+module _ (answer : OneAnswer) (file : List ℕ) where
+  -- a source has one line of a fault of reading, and no other line
+  same_fault : (source a b : List ℕ) → Fault file source a → Fault file source b → a ≡ b
+  same_fault source a b x y = x.line ∙ ap (line_of file) (answer source (Err x.fault) (Err y.fault) x.parses y.parses x.real y.real) ∙ sym y.line
+
+  same_line : (source text line : List ℕ) → Refuses file source text → Fault file source line → text ≡ line
+  same_line source text line (not_spelled s) y = same_fault source text line (fault_of file source text s) y
+  same_line source text line (not_small p spelled other is) y = absurd (y.none p spelled.spells)
+  same_line source text line (not_accepted q spelled never is) y = absurd (y.none spelled.program spelled.within.spells)
+
+  never_accepted : (source read line : List ℕ) (functions : List Function) → read ≡ take (source_limit + 1) source → IsAcceptedSource read functions → Fault file source line → ⊥
+  never_accepted source read line functions is accepted y =
+      y.none accepted.spelled.program (subst (λ x. Spells x accepted.spelled.program) (whole source_limit source read is accepted.short) accepted.spelled.within.spells)
+
+  same_run : (source read entry text line : List ℕ) → read ≡ take (source_limit + 1) source → RefusesRun file read entry text → Fault file source line → text ≡ line
+  same_run source read entry text line is (of_source short r) y = same_line source text line (subst (λ x. Refuses file x text) (whole source_limit source read is short) r) y
+  same_run source read entry text line is (not_plain functions accepted p e) y = absurd (never_accepted source read line functions is accepted y)
+  same_run source read entry text line is (no_entry functions accepted p n e) y = absurd (never_accepted source read line functions is accepted y)
+
+module _ (one : OneProgram) (single : OneArgument) (answer : OneAnswer) (c : Option Command) (h : Option Held) (held : Held) (before now : List ℕ → ℕ) (old new : Option (List ℕ)) (f f' : ℕ) (s : Status)
+    (a : Answers (SaysOf c h before now) old new f f' s) (told : h ≡ Some held) (verdict : IsVerdict s) where
+  pub check_refuses : (file line : List ℕ) → c ≡ Some (check file) → IsSyntaxLine file (bytes_at held file) line → (s ≡ Refused) × (new ≡ append_known old line)
+  check_refuses file line asked found =
+      let y : Fault file (bytes_at held file) line = fault_of file (bytes_at held file) line found.1 in
+      let is : s ≡ Refused = (checks one single c h held before now old new f f' s a file told asked verdict Refused).1 (found.0, inl y.none) in
+      let b : Answers (SaysOf (Some (check file)) h before now) old new f f' Refused = subst (λ x. Answers (SaysOf x h before now) old new f f' Refused) asked (subst (Answers (SaysOf c h before now) old new f f') is a) in
+      let read : b.1.0 ≡ bytes_at held file = whole source_limit (bytes_at held file) b.1.0 (told_is h held file source_limit b.1.0 told b.1.1) b.1.2.0 in
+      (is, b.2 ∙ ap (append_known old) (same_line answer file (bytes_at held file) b.0 line (subst (λ x. Refuses file x b.0) read b.1.2.1) y))
+
+  pub run_refuses : (file entry heap line : List ℕ) (steps : ℕ) → c ≡ Some (run file entry heap steps) → IsSyntaxLine file (bytes_at held file) line → (s ≡ Refused) × (new ≡ append_known old line)
+  run_refuses file entry heap line steps asked found =
+      let y : Fault file (bytes_at held file) line = fault_of file (bytes_at held file) line found.1 in
+      let is : s ≡ Refused = (runs one single c h held before now old new f f' s a file entry heap steps told asked verdict Refused).1 (inl (found.0, inl y.none)) in
+      let b : Answers (SaysOf (Some (run file entry heap steps)) h before now) old new f f' Refused = subst (λ x. Answers (SaysOf x h before now) old new f f' Refused) asked (subst (Answers (SaysOf c h before now) old new f f') is a) in
+      (is, b.2 ∙ ap (append_known old) (same_run answer file (bytes_at held file) b.1.0 entry b.0 line (told_is h held file source_limit b.1.0 told b.1.1) b.1.2 y))

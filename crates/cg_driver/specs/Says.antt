@@ -18,7 +18,7 @@ use Rattle.cg_value.specs.Values.{number, function}
 use Rattle.cg_words.specs.Words.{Command, check, run, command_of}
 use Rattle.cg_driver.specs.declared.status.Status.{Status}
 use Rattle.cg_driver.specs.declared.status.Status.TheVariants.{Done, Refused, Usage, ReadFault, WriteFault, Memory, StepLimit, HeapRefused, TooLarge}
-use Rattle.cg_driver.specs.Answer.{source_limit, heap_limit, Accepted, SpellsWithin, SpellsSmall, IsAcceptedSource, Exceeds, Judges, entry_at, IsReady, RefusesRun, IsArgument, IsJudgedRun}
+use Rattle.cg_driver.specs.Answer.{source_limit, heap_limit, Accepted, SpellsWithin, SpellsSmall, IsAcceptedSource, RefusesSyntax, Exceeds, Judges, entry_at, IsReady, RefusesRun, IsArgument, IsJudgedRun}
 use Rattle.cg_driver.specs.Lines.{usage_text, unread_line}
 use Rattle.cg_driver.specs.Run.{AreCores, table_in, RunsOut}
 
@@ -99,6 +99,10 @@ IsNotAccepted source = ((q : List SmallEntry) × SpellsSmall source q) × (Accep
 -- the source is within its limit and spells no program, or one within the depth that isn't small, or isn't accepted
 abbrev pub IsRefused : List ℕ → Type 0
 IsRefused source = (length source ≤ source_limit) × (NoProgram source ⊎ (IsNotSmall source ⊎ IsNotAccepted source))
+
+-- the source is within its limit and spells no program, and this is the line of its first fault of reading
+abbrev pub IsSyntaxLine : List ℕ → List ℕ → List ℕ → Type 0
+IsSyntaxLine file source line = (length source ≤ source_limit) × RefusesSyntax file source line
 
 -- what a check comes to, of the bytes of its file
 abbrev pub CheckStatus : List ℕ → Status → Type 0

@@ -1,6 +1,7 @@
 use Rattle.cg_heaptext.proofs.Reading.{one_argument}
 use Rattle.cg_parser.proofs.One.{one_program}
-use Rattle.cg_driver.proofs.Deciding.{checks, runs, read_fault, check_done, run_done}
+use Rattle.cg_parser.proofs.Same.{one_answer}
+use Rattle.cg_driver.proofs.Deciding.{checks, runs, read_fault, check_refuses, run_refuses, check_done, run_done}
 use Rattle.cg_driver.proofs.call.cogent.Goals as goal
 
 pub returns-clause-read_fault : goal.returns-clause-read_fault
@@ -18,3 +19,10 @@ returns-clause-check_done g c held file told asked done same no_write = check_do
 pub returns-clause-run_done : goal.returns-clause-run_done
 returns-clause-run_done g c held file entry heap steps told asked done same also no_write =
     run_done one_program one_argument _ _ held _ _ _ _ _ _ _ c.answer.ensures.answer told no_write file entry heap steps asked done same also
+
+pub returns-clause-check_refuses : goal.returns-clause-check_refuses
+returns-clause-check_refuses g c held file line told asked verdict found = check_refuses one_program one_argument one_answer _ _ held _ _ _ _ _ _ _ c.answer.ensures.answer told verdict file line asked found
+
+pub returns-clause-run_refuses : goal.returns-clause-run_refuses
+returns-clause-run_refuses g c held file entry heap line steps told asked verdict found =
+    run_refuses one_program one_argument one_answer _ _ held _ _ _ _ _ _ _ c.answer.ensures.answer told verdict file entry heap line steps asked found
