@@ -408,7 +408,6 @@ fn nested(
     push_times(&mut text, open, count)?;
     text.push_str(middle)?;
     push_times(&mut text, close, count)?;
-    text.push_str("\n")?;
     Ok(text)
 }
 
@@ -442,7 +441,8 @@ const NESTED: [(&str, &str, &str, usize, &str); 22] = [
 fn depth_is_told_and_never_a_crash(rt: HostRuntime) -> Result<(), Fail> {
     let alloc = rt.alloc();
     for (open, middle, close, count, answer) in NESTED.as_slice() {
-        let source = nested(alloc, open, middle, close, *count)?;
+        let mut source = nested(alloc, open, middle, close, *count)?;
+        source.push_str("\n")?;
         let found = told(alloc, source.as_bytes())?;
         assert_eq!(rt; found.as_str(), *answer, "at {open} and {close}");
     }
@@ -462,7 +462,6 @@ fn faults_come_before_the_limit(rt: HostRuntime) -> Result<(), Fail> {
     let alloc = rt.alloc();
     for (rest, answer) in BEHIND.as_slice() {
         let mut source = nested(alloc, "(", "x", ")", 2000)?;
-        source.truncate(source.len() - 1);
         source.push_str(rest)?;
         let found = told(alloc, source.as_bytes())?;
         assert_eq!(rt; found.as_str(), *answer, "at {rest}");
