@@ -1,0 +1,2 @@
+//! Circles of mentions.
+#![tactic(auto)]

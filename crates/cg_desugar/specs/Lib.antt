@@ -1,0 +1,7 @@
+pub mod Declared
+pub mod Desugar
+pub mod Expand
+pub mod Faults
+pub mod Mentions
+pub mod Takes
+pub mod Terms
