@@ -1,0 +1,4 @@
+pub mod Behind
+pub mod Parts
+pub mod Says
+pub mod Scopes
