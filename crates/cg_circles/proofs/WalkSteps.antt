@@ -1,17 +1,16 @@
 -- What a walk keeps, and what a walk that is back has found.
-use Rattle.std.proofs.Common.{◌≡◌, ◌≢◌, ℕ, zero, suc, ◌+◌, ◌-◌, ◌*◌, ◌<◌, ◌≤◌, List, [], ◌∷◌, ◌++◌, length, get_or, set, take, replicate, None, Some, ◌⊎◌, inl, inr, sym, ap, ◌∙◌, subst, refl, arith, length-append}
+use Rattle.std.proofs.Common.{◌≡◌, ◌≢◌, ℕ, zero, suc, ◌+◌, ◌-◌, ◌<◌, ◌≤◌, List, [], ◌∷◌, ◌++◌, length, get_or, set, take, None, Some, ◌⊎◌, inl, inr, sym, ap, ◌∙◌, subst, refl, arith, length-append}
 use Rattle.std.specs.List.{Contains, slice_get, sum_by}
 use Rattle.std.proofs.Math.Nat.{eq-or-lt_of_le}
 use Rattle.std.proofs.Math.Seq.{take-append_seam}
-use Rattle.std.proofs.lemmas.List.{get_or-set_same, get_or-set_other, get_or-take, get_or_append_left, get_or_default, get_or_push, length-set, length-replicate, length-take-le, take-append-le, take_all, take_more}
+use Rattle.std.proofs.lemmas.List.{get_or-set_same, get_or-set_other, get_or-take, get_or_append_left, get_or_default, get_or_push, length-set, length-take-le, take-append-le, take_all, take_more}
 use Rattle.std.proofs.lemmas.List.Elements.{Contains-append_left, Contains-push, Contains-get_or, All-contains, All-get_or, All-from_get_or, All-push}
-use Rattle.std.proofs.lemmas.List.Folds.{sum_by-replicate}
 use Rattle.std.proofs.lemmas.List.Sums.{sum_by-set, sum_by-cons}
 use Rattle.std.proofs.lemmas.Option.{get_or_from_slice_get, slice_get_within, slice_get-get_or}
 use Rattle.cg_circles.specs.declared.walk.Mark.{Mark}
 use Rattle.cg_circles.specs.declared.walk.Mark.TheVariants.{New, Open, Done}
 use Rattle.cg_circles.specs.Circles.{Mentions, Reaches, mentioned, onward, IsOrder, Closed}
-use Rattle.cg_circles.specs.Walks.{State, mark_at, steps, weight, counted, AreDone, fresh, opened, seen_to, finished, IsWalk, StaysMet, IsStep}
+use Rattle.cg_circles.specs.Walks.{State, mark_at, steps, weight, counted, AreDone, opened, seen_to, finished, IsWalk, StaysMet, IsStep}
 use Rattle.cg_circles.proofs.Places.{is_mention, mention_of, mentioned_within}
 
 -- two numbers are the same or not
@@ -53,38 +52,6 @@ done_stays old new stays nodes all =
 
 same_count : (new a c old d : ℕ) → new + c ≡ old + d → c ≡ d → a ≡ old → a ≡ new
 same_count new a c old d sums same before = omega arith
-
--- a walk before its first step
-pub fresh_walk : (edges : List (List ℕ)) (n : ℕ) → n ≡ length edges → IsWalk edges (fresh n)
-unfolding fresh
-fresh_walk edges n e = record {
-  size = length-replicate n New ∙ e;
-  places = length-replicate n zero ∙ e;
-  listed = λ i done. absurd (cc (all_new n i));
-  behind = λ k i j at m. none k (slice_get_within [] k i at);
-  count = sym (sum_by-replicate counted n New ∙ no_more n);
-  on_way = λ i o. absurd (cc (all_new n i));
-  is_open = λ p lt. none p lt;
-  apart = λ p q less lt same. none q lt;
-  path = λ p q less lt. none q lt;
-  followed = λ i. subst (λ m. AreDone (replicate n New) (take m (get_or edges i []))) (sym (all_none n i)) (λ k d lt. none k lt);
-}
-  where
-    none : {A : Type 0} (p : ℕ) → p < zero → A
-    none p lt = absurd (omega arith)
-
-    all_new : (n i : ℕ) → get_or (replicate n New) i New ≡ New
-    all_new zero i = refl
-    all_new (suc n) zero = refl
-    all_new (suc n) (suc i) = all_new n i
-
-    all_none : (n i : ℕ) → get_or (replicate n zero) i zero ≡ zero
-    all_none zero i = refl
-    all_none (suc n) zero = refl
-    all_none (suc n) (suc i) = all_none n i
-
-    no_more : (n : ℕ) → n * 0 ≡ 0
-    no_more n = omega arith
 
 module _ (edges : List (List ℕ)) (s : State) (w : IsWalk edges s) where
   -- a node is put on the way
@@ -319,9 +286,3 @@ none_left way items same none = sym same ∙ empty items none
     empty : (items : List ℕ) → None ≡ slice_get items (length items - 1) → items ≡ []
     empty [] none = refl
     empty (j ∷ items) none = let some = slice_get-get_or (j ∷ items) (length (j ∷ items) - 1) 0 (omega arith) in absurd (cc)
-
--- no node before this one is new
-pub met_more : (old new : State) (n : ℕ) → ((i : ℕ) → i < n → mark_at old.marks i ≡ New → ⊥) → StaysMet old new → (mark_at new.marks n ≡ New → ⊥) → (i : ℕ) → i < n + 1 → mark_at new.marks i ≡ New → ⊥
-met_more old new n before stays here i lt is =
-    let le : i ≤ n = omega arith in
-    elim (eq-or-lt_of_le le) [ inl e ↦ here (subst (λ k. mark_at new.marks k ≡ New) e is) | inr less ↦ before i less (stays i is) ]

@@ -1,5 +1,5 @@
 // A walk down through a graph, depth first, with a way of its own in the place of calls.
-#![tactic(auto, unfolding(crate::specs::Walks::fresh, crate::specs::Walks::opened, crate::specs::Walks::seen_to, crate::specs::Walks::finished))]
+#![tactic(auto, unfolding(crate::specs::Walks::fresh, crate::specs::Walks::opened, crate::specs::Walks::finished))]
 
 ghost use Rattle.std.specs.Prelude.{◌≡◌, ◌↔◌, ◌-◌, ◌<◌, [], Some, length, get_or, take, slice_get, IfOk, IsTrue, OnOk};
 ghost use Rattle.cg_circles.specs.declared.walk.Mark.TheVariants.{Done};
