@@ -1,4 +1,4 @@
--- What marking functions keeps, and what a search that is done has found.
+-- What marking nodes keeps, and what a search that is done has found.
 use Rattle.std.proofs.Common.{◌≡◌, ℕ, zero, suc, ◌+◌, ◌-◌, ◌<◌, ◌≤◌, Bool, true, false, cond, List, [], ◌∷◌, ◌++◌, length, get_or, set, take, drop, replicate, ◌⊎◌, inl, inr, ◌↔◌, IsTrue, sym, ap, ◌∙◌, subst, refl, arith, length-append, add-one, drop-cons}
 use Rattle.std.proofs.lemmas.Bool.{true≢false}
 use Rattle.std.proofs.lemmas.List.{get_or-set_same, length-set, length-replicate}
@@ -13,7 +13,7 @@ use Rattle.cg_circles.proofs.Places.{place, is_mention, mention_of}
 abbrev pub left : Reached → ℕ
 left r = sum_by (λ b. cond b 0 1) r.marks + length r.work
 
--- marking a function that is marked already, or is none, changes nothing
+-- marking a node that is marked already, or is none, changes nothing
 mark_old : (r : Reached) (j : ℕ) → get_or r.marks j true ≡ true → mark r j ≡ r
 unfolding mark
 mark_old r j e = ap (λ b. cond b r (reached (set r.marks j true) (r.work ++ j ∷ []))) e
