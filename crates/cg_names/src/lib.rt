@@ -11,3 +11,4 @@ mod types;
 
 pub use fault::NamingFault;
 pub use items::check_names;
+pub use scope::Scope;
