@@ -1,0 +1,4 @@
+pub mod ExprLists
+pub mod ItemLists
+pub mod PatternLists
+pub mod TypeLists
