@@ -1,4 +1,5 @@
 pub mod ExprLists
 pub mod ItemLists
+pub mod Nodes
 pub mod PatternLists
 pub mod TypeLists
