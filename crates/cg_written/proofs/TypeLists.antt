@@ -44,10 +44,10 @@ alts_counted choices = alts_more no_alts (map alt_of choices) ∙ omega (arith, 
 
 -- ---- an item further. Each says first that the item is itself, so that `grind` finds it where the item is read
 
-field_is : (f : SPart) → field_of f ≡ record { at = f.at; ty = written_of f.ty }
+pub field_is : (f : SPart) → field_of f ≡ record { at = f.at; ty = written_of f.ty }
 field_is f = fold_out-SPart (Place → Written) OneAlt OneField Written layer alt_layer field_layer type_layer f
 
-alt_is : (a : SAlt) → alt_of a ≡ record { at = (out-SAlt a).at; ty = option_map written_of (out-SAlt a).ty }
+pub alt_is : (a : SAlt) → alt_of a ≡ record { at = (out-SAlt a).at; ty = option_map written_of (out-SAlt a).ty }
 alt_is a = ap alt_of (sym (roll-out-SAlt a)) ∙ rolled (out-SAlt a).at (out-SAlt a).ty
   where
     rolled : (at : At) (t : Option STy) → alt_of (roll-SAlt (record { at = at; ty = t })) ≡ record { at = at; ty = option_map written_of t }

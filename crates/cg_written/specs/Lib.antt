@@ -1,2 +1,4 @@
+pub mod Capped
+pub mod Known
 pub mod Sizes
 pub mod Wide

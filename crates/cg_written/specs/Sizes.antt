@@ -75,6 +75,11 @@ module _ (known : Bodies) where
     total_alts (types.and_plain choices at) = total_alts choices + 1
     total_alts (types.and_alt choices at t) = total_alts choices + size t
 
+  -- the size of the payload of an alternative
+  abbrev pub payload_size : Option Written → ℕ
+  payload_size None = 1
+  payload_size (Some t) = size t
+
   abbrev mutual
     -- the size of the largest type that is written in a type, itself among them
     pub greatest : Written → ℕ
@@ -101,3 +106,7 @@ module _ (known : Bodies) where
     greatest_alt types.no_alts = 0
     greatest_alt (types.and_plain choices at) = greatest_alt choices
     greatest_alt (types.and_alt choices at t) = max (greatest_alt choices) (greatest t)
+
+  abbrev pub greatest_payload : Option Written → ℕ
+  greatest_payload None = 0
+  greatest_payload (Some t) = greatest t

@@ -2,9 +2,16 @@
 //! "Limits").
 #![tactic(auto)]
 
+mod named_size;
+mod oversize;
+mod size;
+mod table;
+mod weigh;
 mod wide;
 mod wide_exprs;
 mod wide_patterns;
 mod wide_types;
 
+pub use oversize::Oversize;
+pub use table::Synonyms;
 pub use wide::is_too_wide;
