@@ -2,6 +2,7 @@ pub mod ExprLists
 pub mod ItemLists
 pub mod NamedSizes
 pub mod Nodes
+pub mod OrderSteps
 pub mod PatternLists
 pub mod SizeSteps
 pub mod TypeLists

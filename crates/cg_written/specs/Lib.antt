@@ -1,3 +1,4 @@
+pub mod Alternatives
 pub mod Capped
 pub mod Known
 pub mod Sizes

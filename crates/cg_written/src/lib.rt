@@ -3,6 +3,7 @@
 #![tactic(auto)]
 
 mod named_size;
+mod order;
 mod oversize;
 mod size;
 mod table;
