@@ -5,5 +5,6 @@ pub mod Nodes
 pub mod OrderSteps
 pub mod PatternLists
 pub mod SizeSteps
+pub mod TakeSteps
 pub mod TypeLists
 pub mod WeighSteps

@@ -7,6 +7,7 @@ mod order;
 mod oversize;
 mod size;
 mod table;
+mod take;
 mod weigh;
 mod wide;
 mod wide_exprs;
