@@ -1,6 +1,8 @@
 pub mod ExprLists
+pub mod ExpandSteps
 pub mod ItemLists
 pub mod NamedSizes
+pub mod NamedSteps
 pub mod Nodes
 pub mod OrderSteps
 pub mod PatternLists

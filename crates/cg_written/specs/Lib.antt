@@ -1,6 +1,7 @@
 pub mod Alternatives
 pub mod Capped
 pub mod Known
+pub mod Pieces
 pub mod Sizes
 pub mod Taken
 pub mod Wide

@@ -2,6 +2,8 @@
 //! "Limits").
 #![tactic(auto)]
 
+mod expand;
+mod named;
 mod named_size;
 mod order;
 mod oversize;
