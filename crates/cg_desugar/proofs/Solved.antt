@@ -150,13 +150,13 @@ among_all positions [] j k n lt is has = absurd (omega arith)
 among_all positions (m ∷ ns) j zero n lt is has = Contains-append_left (positions m) (all_of positions ns) j (subst (λ x. Contains (positions x) j) (sym is) has)
 among_all positions (m ∷ ns) j (suc k) n lt is has = Contains-append_right (positions m) (all_of positions ns) j (among_all positions ns j k n (omega arith) is has)
 
-module _ (entries : List Entry) (order : List ℕ) (is : IsOrder (mentions entries) order) where
-  -- the first synonym of the name, if there is one, stands among the first p of the order
-  pub record IsPlaced (p : ℕ) (n : List ℕ) : Type 0 where
-    pub among : (j : ℕ) → synonym_from 0 entries n ≡ j ∷ [] → Contains (take p order) j
+-- the first synonym of the name, if there is one, stands among the first p of the order
+pub record IsPlaced (entries : List Entry) (order : List ℕ) (p : ℕ) (n : List ℕ) : Type 0 where
+  pub among : (j : ℕ) → synonym_from 0 entries n ≡ j ∷ [] → Contains (take p order) j
 
+module _ (entries : List Entry) (order : List ℕ) (is : IsOrder (mentions entries) order) where
   -- what the body of a synonym mentions stands before it
-  mentions_placed : (p : ℕ) (n : List ℕ) (params : List At) (body : Written) → IsFirstSynonym entries 0 n params body → IsPlaced (suc p) n → (m : List ℕ) → Contains (type_mentions body) m → IsPlaced p m
+  pub mentions_placed : (p : ℕ) (n : List ℕ) (params : List At) (body : Written) → IsFirstSynonym entries 0 n params body → IsPlaced entries order (suc p) n → (m : List ℕ) → Contains (type_mentions body) m → IsPlaced entries order p m
   mentions_placed p n params body found placed m has = record {
     among = λ j first.
         let place = placed.among found.position (found.first ∙ ap (λ k. k ∷ []) (omega arith)) in
@@ -180,7 +180,7 @@ module _ (entries : List Entry) (order : List ℕ) (is : IsOrder (mentions entri
           (has.0, omega (arith, length-take p order), get_or-take p order has.0 j (omega arith) ∙ sym (get_or-take q order has.0 j (omega arith)) ∙ has.2)
 
   -- a synonym is for the same with one more within one another, where this holds of all that stands before it
-  one_more : (p k : ℕ) (n : List ℕ) (d : Option Declared) → type_named entries n ≡ d → IsPlaced (suc p) n → ((m : List ℕ) → IsPlaced p m → bodies_to entries (suc k) m ≡ bodies_to entries k m)
+  one_more : (p k : ℕ) (n : List ℕ) (d : Option Declared) → type_named entries n ≡ d → IsPlaced entries order (suc p) n → ((m : List ℕ) → IsPlaced entries order p m → bodies_to entries (suc k) m ≡ bodies_to entries k m)
       → bodies_to entries (suc (suc k)) n ≡ bodies_to entries (suc k) n
   unfolding bodies_to
   one_more p k n None e placed below = ap (body_of (bodies_to entries (suc k))) e ∙ sym (ap (body_of (bodies_to entries k)) e)
@@ -196,36 +196,36 @@ module _ (entries : List Entry) (order : List ℕ) (is : IsOrder (mentions entri
           ∙ sym (ap (body_among (bodies_to entries k) d.params) b)
 
   -- what is placed nowhere has no body
-  first_none : (k : ℕ) (n : List ℕ) (d : Option Declared) → type_named entries n ≡ d → IsPlaced 0 n → bodies_to entries (suc k) n ≡ bodies_to entries k n
-  first_none k n d e placed = no_body entries (suc k) n (none d e) ∙ sym (no_body entries k n (none d e))
+  nowhere : (n : List ℕ) → IsPlaced entries order 0 n → (d : Option Declared) → type_named entries n ≡ d → (known : Bodies) → body_of known d ≡ None
+  nowhere n placed None e known = refl
+  nowhere n placed (Some d) e known = bodiless d.body refl
     where
-      bodiless : (d : Declared) (body : Option Written) → type_named entries n ≡ Some d → d.body ≡ body → (known : Bodies) → body_among known d.params d.body ≡ None
-      bodiless d None e b known = ap (body_among known d.params) b
-      bodiless d (Some t) e b known =
+      bodiless : (body : Option Written) → d.body ≡ body → body_among known d.params d.body ≡ None
+      bodiless None b = ap (body_among known d.params) b
+      bodiless (Some t) b =
           let found : IsFirstSynonym entries 0 n d.params t = synonym_found entries 0 n d.params t (e ∙ ap (λ x. Some (record { params = d.params; body = x })) b) in
           let place = placed.among found.position (found.first ∙ ap (λ k. k ∷ []) (omega arith)) in
           absurd (omega (arith, place.1, length-take 0 order))
 
-      none : (d : Option Declared) → type_named entries n ≡ d → (known : Bodies) → body_of known (type_named entries n) ≡ None
-      none None e known = ap (body_of known) e
-      none (Some d) e known = ap (body_of known) e ∙ bodiless d d.body e refl known
+  pub nothing_yet : (k : ℕ) (n : List ℕ) → IsPlaced entries order 0 n → bodies_to entries k n ≡ None
+  nothing_yet k n placed = no_body entries k n (nowhere n placed (type_named entries n) refl)
 
   -- what the first p of the order are for is the same at each number from p on
-  stable : (p k : ℕ) (n : List ℕ) → IsPlaced p n → p ≤ k → bodies_to entries (suc k) n ≡ bodies_to entries k n
-  stable zero k n placed le = first_none k n (type_named entries n) refl placed
+  stable : (p k : ℕ) (n : List ℕ) → IsPlaced entries order p n → p ≤ k → bodies_to entries (suc k) n ≡ bodies_to entries k n
+  stable zero k n placed le = nothing_yet (suc k) n placed ∙ sym (nothing_yet k n placed)
   stable (suc p) zero n placed le = absurd (omega arith)
   stable (suc p) (suc k) n placed le = one_more p k n (type_named entries n) refl placed (λ m before. stable p k m before (omega arith))
 
-  -- the bodies of a program's synonyms are what their items say
-  pub bodies_solve : (n : List ℕ) → bodies entries n ≡ body_of (bodies entries) (type_named entries n)
-  unfolding bodies_to
-  bodies_solve n = sym (stable (length entries) (length entries) n placed (omega arith))
+  -- in the whole order every name is placed
+  pub all_placed : (n : List ℕ) → IsPlaced entries order (length entries) n
+  all_placed n = record {
+    among = λ j first. subst (λ l. Contains l j) (sym (ap (λ i. take i order) (sym whole) ∙ take-length order)) (is.whole j (omega (arith, synonym_within entries 0 n j first, length-map entries (entry_mentions entries))));
+  }
     where
       whole : length order ≡ length entries
       whole = is.size ∙ length-map entries (entry_mentions entries)
 
-      placed : IsPlaced (length entries) n
-      placed = record {
-        among = λ j first.
-            subst (λ l. Contains l j) (sym (ap (λ i. take i order) (sym whole) ∙ take-length order)) (is.whole j (omega (arith, synonym_within entries 0 n j first, length-map entries (entry_mentions entries))));
-      }
+  -- the bodies of a program's synonyms are what its items say
+  pub bodies_solve : (n : List ℕ) → bodies entries n ≡ body_of (bodies entries) (type_named entries n)
+  unfolding bodies_to
+  bodies_solve n = sym (stable (length entries) (length entries) n (all_placed n) (omega arith))
