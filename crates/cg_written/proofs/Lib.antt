@@ -1,4 +1,5 @@
 pub mod ExprLists
+pub mod Apart
 pub mod ExpandSteps
 pub mod ItemLists
 pub mod NamedSizes
