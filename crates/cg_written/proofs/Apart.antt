@@ -1,6 +1,6 @@
 -- Where names are in order, a synonym is the type of its name, and the first synonym of it.
-use Rattle.std.proofs.Common.{◌≡◌, ℕ, zero, suc, ◌+◌, ◌||◌, Bool, true, false, cond, List, [], ◌∷◌, ◌++◌, Option, Some, None, refl, sym, ap, ◌∙◌, arith}
-use Rattle.std.specs.Cmp.Lexicographic.{bytes_decides, nat_list_eq_equiv}
+use Rattle.std.proofs.Common.{◌≡◌, ℕ, zero, suc, ◌+◌, ◌||◌, Bool, true, false, cond, List, [], ◌∷◌, ◌++◌, Some, None, refl, sym, ap, ◌∙◌, arith}
+use Rattle.std.specs.Cmp.Lexicographic.{bytes_decides}
 use Rattle.std.specs.List.{slice_get}
 use Rattle.std.specs.Str.{bytes_eq}
 use Rattle.cg_base.specs.declared.place.Place.{Place}
@@ -8,7 +8,7 @@ use Rattle.cg_core.specs.declared.at.At.{At}
 use Rattle.cg_surface.specs.Programs.{Entry, synonym, abstract, signature, define}
 use Rattle.cg_surface.specs.Written.{Written}
 use Rattle.cg_desugar.specs.Declared.{is_among, type_named}
-use Rattle.cg_desugar.specs.Faults.{Before, NameFault, again, declared_with, entry_faults, faults_from, twice, twins, type_faults, names_of}
+use Rattle.cg_desugar.specs.Faults.{Before, again, declared_with, entry_faults, faults_from, twice, twins, type_faults, names_of}
 use Rattle.cg_desugar.specs.Mentions.{synonym_from}
 
 none_left : {A : Type 0} (xs ys : List A) → xs ++ ys ≡ [] → xs ≡ []
@@ -69,11 +69,11 @@ module _ (entries : List Entry) where
       ap (λ f. type_named (f ∷ es) at.name) is ∙ ap (λ b. cond b (Some (record { params = params; body = Some body })) (type_named es at.name)) (same_name at.name)
   first_type (synonym at' ps t ∷ es) before (suc i) at params body none stands =
       ap (λ b. cond b (Some (record { params = ps; body = Some t })) (type_named es at.name))
-          (or_left (bytes_eq at.name at'.name) (is_among before.types at.name) (not_before es (declared_with before (synonym at' ps t)) i at params body (behind before (synonym at' ps t) es none) stands))
+      (or_left (bytes_eq at.name at'.name) (is_among before.types at.name) (not_before es (declared_with before (synonym at' ps t)) i at params body (behind before (synonym at' ps t) es none) stands))
       ∙ first_type es (declared_with before (synonym at' ps t)) i at params body (behind before (synonym at' ps t) es none) stands
   first_type (abstract at' ps ∷ es) before (suc i) at params body none stands =
       ap (λ b. cond b (Some (record { params = ps; body = None })) (type_named es at.name))
-          (or_left (bytes_eq at.name at'.name) (is_among before.types at.name) (not_before es (declared_with before (abstract at' ps)) i at params body (behind before (abstract at' ps) es none) stands))
+      (or_left (bytes_eq at.name at'.name) (is_among before.types at.name) (not_before es (declared_with before (abstract at' ps)) i at params body (behind before (abstract at' ps) es none) stands))
       ∙ first_type es (declared_with before (abstract at' ps)) i at params body (behind before (abstract at' ps) es none) stands
   first_type (signature at' vars places ty ∷ es) before (suc i) at params body none stands =
       first_type es (declared_with before (signature at' vars places ty)) i at params body (behind before (signature at' vars places ty) es none) stands
@@ -89,7 +89,7 @@ module _ (entries : List Entry) where
       ap (λ f. synonym_from b (f ∷ es) at.name) is ∙ ap (λ c. cond c (b ∷ []) (synonym_from (b + 1) es at.name)) (same_name at.name) ∙ ap (λ k. k ∷ []) (omega arith)
   first_synonym (synonym at' ps t ∷ es) before b (suc i) at params body none stands =
       ap (λ c. cond c (b ∷ []) (synonym_from (b + 1) es at.name))
-          (or_left (bytes_eq at.name at'.name) (is_among before.types at.name) (not_before es (declared_with before (synonym at' ps t)) i at params body (behind before (synonym at' ps t) es none) stands))
+      (or_left (bytes_eq at.name at'.name) (is_among before.types at.name) (not_before es (declared_with before (synonym at' ps t)) i at params body (behind before (synonym at' ps t) es none) stands))
       ∙ first_synonym es (declared_with before (synonym at' ps t)) (b + 1) i at params body (behind before (synonym at' ps t) es none) stands ∙ ap (λ k. k ∷ []) (omega arith)
   first_synonym (abstract at' ps ∷ es) before b (suc i) at params body none stands =
       first_synonym es (declared_with before (abstract at' ps)) (b + 1) i at params body (behind before (abstract at' ps) es none) stands ∙ ap (λ k. k ∷ []) (omega arith)

@@ -27,13 +27,13 @@ pub values_counted : (fs : List FExpr) → values_length (to_fields (map field_o
 unfolding to_fields
 values_counted fs = values_more no_fields (map field_of fs) ∙ omega (arith, length-map fs field_of)
 
-field_is : (f : FExpr) → field_of f ≡ record { at = f.at; value = expr_of f.value }
+pub field_is : (f : FExpr) → field_of f ≡ record { at = f.at; value = expr_of f.value }
 field_is f = fold_out-FExpr (Place → Expr) OneAlt OneBind OneField Expr layer alt_layer bind_layer field_layer expr_layer f
 
-bind_is : (b : Bind) → bind_of b ≡ record { pattern = pattern_of b.pat; value = expr_of b.value; seen = b.seen }
+pub bind_is : (b : Bind) → bind_of b ≡ record { pattern = pattern_of b.pat; value = expr_of b.value; seen = b.seen }
 bind_is b = fold_out-Bind (Place → Expr) OneAlt OneBind OneField Expr layer alt_layer bind_layer field_layer expr_layer b
 
-alt_is : (a : Alt) → alt_of a ≡ record { place = a.place; con = a.con; pattern = pattern_of a.pat; body = expr_of a.body }
+pub alt_is : (a : Alt) → alt_of a ≡ record { place = a.place; con = a.con; pattern = pattern_of a.pat; body = expr_of a.body }
 alt_is a = fold_out-Alt (Place → Expr) OneAlt OneBind OneField Expr layer alt_layer bind_layer field_layer expr_layer a
 
 -- each says first that the item is itself, so that `grind` finds it where the item is read

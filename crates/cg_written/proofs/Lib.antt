@@ -2,6 +2,7 @@ pub mod ExprLists
 pub mod Apart
 pub mod ExpandSteps
 pub mod ItemLists
+pub mod MeasureSteps
 pub mod NamedSizes
 pub mod NamedSteps
 pub mod Nodes

@@ -3,6 +3,7 @@
 #![tactic(auto)]
 
 mod expand;
+mod measure;
 mod named;
 mod named_size;
 mod order;
