@@ -30,10 +30,10 @@ module _ (known other : Bodies) where
   pub record Agree (names : List (List ℕ)) : Type 0 where
     pub at : (n : List ℕ) → Contains names n → known n ≡ other n
 
-  agree_left : (ns ms : List (List ℕ)) → Agree (ns ++ ms) → Agree ns
+  pub agree_left : (ns ms : List (List ℕ)) → Agree (ns ++ ms) → Agree ns
   agree_left ns ms same = record { at = λ n has. same.at n (Contains-append_left ns ms n has) }
 
-  agree_right : (ns ms : List (List ℕ)) → Agree (ns ++ ms) → Agree ms
+  pub agree_right : (ns ms : List (List ℕ)) → Agree (ns ++ ms) → Agree ms
   agree_right ns ms same = record { at = λ n has. same.at n (Contains-append_right ns ms n has) }
 
   module _ (vars : List (List ℕ)) where

@@ -2,12 +2,14 @@ pub mod ExprLists
 pub mod Apart
 pub mod ExpandSteps
 pub mod ItemLists
+pub mod Largest
 pub mod MeasureSteps
 pub mod NamedSizes
 pub mod NamedSteps
 pub mod Nodes
 pub mod OrderSteps
 pub mod PatternLists
+pub mod Same
 pub mod SizeSteps
 pub mod TakeSteps
 pub mod TypeLists

@@ -1,5 +1,7 @@
 pub mod Alternatives
+pub mod Answers
 pub mod Capped
+pub mod Keeps
 pub mod Known
 pub mod Measures
 pub mod Pieces
