@@ -1,5 +1,6 @@
 pub mod ExprLists
 pub mod Apart
+pub mod Builds
 pub mod ExpandSteps
 pub mod ItemLists
 pub mod Largest
