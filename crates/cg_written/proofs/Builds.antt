@@ -1,5 +1,5 @@
 -- The bodies of synonyms, built in an order in which each stands behind all that it mentions.
-use Rattle.std.proofs.Common.{◌≡◌, ℕ, zero, suc, ◌+◌, ◌<◌, ◌≤◌, Bool, true, false, cond, List, [], ◌∷◌, ◌++◌, length, map, take, get_or, ◌⊎◌, inl, inr, Option, Some, None, refl, sym, ap, ◌∙◌, subst, arith}
+use Rattle.std.proofs.Common.{◌≡◌, ℕ, zero, suc, ◌<◌, ◌≤◌, Bool, true, false, cond, List, [], ◌∷◌, ◌++◌, length, take, get_or, ◌⊎◌, inl, inr, Option, Some, None, refl, sym, ap, ◌∙◌, subst, arith}
 use Rattle.std.proofs.Math.Path.{fun_ext}
 use Rattle.std.proofs.Math.Seq.{take-suc}
 use Rattle.std.proofs.lemmas.Bool.{true≢false}
@@ -8,7 +8,6 @@ use Rattle.std.proofs.lemmas.List.Elements.{Contains-push, Contains-push_cases}
 use Rattle.std.specs.Cmp.Lexicographic.{bytes_decides, nat_list_eq_equiv}
 use Rattle.std.specs.List.{slice_get, Contains}
 use Rattle.std.specs.Str.{bytes_eq}
-use Rattle.cg_base.specs.Types.{Tau}
 use Rattle.cg_circles.specs.Circles.{IsOrder}
 use Rattle.cg_core.specs.declared.at.At.{At}
 use Rattle.cg_surface.specs.Programs.{Entry, synonym, abstract, signature, define}
@@ -19,13 +18,17 @@ use Rattle.cg_desugar.specs.Desugar.{type_limit}
 use Rattle.cg_desugar.specs.Expand.{Bodies, bodies, body_of, expanded}
 use Rattle.cg_desugar.specs.Faults.{beforehand, names_of, program_faults}
 use Rattle.cg_desugar.specs.Mentions.{mentions, entry_mentions, synonym_from, type_mentions}
-use Rattle.cg_desugar.specs.Takes.{largest_type, written_from}
+use Rattle.cg_desugar.specs.Takes.{largest_type}
 use Rattle.cg_written.specs.Keeps.{Keeps, KeepsBody, greatest_at}
 use Rattle.cg_written.specs.Measures.{greatest_entry, greatest_part}
 use Rattle.cg_written.specs.Sizes.{greatest}
-use Rattle.cg_written.proofs.Apart.{IsSynonymOf, first_synonym, first_type, synonym_stands}
+use Rattle.cg_written.proofs.Apart.{first_synonym, first_type, synonym_stands}
 use Rattle.cg_written.proofs.Largest.{largest_part}
 use Rattle.cg_written.proofs.Same.{greatest_same}
+
+-- the largest type, where the bodies are known
+pub measured : (entries : List Entry) (known : Bodies) → known ≡ bodies entries → greatest_part known entries ≡ largest_type entries
+measured entries known same = ap (λ k. greatest_part k entries) same ∙ sym (largest_part (bodies entries) entries entries)
 
 -- what the first k of the order are for is known, and of names that are no synonyms nothing
 pub record IsBuilt (entries : List Entry) (order : List ℕ) (k : ℕ) (known : Bodies) : Type 0 where
@@ -43,8 +46,8 @@ module _ (entries : List Entry) (order : List ℕ) (is : IsOrder (mentions entri
   built_none known none = record { at = λ n placed. none n ∙ sym (nothing_yet entries order is (length entries) n placed) }
 
   -- all is built
-  pub built_all : (known : Bodies) → IsBuilt entries order (length order) known → known ≡ bodies entries
-  built_all known built = fun_ext (λ n. built.at n (subst (λ k. IsPlaced entries order k n) (sym (is.size ∙ length-map entries (entry_mentions entries))) (all_placed entries order is n)))
+  pub built_all : (k : ℕ) (known : Bodies) → k ≡ length order → IsBuilt entries order k known → known ≡ bodies entries
+  built_all k known end built = fun_ext (λ n. built.at n (subst (λ k. IsPlaced entries order k n) (sym (end ∙ is.size ∙ length-map entries (entry_mentions entries))) (all_placed entries order is n)))
 
   module _ (apart : program_faults entries ≡ []) (k i : ℕ) (lt : k < length order) (here : get_or order k i ≡ i) (known : Bodies) (built : IsBuilt entries order k known) where
     one_further : take (suc k) order ≡ take k order ++ i ∷ []
@@ -103,7 +106,7 @@ module _ (entries : List Entry) (order : List ℕ) (is : IsOrder (mentions entri
               not_here first =
                   let other = synonym_stands entries 0 n i first in
                   let same : synonym at params body ≡ synonym other.2.at other.2.params other.2.body =
-                      some_same (sym stands ∙ ap (slice_get entries) (omega (arith, other.1)) ∙ other.2.stands) in
+                  some_same (sym stands ∙ ap (slice_get entries) (omega (arith, other.1)) ∙ other.2.stands) in
                   let one : at ≡ other.2.at = cc in
                   true≢false (sym other.2.named ∙ ap (λ a. bytes_eq n a.name) (sym one) ∙ nat_list_eq_equiv.symm n at.name ∙ differs)
                 where

@@ -9,7 +9,7 @@ use Rattle.cg_surface.specs.Written as types
 use Rattle.cg_desugar.specs.Declared.{function_named}
 use Rattle.cg_desugar.specs.Expand.{Bodies}
 use Rattle.cg_desugar.specs.Faults.{names_of, var_names, vars_named}
-use Rattle.cg_desugar.specs.Takes.{Alone, largest, largest_from, listed, types_in, types_in_alts, types_in_binds, types_in_fields, types_in_list, with_vars, written_from, written_in}
+use Rattle.cg_desugar.specs.Takes.{Alone, largest_from, listed, types_in, types_in_alts, types_in_binds, types_in_fields, types_in_list, with_vars, written_from, written_in}
 use Rattle.cg_written.specs.Measures.{greatest_alts, greatest_binds, greatest_entry, greatest_in, greatest_list, greatest_part, greatest_values}
 use Rattle.cg_written.specs.Sizes.{greatest, greatest_of}
 use Rattle.cg_written.proofs.Nodes.{largest-greatest}

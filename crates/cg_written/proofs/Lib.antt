@@ -12,6 +12,7 @@ pub mod OrderSteps
 pub mod PatternLists
 pub mod Same
 pub mod SizeSteps
+pub mod SynonymSteps
 pub mod TakeSteps
 pub mod TypeLists
 pub mod WeighSteps

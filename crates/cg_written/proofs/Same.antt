@@ -1,5 +1,5 @@
 -- Sizes depend on what is known of the names that a type mentions, and on nothing else.
-use Rattle.std.proofs.Common.{◌≡◌, ℕ, max, List, [], ◌∷◌, refl, sym, ap, ◌∙◌, arith}
+use Rattle.std.proofs.Common.{◌≡◌, [], ◌∷◌, refl, sym, ap, ◌∙◌, arith}
 use Rattle.cg_surface.specs.Written.{Written, Writtens, WrittenFields, WrittenAlts}
 use Rattle.cg_surface.specs.Written as types
 use Rattle.cg_desugar.proofs.Solved.{Agree, agree_left, agree_right, expanded_same}

@@ -23,7 +23,7 @@ use std::alloc::Global;
 /// What a written type is as a type of the kernel, among the type variables of these names (docs/LANGUAGE.md, "Synonyms"). Want
 /// of memory is its one refusal.
 #[cycle(expand)]
-pub(crate) fn expand(
+pub fn written_type(
     alloc: Global,
     synonyms: &Synonyms<'_>,
     vars: &[&[u8]],
@@ -37,10 +37,10 @@ pub(crate) fn expand(
         STyForm::Tuple(types) => {
             Ok(Ty::Fields(expand_tuple(alloc, synonyms, vars, types)?, Sigil::U))
         }
-        STyForm::Paren(ty) => expand(alloc, synonyms, vars, ty),
+        STyForm::Paren(ty) => written_type(alloc, synonyms, vars, ty),
         STyForm::Arrow(from, to) => {
-            let from = Box::new(alloc, expand(alloc, synonyms, vars, from)?)?;
-            let to = Box::new(alloc, expand(alloc, synonyms, vars, to)?)?;
+            let from = Box::new(alloc, written_type(alloc, synonyms, vars, from)?)?;
+            let to = Box::new(alloc, written_type(alloc, synonyms, vars, to)?)?;
             Ok(Ty::Arrow(from, to))
         }
         STyForm::Fields(fields, boxed) => {
@@ -49,11 +49,11 @@ pub(crate) fn expand(
         STyForm::Variant(choices) => {
             Ok(Ty::Variant(expand_choices(alloc, synonyms, vars, choices)?))
         }
-        STyForm::Bang(ty) => Ok(bang(expand(alloc, synonyms, vars, ty)?)),
+        STyForm::Bang(ty) => Ok(bang(written_type(alloc, synonyms, vars, ty)?)),
         STyForm::TakeSome(ty, names) => {
-            Ok(take_some(expand(alloc, synonyms, vars, ty)?, names.as_slice()))
+            Ok(take_some(written_type(alloc, synonyms, vars, ty)?, names.as_slice()))
         }
-        STyForm::TakeAll(ty, _place) => Ok(take_all(expand(alloc, synonyms, vars, ty)?)),
+        STyForm::TakeAll(ty, _place) => Ok(take_all(written_type(alloc, synonyms, vars, ty)?)),
     }
 }
 
@@ -88,7 +88,7 @@ fn expand_types(
 {
     let mut expanded = Items::new(alloc);
     for ty in types.as_slice() {
-        expanded.push(expand(alloc, synonyms, vars, ty)?)?;
+        expanded.push(written_type(alloc, synonyms, vars, ty)?)?;
     }
     Ok(expanded)
 }
@@ -107,7 +107,7 @@ fn expand_tuple(
     for (before, ty) in types.as_slice().iter().enumerate() {
         parts.push(Part {
             name: component(alloc, before)?,
-            ty: expand(alloc, synonyms, vars, ty)?,
+            ty: written_type(alloc, synonyms, vars, ty)?,
             taken: false,
         })?;
     }
@@ -128,7 +128,7 @@ fn expand_fields(
     for field in fields.as_slice() {
         parts.push(Part {
             name: field.at.name.copy(alloc)?,
-            ty: expand(alloc, synonyms, vars, &field.ty)?,
+            ty: written_type(alloc, synonyms, vars, &field.ty)?,
             taken: false,
         })?;
     }
@@ -169,6 +169,6 @@ fn expand_payload(
 {
     match ty {
         None => Ok(Ty::Unit),
-        Some(ty) => expand(alloc, synonyms, vars, ty),
+        Some(ty) => written_type(alloc, synonyms, vars, ty),
     }
 }

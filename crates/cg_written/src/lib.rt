@@ -2,6 +2,7 @@
 //! "Limits").
 #![tactic(auto)]
 
+mod build;
 mod expand;
 mod measure;
 mod named;
@@ -17,6 +18,8 @@ mod wide_exprs;
 mod wide_patterns;
 mod wide_types;
 
+pub use build::synonyms;
+pub use expand::written_type;
 pub use oversize::Oversize;
 pub use table::Synonyms;
 pub use wide::is_too_wide;

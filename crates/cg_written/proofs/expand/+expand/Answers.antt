@@ -16,6 +16,6 @@ expand_choices-expand_payload-requires t c =
     size_in_order c.args.choices.now c.deref-choice-items.result.now c.loop-choice.choice-index c.choice-item.result same c.loop-choice-test.true c.choice-item.is in
     (omega (arith, no_larger, size_is-SAlt c.choice-item.result.now, c.decreases), tt)
 
-pub expand-returns-in-Name : goal.expand-returns-in-Name
-expand-returns-in-Name t c =
+pub written_type-returns-in-Name : goal.written_type-returns-in-Name
+written_type-returns-in-Name t c =
     subst (λ w. IfOk c.expand_name.result (λ u. type_of u ≡ w)) (sym (expanded_name (known_of c.args.synonyms.now) (texts c.args.vars.now) c.args.ty.now c.in-Name.name c.in-Name.args c.in-Name.is)) c.expand_name.ensures
