@@ -74,7 +74,7 @@ fn first_place(names: &[&[u8]], name: &[u8]) -> usize
     names.len()
 }
 
-/// The name of the component of a tuple that stands behind so many (docs/LANGUAGE.md, "Tuples"). Want of memory is its one
+/// The name of the component of a tuple that stands behind so many (docs/LANGUAGE.md, "Synonyms"). Want of memory is its one
 /// refusal.
 pub(crate) fn component(alloc: Global, before: usize) -> Result<Name, Memory>
     ensures { IfOk result (λ name. name ≡ component before) }
