@@ -2,4 +2,3 @@ pub mod BangSteps
 pub mod KindSteps
 pub mod Laws
 pub mod SubstSteps
-pub mod Widths

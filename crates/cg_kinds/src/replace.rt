@@ -1,19 +1,19 @@
 // Substitution.
-#![tactic(auto, using(crate::proofs::SubstSteps::subst_steps, crate::proofs::Widths::widths), unfolding(crate::specs::Kinds::subst, crate::specs::Kinds::width))]
+#![tactic(auto, using(crate::proofs::SubstSteps::subst_steps), unfolding(crate::specs::Kinds::subst))]
 
-ghost use Rattle.std.specs.Prelude.{◌≡◌, ◌≤◌, map, length, slice_get, IfOk};
-ghost use Rattle.cg_base.specs.Types.{type_of, part_of, to_taus, to_parts};
-ghost use Rattle.cg_kinds.specs.Kinds.{width, width_all, width_parts, subst as subst_of, subst_piece, or_unit};
+ghost use Rattle.std.specs.Prelude.{◌≡◌, map, slice_get, IfOk};
+ghost use Rattle.cg_base.specs.Types.{type_of, part_of};
+ghost use Rattle.cg_kinds.specs.Kinds.{subst as subst_of, subst_piece, or_unit};
 
 use crate::change::bang;
 use cg_base::{Items, Memory, Part, Ty};
 use std::alloc::Global;
 
 /// The type with an argument for each of its variables, by position: `Var` becomes the argument itself, and `Seen`
-/// its bang (docs/LANGUAGE.md, "Kinds and bang"). The one error is want of memory.
+/// its bang (docs/LANGUAGE.md, "Kinds and bang"); a variable that has no argument becomes the unit type. The one error is
+/// want of memory.
 #[cycle(subst)]
 pub fn subst(alloc: Global, ty: &Ty, args: &Items<Ty>) -> Result<Ty, Memory>
-    requires below { width (type_of ty.now) ≤ length args.now }
     ensures { IfOk result (λ t. type_of t ≡ subst_of (map type_of args.now) (type_of ty.now)) }
 {
     match ty {
@@ -48,7 +48,6 @@ fn argument(alloc: Global, args: &Items<Ty>, variable: u32) -> Result<Ty, Memory
 
 #[cycle(subst)]
 fn subst_types(alloc: Global, types: &Items<Ty>, args: &Items<Ty>) -> Result<Items<Ty>, Memory>
-    requires below { width_all (to_taus (map type_of types.now)) ≤ length args.now }
     ensures { IfOk result
         (λ ts. map type_of ts ≡ map (subst_of (map type_of args.now)) (map type_of types.now)) }
 {
@@ -61,7 +60,6 @@ fn subst_types(alloc: Global, types: &Items<Ty>, args: &Items<Ty>) -> Result<Ite
 
 #[cycle(subst)]
 fn subst_parts(alloc: Global, parts: &Items<Part>, args: &Items<Ty>) -> Result<Items<Part>, Memory>
-    requires below { width_parts (to_parts (map part_of parts.now)) ≤ length args.now }
     ensures { IfOk result
         (λ ps. map part_of ps ≡ map (subst_piece (map type_of args.now)) (map part_of parts.now)) }
 {
