@@ -156,7 +156,7 @@ module _ (entries : List Entry) (order : List ℕ) (is : IsOrder (mentions entri
     pub among : (j : ℕ) → synonym_from 0 entries n ≡ j ∷ [] → Contains (take p order) j
 
   -- what the body of a synonym mentions stands before it
-  mentions_placed : (p : ℕ) (n : List ℕ) (params : List At) (body : Written) → IsFirstSynonym entries 0 n params body → IsPlaced (suc p) n → (m : List ℕ) → Contains (type_mentions body) m → IsPlaced p m
+  pub mentions_placed : (p : ℕ) (n : List ℕ) (params : List At) (body : Written) → IsFirstSynonym entries 0 n params body → IsPlaced (suc p) n → (m : List ℕ) → Contains (type_mentions body) m → IsPlaced p m
   mentions_placed p n params body found placed m has = record {
     among = λ j first.
         let place = placed.among found.position (found.first ∙ ap (λ k. k ∷ []) (omega arith)) in
