@@ -1,0 +1,5 @@
+pub mod Components
+pub mod Heads
+pub mod Known
+pub mod Missing
+pub mod Views
