@@ -60,11 +60,23 @@ abbrev pub field_names : WrittenFields → List (List ℕ)
 field_names types.no_fields = []
 field_names (types.and_field fs at t) = field_names fs ++ at.name ∷ []
 
+-- the head of a name's synonym, where it is one, and no type that is declared beforehand
+abbrev pub unless_plain : Option Tau → Option Head → Option Head
+unless_plain (Some t) head = None
+unless_plain None head = head
+
+abbrev pub synonym_head : Heads → List ℕ → Option Head
+synonym_head heads n = if is_variable n then None else unless_plain (looked_up plain_types n) (heads n)
+
 module _ (heads : Heads) (vars : List (List ℕ)) where
+  -- the head of a type by its name, with arguments of these heads
+  abbrev pub head_by_name : List ℕ → List Head → Head
+  head_by_name n args = if is_variable n then parameter (position_of vars n) else named_head (looked_up plain_types n) (heads n) args
+
   -- the head of a written type, among type variables of these names
   abbrev mutual
     pub head_of : Written → Head
-    head_of (types.named p n args) = if is_variable n then parameter (position_of vars n) else named_head (looked_up plain_types n) (heads n) (heads_of args)
+    head_of (types.named p n args) = head_by_name n (heads_of args)
     head_of (types.nothing p) = other
     head_of (types.tuple p ts) = record_of (is_among (component_names (types_length ts)))
     head_of (types.paren p t) = head_of t
@@ -82,6 +94,14 @@ module _ (heads : Heads) (vars : List (List ℕ)) where
 -- the fields of a written type, where it is a record: a type variable is none, wherever it stands
 abbrev pub shape_of : Heads → Written → Option (List ℕ → Bool)
 shape_of heads t = fields_in (head_of heads [] t)
+
+-- the fields of a type by its name, with arguments of these heads; and those of the argument at this position
+abbrev pub shape_by_name : Heads → List ℕ → List Head → Option (List ℕ → Bool)
+shape_by_name heads n args = fields_in (head_by_name heads [] n args)
+
+abbrev pub shape_at : List Head → Option ℕ → Option (List ℕ → Bool)
+shape_at heads None = None
+shape_at heads (Some i) = fields_in (or_other (slice_get heads i))
 
 -- the heads of these bodies
 abbrev pub head_of_body : Option Tau → Option Head
