@@ -1,16 +1,14 @@
 -- The names of fields, one more.
-use Rattle.std.proofs.Common.{◌≡◌, ℕ, suc, ◌+◌, ◌<◌, ◌≤◌, Bool, true, false, ◌||◌, List, [], ◌∷◌, ◌++◌, map, length, take, get_or, refl, sym, ap, ◌∙◌, subst}
+use Rattle.std.proofs.Common.{◌≡◌, ℕ, ◌+◌, ◌<◌, Bool, true, false, ◌||◌, List, [], ◌∷◌, ◌++◌, map, length, take, get_or, refl, sym, ap, ◌∙◌, subst}
 use Rattle.std.proofs.lemmas.List.{map-append, take_more}
 use Rattle.std.specs.Str.{bytes_eq}
 use Rattle.std.specs.Cmp.Lexicographic.{nat_list_eq_equiv}
 use Rattle.std.specs.BTreeSet.{BTreeSet, IsEmpty}
-use Rattle.cg_core.specs.declared.at.At.{At}
 use Rattle.cg_surface.specs.declared.written.SPart.{SPart, fold_out-SPart}
 use Rattle.cg_surface.specs.Written.{Written, OneField, OneAlt, layer, alt_layer, field_layer, type_layer, written_of, field_of, to_fields, fields_push}
-use Rattle.cg_surface.specs.Written as types
 use Rattle.cg_desugar.specs.Declared.{is_among}
 use Rattle.cg_declared.specs.Tables.{has, IsSetOf}
-use Rattle.cg_declared.proofs.Tables.{set_none, set_more}
+use Rattle.cg_declared.proofs.Tables.{set_none}
 use Rattle.cg_base.specs.declared.place.Place.{Place}
 use Rattle.cg_takes.specs.Heads.{field_names}
 use denote.Ref.{Bor}

@@ -1,5 +1,5 @@
 -- Tables of heads, one more.
-use Rattle.std.proofs.Common.{◌≡◌, ℕ, Bool, true, false, cond, List, [], ◌∷◌, map, take, Option, Some, None, refl, sym, ap, ◌∙◌, subst, inl, Bor}
+use Rattle.std.proofs.Common.{◌≡◌, ℕ, Bool, true, false, cond, List, map, Some, None, refl, sym, ap, ◌∙◌, subst, inl, Bor}
 use Rattle.std.proofs.lemmas.Map.Text.{is_eq-slice_cmp}
 use Rattle.std.specs.BTreeMap.{BTreeMap, IsEmpty, Updates}
 use Rattle.std.specs.Cmp.Lexicographic.{slice_cmp}
@@ -7,14 +7,13 @@ use Rattle.std.specs.Option.{option_map}
 use Rattle.std.specs.Ordering.{nat_cmp}
 use Rattle.std.specs.Str.{bytes_eq}
 use Rattle.cg_base.specs.declared.place.Place.{Place}
-use Rattle.cg_core.specs.declared.at.At.{At}
 use Rattle.cg_surface.specs.declared.written.STy.{STy}
 use Rattle.cg_surface.specs.Programs.{Entry}
-use Rattle.cg_surface.specs.Written.{Written, written_of}
+use Rattle.cg_surface.specs.Written.{written_of}
 use Rattle.cg_declared.specs.Tables.{find}
 use Rattle.cg_declared.specs.Views.{declared_of}
 use Rattle.cg_declared.specs.declared.types.DeclaredType.{DeclaredType}
-use Rattle.cg_desugar.specs.Declared.{Declared, type_named}
+use Rattle.cg_desugar.specs.Declared.{type_named}
 use Rattle.cg_takes.specs.Heads.{Head, Heads, head_of}
 use Rattle.cg_takes.specs.Known.{HaveMore, KeepsBody, KeepsNamed}
 use Rattle.cg_takes.specs.Views.{head_view, heads_in}

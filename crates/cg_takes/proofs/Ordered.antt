@@ -1,6 +1,5 @@
 -- In the order of mentions the heads of all synonyms are found.
-use Rattle.std.proofs.Common.{◌≡◌, ℕ, zero, suc, ◌+◌, ◌<◌, ◌≤◌, ◌⊎◌, Bool, true, false, cond, List, [], ◌∷◌, ◌++◌, map, length, take, get_or, Option, Some, None, refl, sym, ap, ◌∙◌, subst, arith, add-one, inl, inr, ⊎_elim}
-use Rattle.std.proofs.Math.Seq.{take-length}
+use Rattle.std.proofs.Common.{◌≡◌, ℕ, zero, suc, ◌+◌, ◌≤◌, ◌⊎◌, Bool, true, false, cond, List, [], ◌∷◌, map, take, get_or, Option, Some, None, refl, sym, ap, ◌∙◌, subst, arith, add-one, inl, inr, ⊎_elim}
 use Rattle.std.proofs.lemmas.Bool.{true≢false}
 use Rattle.std.proofs.lemmas.List.{length-map, take_more}
 use Rattle.std.proofs.lemmas.List.Elements.{Contains-append_cases}
@@ -8,7 +7,6 @@ use Rattle.std.proofs.lemmas.Option.{slice_get_within, get_or_from_slice_get}
 use Rattle.std.specs.Cmp.Lexicographic.{bytes_decides, nat_list_eq_equiv}
 use Rattle.std.specs.List.{slice_get, Contains}
 use Rattle.std.specs.Str.{bytes_eq}
-use Rattle.cg_base.specs.declared.place.Place.{Place}
 use Rattle.cg_circles.specs.Circles.{IsOrder}
 use Rattle.cg_core.specs.declared.at.At.{At}
 use Rattle.cg_surface.specs.Programs.{Entry, synonym, abstract, signature, define}
@@ -16,10 +14,10 @@ use Rattle.cg_surface.specs.Written.{Written, place_of}
 use Rattle.cg_desugar.proofs.Solved.{IsFirstSynonym, synonym_found, IsPlaced, mentions_placed, bodies_solve}
 use Rattle.cg_desugar.specs.Declared.{Declared, type_named}
 use Rattle.cg_desugar.specs.Expand.{bodies, body_among, body_of}
-use Rattle.cg_desugar.specs.Mentions.{entry_mentions, mentions, synonym_from, type_mentions}
-use Rattle.cg_takes.specs.Heads.{Head, Heads, head_of, head_of_body, tops}
+use Rattle.cg_desugar.specs.Mentions.{entry_mentions, mentions, synonym_from}
+use Rattle.cg_takes.specs.Heads.{Heads, head_of, head_of_body, tops}
 use Rattle.cg_takes.specs.Known.{HaveMore, KeepsBody, KeepsNamed, Keeps, Knows}
-use Rattle.cg_takes.proofs.Same.{Agree, head_same}
+use Rattle.cg_takes.proofs.Same.{head_same}
 use Rattle.cg_takes.proofs.Tops.{head_is}
 
 -- ---- the first synonym of a name is one of this name

@@ -1,5 +1,5 @@
 -- Fields that are taken where they aren't: told by heads, they are those of the program.
-use Rattle.std.proofs.Common.{◌≡◌, ℕ, Bool, true, false, cond, List, [], ◌∷◌, ◌++◌, map, Option, Some, None, refl, sym, ap, ◌∙◌, append_assoc, append-nil}
+use Rattle.std.proofs.Common.{◌≡◌, ℕ, cond, List, [], ◌∷◌, ◌++◌, map, Some, refl, sym, ap, ◌∙◌, append_assoc, append-nil}
 use Rattle.std.proofs.lemmas.List.Concat.{flat_map-append, flat_map_single}
 use Rattle.std.specs.List.{flat_map}
 use Rattle.cg_base.specs.declared.place.Place.{Place}
@@ -13,7 +13,7 @@ use Rattle.cg_surface.specs.Programs.{Entry, synonym, abstract, signature, defin
 use Rattle.cg_desugar.specs.Declared.{is_among}
 use Rattle.cg_desugar.specs.Expand.{Bodies, expanded}
 use Rattle.cg_desugar.specs.Takes.{part_names, not_there, some_missing, all_missing, take_faults, takes_faults, fields_takes, alts_takes, listed, types_in, types_in_list, types_in_fields, types_in_binds, types_in_alts, Alone, with_vars, written_in, written_from, missing_from}
-use Rattle.cg_takes.specs.Heads.{fields_in, head_of, shape_of, top, tops}
+use Rattle.cg_takes.specs.Heads.{fields_in, shape_of, top, tops}
 use Rattle.cg_takes.specs.Missing.{if_absent, if_no_record, absent, absent_all, absent_fields, absent_alts, absent_in, absent_exprs, absent_values, absent_binds, absent_choices, absent_item}
 use Rattle.cg_takes.proofs.Same.{shape_is}
 use Rattle.cg_takes.proofs.Tops.{head_is}

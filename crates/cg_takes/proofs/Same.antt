@@ -1,5 +1,5 @@
 -- What the head of a written type depends on: the heads of the names that it mentions, and, where it is no parameter, no type variable.
-use Rattle.std.proofs.Common.{◌≡◌, ℕ, ◌+◌, Bool, true, false, cond, List, [], ◌∷◌, ◌++◌, map, length, Option, Some, None, refl, sym, ap, ◌∙◌, arith}
+use Rattle.std.proofs.Common.{◌≡◌, ℕ, Bool, true, false, cond, List, [], ◌∷◌, ◌++◌, map, Option, Some, None, refl, sym, ap, ◌∙◌, arith}
 use Rattle.std.proofs.lemmas.List.{map-append}
 use Rattle.std.proofs.lemmas.List.Elements.{Contains-append_left, Contains-append_right}
 use Rattle.std.proofs.lemmas.Option.{slice_get-map}
@@ -8,7 +8,7 @@ use Rattle.std.specs.Option.{option_map}
 use Rattle.cg_base.specs.Types.{Tau}
 use Rattle.cg_surface.specs.Written.{Written, Writtens}
 use Rattle.cg_surface.specs.Written as types
-use Rattle.cg_desugar.specs.Declared.{is_among, is_variable, looked_up, plain_types}
+use Rattle.cg_desugar.specs.Declared.{is_variable, looked_up, plain_types}
 use Rattle.cg_desugar.specs.Expand.{position_of}
 use Rattle.cg_desugar.specs.Mentions.{type_mentions, types_mentions}
 use Rattle.cg_takes.specs.Heads.{Head, Heads, record_of, parameter, other, or_other, or_none, applied_head, named_head, fields_in, head_of, heads_of, shape_of}

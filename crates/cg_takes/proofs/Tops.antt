@@ -1,13 +1,11 @@
 -- The head of a written type is the top of what it is in the kernel.
-use Rattle.std.proofs.Common.{◌≡◌, ℕ, suc, ◌+◌, Bool, true, false, cond, List, [], ◌∷◌, ◌++◌, map, Option, Some, None, refl, sym, ap, ◌∙◌, append_assoc, append-nil, add-one}
-use Rattle.std.proofs.lemmas.List.{map-append}
+use Rattle.std.proofs.Common.{◌≡◌, ℕ, Bool, true, false, cond, List, [], ◌∷◌, ◌++◌, map, Option, Some, None, refl, sym, ap, ◌∙◌, append_assoc, append-nil, add-one}
 use Rattle.std.proofs.lemmas.Option.{slice_get-map}
 use Rattle.std.specs.List.{slice_get}
 use Rattle.std.specs.Option.{option_map}
 use Rattle.std.specs.Prelude.{codes}
 use Rattle.std.specs.Str.{bytes_eq}
 use Rattle.cg_base.specs.Types.{Tau, var, seen, unit, word, bool, arrow, abs, variant, fields, Parts, end, part, Piece, to_parts}
-use Rattle.cg_core.specs.declared.at.At.{At}
 use Rattle.cg_kinds.specs.Kinds.{bang, bang_parts, subst, subst_parts, or_unit}
 use Rattle.cg_surface.specs.Written.{Written, Writtens, WrittenFields}
 use Rattle.cg_surface.specs.Written as types

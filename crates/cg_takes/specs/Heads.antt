@@ -1,10 +1,9 @@
 -- The heads of types: what the type of the kernel is at its top, as far as it tells which fields may be taken.
-use Rattle.std.specs.Prelude.{ℕ, zero, suc, Bool, List, [], ◌∷◌, ◌++◌, map, Option, Some, None, slice_get, if◌then◌else◌}
+use Rattle.std.specs.Prelude.{ℕ, zero, suc, Bool, ◌==◌, List, [], ◌∷◌, ◌++◌, Option, Some, None, slice_get, if◌then◌else◌}
 use Rattle.cg_base.specs.Types.{Tau, var, seen, fields}
-use Rattle.cg_core.specs.declared.at.At.{At}
 use Rattle.cg_surface.specs.Written.{Written, Writtens, WrittenFields}
 use Rattle.cg_surface.specs.Written as types
-use Rattle.cg_desugar.specs.Declared.{Declared, is_among, is_variable, looked_up, plain_types}
+use Rattle.cg_desugar.specs.Declared.{is_among, is_variable, looked_up, plain_types}
 use Rattle.cg_desugar.specs.Expand.{Bodies, component, position_of, types_length}
 use Rattle.cg_desugar.specs.Takes.{part_names}
 
@@ -102,6 +101,11 @@ shape_by_name heads n args = fields_in (head_by_name heads [] n args)
 abbrev pub shape_at : List Head → Option ℕ → Option (List ℕ → Bool)
 shape_at heads None = None
 shape_at heads (Some i) = fields_in (or_other (slice_get heads i))
+
+-- the fields at a position, where it is the one that is wanted; else those before
+abbrev pub chosen : Option ℕ → ℕ → Option (List ℕ → Bool) → Option (List ℕ → Bool) → Option (List ℕ → Bool)
+chosen None position before here = before
+chosen (Some at) position before here = if at == position then here else before
 
 -- the heads of these bodies
 abbrev pub head_of_body : Option Tau → Option Head

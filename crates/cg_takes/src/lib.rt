@@ -3,7 +3,12 @@
 #![tactic(auto)]
 
 mod component;
+mod exprs;
 mod fault;
 mod head;
+mod known;
+mod takes;
+mod types;
 
 pub use fault::TakeFault;
+pub use takes::check_takes;

@@ -21,6 +21,6 @@ named-returns-in-Some t c =
     IfOk-weaker c.head.result (λ h. head_view h ≡ head_of heads params (written_of c.in-Some.argument.now))
     (λ h. head_view h ≡ head_by_name heads params c.args.name.now (heads_of heads params (to_types (map written_of c.args.args.now))))
     (λ h e. e ∙ sym (by_argument heads params c.args.name.now c.args.args.now c.in-Some-Parameter.at (Some c.in-Some.argument.now)
-        (sym c.is_variable.ensures ∙ c.if-is_variable.false)
-        (sym c.head_by_name.ensures ∙ ap (option_map (λ (h : Bor TypeHead). head_view h.now)) c.in-Some-Parameter.is ∙ ap (λ h. Some (head_view h)) c.in-Some-Parameter.field-0-is)
-        (sym c.get.ensures.value ∙ ap option_copied c.in-Some.is))) c.head.ensures
+    (sym c.is_variable.ensures ∙ c.if-is_variable.false)
+    (sym c.head_by_name.ensures ∙ ap (option_map (λ (h : Bor TypeHead). head_view h.now)) c.in-Some-Parameter.is ∙ ap (λ h. Some (head_view h)) c.in-Some-Parameter.field-0-is)
+    (sym c.get.ensures.value ∙ ap option_copied c.in-Some.is))) c.head.ensures

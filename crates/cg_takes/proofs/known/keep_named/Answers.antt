@@ -1,4 +1,4 @@
-use Rattle.std.proofs.Common.{Some, sym, ap, ◌∙◌}
+use Rattle.std.proofs.Common.{sym, ap, ◌∙◌}
 use Rattle.cg_declared.specs.Declarations.{entries_of}
 use Rattle.cg_declared.specs.Views.{declared_of}
 use Rattle.std.specs.Option.{option_map}

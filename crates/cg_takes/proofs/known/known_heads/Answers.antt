@@ -2,8 +2,7 @@ use Rattle.std.proofs.Common.{add-one, get_or, sym, subst, take}
 use Rattle.std.proofs.lemmas.List.{take_all}
 use Rattle.std.proofs.lemmas.Option.{slice_get-get_or}
 use Rattle.cg_declared.specs.Declarations.{entries_of}
-use Rattle.cg_takes.proofs.KeepSteps.{heads_none}
-use Rattle.cg_takes.proofs.Ordered.{keeps_turn, knows_all, knows_none}
+use Rattle.cg_takes.proofs.Ordered.{keeps_turn, knows_all}
 use Rattle.cg_takes.specs.Known.{Knows}
 use Rattle.cg_takes.specs.Views.{heads_in}
 use Rattle.cg_takes.proofs.known.known_heads.Goals as goal
