@@ -1,7 +1,7 @@
 -- Tables of heads, one more.
-use Rattle.std.proofs.Common.{◌≡◌, ℕ, Bool, true, false, cond, List, map, Some, None, refl, sym, ap, ◌∙◌, subst, inl, Bor}
+use Rattle.std.proofs.Common.{◌≡◌, ℕ, Bool, true, false, cond, List, map, Some, refl, sym, ap, ◌∙◌, subst, inl, Bor}
 use Rattle.std.proofs.lemmas.Map.Text.{is_eq-slice_cmp}
-use Rattle.std.specs.BTreeMap.{BTreeMap, IsEmpty, Updates}
+use Rattle.std.specs.BTreeMap.{BTreeMap, Updates}
 use Rattle.std.specs.Cmp.Lexicographic.{slice_cmp}
 use Rattle.std.specs.Option.{option_map}
 use Rattle.std.specs.Ordering.{nat_cmp}
@@ -37,7 +37,3 @@ keeps_more entries n p first body head heads new named is same more =
     subst (λ d. KeepsNamed n p d heads new) named
     (subst (λ b. KeepsBody n p first.params.now (option_map (λ (t : Bor STy). written_of t.now) b) heads new) (sym is)
     (inl (subst (λ h. HaveMore n h heads new) same more)))
-
--- no head is in a table that is empty
-pub heads_none : (table : BTreeMap (Bor (List ℕ)) TypeHead) → IsEmpty table → (n : List ℕ) → heads_in table n ≡ None
-heads_none table empty n = rw empty refl

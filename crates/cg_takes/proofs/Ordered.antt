@@ -205,10 +205,3 @@ module _ (entries : List Entry) (order : List ℕ) (is : IsOrder (mentions entri
           let first : IsFirstSynonym entries 0 n params body = synonym_found entries 0 n params body e in
           knows.found n (0 + first.position) first.first
           (is.whole (0 + first.position) (omega (arith, slice_get_within entries first.position _ first.stands, length-map entries (entry_mentions entries))))
-
--- before any turn none is
-pub knows_none : (entries : List Entry) (heads : Heads) → ((n : List ℕ) → heads n ≡ None) → Knows entries [] heads
-knows_none entries heads none = record {
-  nothing = λ n known. none n;
-  found = λ n j first has. absurd (omega (arith, has.1));
-}

@@ -26,27 +26,22 @@ pub fn check_expr<'a>(
 {
     match &expr.form {
         SForm::Name(_, types) => check_all(alloc, table, types),
-        SForm::Number(_) => Ok(()),
-        SForm::Bool(_) => Ok(()),
-        SForm::Unit => Ok(()),
-        SForm::Paren(inner) => check_expr(alloc, table, inner),
+        SForm::Number(_) | SForm::Bool(_) | SForm::Unit | SForm::Con(_, None) => Ok(()),
+        SForm::Paren(inner) | SForm::Upcast(inner) => check_expr(alloc, table, inner),
         SForm::Sig(inner, ty) => {
             check_expr(alloc, table, inner)?;
             check_alone(alloc, table, ty)
         }
         SForm::Tuple(items) => check_exprs(alloc, table, items),
         SForm::Fields(fields) => check_fields(alloc, table, fields),
-        SForm::Con(_, None) => Ok(()),
         SForm::Con(_, Some(inner)) => check_expr(alloc, table, inner),
         SForm::App(fun, arg) => check_two(alloc, table, fun, arg),
-        SForm::Member(inner, _) => check_expr(alloc, table, inner),
+        SForm::Binary(_, left, right) => check_two(alloc, table, left, right),
+        SForm::Member(inner, _) | SForm::Unary(_, inner) => check_expr(alloc, table, inner),
         SForm::Put(inner, fields) => {
             check_expr(alloc, table, inner)?;
             check_fields(alloc, table, fields)
         }
-        SForm::Unary(_, inner) => check_expr(alloc, table, inner),
-        SForm::Upcast(inner) => check_expr(alloc, table, inner),
-        SForm::Binary(_, left, right) => check_two(alloc, table, left, right),
         SForm::Let(binds, body) => {
             check_binds(alloc, table, binds)?;
             check_expr(alloc, table, body)

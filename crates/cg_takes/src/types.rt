@@ -6,14 +6,14 @@ ghost use Rattle.std.specs.List.{flat_map};
 ghost use Rattle.std.specs.Option.{option_map};
 ghost use Rattle.cg_surface.specs.Written.{written_of, field_of, alt_of, to_types, to_fields, to_alts};
 ghost use Rattle.cg_takes.specs.Heads.{heads_of, shape_of, shape_by_name, shape_at, chosen};
-ghost use Rattle.cg_takes.specs.Missing.{has_field, if_absent, absent, absent_all, absent_fields, absent_alts};
+ghost use Rattle.cg_takes.specs.Missing.{has_field, if_absent, if_no_record, absent, absent_all, absent_fields, absent_alts};
 ghost use Rattle.cg_takes.specs.Says.{TakesSay};
 ghost use Rattle.cg_takes.specs.Views.{test_of, heads_in};
 
 use crate::fault::TakeFault;
 use crate::head::{Fields, TypeHead};
 use crate::known::{HeadTable, head_by_name};
-use cg_base::Items;
+use cg_base::{Items, Place};
 use cg_core::At;
 use cg_surface::{SAlt, SPart, STy, STyForm};
 use std::alloc::Global;
@@ -71,18 +71,8 @@ fn check_type<'a>(
             Ok(None)
         }
         STyForm::Bang(inner) => check_type(alloc, table, inner),
-        STyForm::TakeSome(inner, names) => {
-            let fields = check_type(alloc, table, inner)?;
-            check_names(&fields, names)?;
-            Ok(fields)
-        }
-        STyForm::TakeAll(inner, place) => {
-            let fields = check_type(alloc, table, inner)?;
-            if fields.is_none() {
-                return Err(TakeFault::N5(*place));
-            }
-            Ok(fields)
-        }
+        STyForm::TakeSome(inner, names) => taken(check_type(alloc, table, inner)?, names),
+        STyForm::TakeAll(inner, place) => all_taken(check_type(alloc, table, inner)?, *place),
     }
 }
 
@@ -172,6 +162,26 @@ fn check_alternatives<'a>(
         }
     }
     Ok(())
+}
+
+// These fields, where each name is one of them.
+fn taken<'a>(fields: Option<Fields<'a>>, names: &Items<At>) -> Result<Option<Fields<'a>>, TakeFault>
+    ensures says { TakesSay (flat_map (if_absent (option_map test_of fields.entry)) names.now) result }
+    ensures fields { IfOk result (λ same. option_map test_of same ≡ option_map test_of fields.entry) }
+{
+    check_names(&fields, names)?;
+    Ok(fields)
+}
+
+// These fields, where it is a record.
+fn all_taken<'a>(fields: Option<Fields<'a>>, place: Place) -> Result<Option<Fields<'a>>, TakeFault>
+    ensures says { TakesSay (if_no_record (option_map test_of fields.entry) place) result }
+    ensures fields { IfOk result (λ same. option_map test_of same ≡ option_map test_of fields.entry) }
+{
+    if fields.is_none() {
+        return Err(TakeFault::N5(place));
+    }
+    Ok(fields)
 }
 
 // The first place of a name that is none of these fields.
