@@ -1,0 +1,10 @@
+pub mod ComponentSteps
+pub mod ExprSteps
+pub mod FieldSteps
+pub mod HeadSteps
+pub mod KeepSteps
+pub mod Ordered
+pub mod Places
+pub mod Same
+pub mod SaySteps
+pub mod Tops
