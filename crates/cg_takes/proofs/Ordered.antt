@@ -96,7 +96,7 @@ module _ (entries : List Entry) (order : List ℕ) (is : IsOrder (mentions entri
 
   module _ (p : ℕ) (heads : Heads) (knows : Knows entries (take p order) heads) where
     -- what is placed has its head
-    placed_known : (n : List ℕ) → IsPlaced entries order is p n → heads n ≡ known n
+    placed_known : (n : List ℕ) → IsPlaced entries order p n → heads n ≡ known n
     placed_known n placed = pick (cases n)
       where
         pick : Cases n → heads n ≡ known n
@@ -106,7 +106,7 @@ module _ (entries : List Entry) (order : List ℕ) (is : IsOrder (mentions entri
             knows.found n (0 + found.position) found.first (placed.among (0 + found.position) found.first)
 
     -- so has a synonym whose turn it is, or was
-    turn_known : (n : List ℕ) (params : List At) (body : Written) → type_named entries n ≡ Some (record { params = params; body = Some body }) → IsPlaced entries order is (suc p) n
+    turn_known : (n : List ℕ) (params : List At) (body : Written) → type_named entries n ≡ Some (record { params = params; body = Some body }) → IsPlaced entries order (suc p) n
         → Some (head_of heads (map (λ at. at.name) params) body) ≡ known n
     turn_known n params body e placed =
         let found : IsFirstSynonym entries 0 n params body = synonym_found entries 0 n params body e in
@@ -141,14 +141,14 @@ module _ (entries : List Entry) (order : List ℕ) (is : IsOrder (mentions entri
           absent m none true same = absurd (let e' : n ≡ m = (bytes_decides n m).0 same in let some = ap known e' ∙ none in let h = sym (solved_body n params body e) ∙ some in cc)
           absent m none false differs = more m ∙ ap (λ b. cond b (Some (head_of heads (map (λ at. at.name) params) body)) (heads m)) differs ∙ knows.nothing m none
 
-          placed : (m : List ℕ) (j : ℕ) → synonym_from 0 entries m ≡ j ∷ [] → Contains (take (suc p) order) j → IsPlaced entries order is (suc p) m
+          placed : (m : List ℕ) (j : ℕ) → synonym_from 0 entries m ≡ j ∷ [] → Contains (take (suc p) order) j → IsPlaced entries order (suc p) m
           placed m j first has = record { among = λ k again. subst (λ x. Contains (take (suc p) order) x) (let h = sym first ∙ again in cc) has }
 
           present : (m : List ℕ) (j : ℕ) → synonym_from 0 entries m ≡ j ∷ [] → Contains (take (suc p) order) j → (b : Bool) → bytes_eq n m ≡ b → new m ≡ known m
           present m j first has true same =
               let e' : n ≡ m = (bytes_decides n m).0 same in
               more m ∙ ap (λ b. cond b (Some (head_of heads (map (λ at. at.name) params) body)) (heads m)) same
-              ∙ turn_known n params body e (subst (IsPlaced entries order is (suc p)) (sym e') (placed m j first has)) ∙ ap known e'
+              ∙ turn_known n params body e (subst (IsPlaced entries order (suc p)) (sym e') (placed m j first has)) ∙ ap known e'
           present m j first has false differs =
               more m ∙ ap (λ b. cond b (Some (head_of heads (map (λ at. at.name) params) body)) (heads m)) differs
               ∙ ⊎_elim (knows.found m j first) (λ same. absurd (true≢false (sym (only m (first ∙ ap (λ k. k ∷ []) same)) ∙ nat_list_eq_equiv.symm m n ∙ differs))) (contains_more order p i j at_turn has)
