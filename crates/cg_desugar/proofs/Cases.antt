@@ -1,18 +1,16 @@
 -- Sources and what the reference makes of them.
-use Rattle.std.proofs.Common.{◌≡◌, ℕ, Bool, true, false, List, [], ◌∷◌, Option, Some, None, refl}
+use Rattle.std.proofs.Common.{◌≡◌, ℕ, true, false, List, [], ◌∷◌, Option, Some, None, refl}
 use Rattle.std.specs.Fmt.{digits}
 use Rattle.std.specs.Prelude.{codes}
 use Rattle.cg_base.specs.declared.fun.Fun.TheVariants.{User, Lib as OfLib}
 use Rattle.cg_base.specs.declared.fun.Lib.TheVariants as libs
-use Rattle.cg_base.specs.declared.kind.Bound.{Bound}
-use Rattle.cg_base.specs.declared.kind.Word.TheVariants.{U8, U16, U32, U64}
-use Rattle.cg_base.specs.declared.kind.Sigil.TheVariants.{R, W, U}
+use Rattle.cg_base.specs.declared.kind.Word.TheVariants.{U8, U32}
+use Rattle.cg_base.specs.declared.kind.Sigil.TheVariants.{W, U}
 use Rattle.cg_base.specs.declared.place.Place.{Place}
 use Rattle.cg_base.specs.Types as kernel
 use Rattle.cg_core.specs.declared.at.At.{At}
 use Rattle.cg_core.specs.declared.op.Op.TheVariants as ops
-use Rattle.cg_core.specs.Kernels.{Function}
-use Rattle.cg_core.specs.Terms.{Tree, term, var, unit, bool, lit, fun, op, app, lets, let_bang, if_else, con, case_of, esac, struct, member, take_field, put, cast, annot, none, more, end, field}
+use Rattle.cg_core.specs.Terms.{term, var, unit, bool, lit, fun, op, app, lets, let_bang, if_else, con, case_of, esac, struct, member, take_field, put, cast, annot, none, more, end, field}
 use Rattle.cg_kinds.specs.Kinds.{bang, subst}
 use Rattle.cg_surface.specs.Written as types
 use Rattle.cg_surface.specs.Patterns as patterns
@@ -20,8 +18,7 @@ use Rattle.cg_surface.specs.Exprs as exprs
 use Rattle.cg_surface.specs.Programs.{Entry, synonym, abstract, signature, define}
 use Rattle.cg_desugar.specs.Desugar.{functions_of}
 use Rattle.cg_desugar.specs.Expand.{bodies_to}
-use Rattle.cg_desugar.specs.Faults.{NameFault, unknown, twice, arguments, program_faults}
-use Rattle.cg_desugar.specs.Mentions.{mentions}
+use Rattle.cg_desugar.specs.Faults.{unknown, twice, arguments, program_faults}
 use Rattle.cg_desugar.specs.Takes.{missing_fields}
 
 abbrev place : ℕ → ℕ → Place

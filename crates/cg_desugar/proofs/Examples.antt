@@ -1,5 +1,5 @@
 -- The definitions, computed on an example: a field that is taken and put back.
-use Rattle.std.proofs.Common.{◌≡◌, ℕ, true, false, List, [], ◌∷◌, Some, None, refl}
+use Rattle.std.proofs.Common.{◌≡◌, ℕ, true, false, List, [], ◌∷◌, Some, refl}
 use Rattle.std.specs.Prelude.{codes}
 use Rattle.cg_base.specs.declared.kind.Word.TheVariants.{U32, U8}
 use Rattle.cg_base.specs.declared.kind.Sigil.TheVariants.{W}
@@ -7,7 +7,6 @@ use Rattle.cg_base.specs.declared.place.Place.{Place}
 use Rattle.cg_base.specs.Types as kernel
 use Rattle.cg_core.specs.declared.at.At.{At}
 use Rattle.cg_core.specs.declared.op.Op.TheVariants.{Add}
-use Rattle.cg_core.specs.Kernels.{Function}
 use Rattle.cg_core.specs.Terms.{Tree, term, var, lit, op, take_field, put, none, more}
 use Rattle.cg_surface.specs.Written as types
 use Rattle.cg_surface.specs.Patterns as patterns
@@ -37,11 +36,11 @@ program =
     synonym (named 1 (codes "Cell")) [] cell
     ∷ signature (named 8 (codes "bump")) [] [] (types.arrow (at 9) (a_cell 9) (a_cell 10))
     ∷ define (named 11 (codes "bump")) (patterns.name (at 12) (codes "c"))
-      (exprs.lets (at 13)
-        (exprs.and_bind exprs.no_binds (patterns.take (at 14) (codes "d") (patterns.and_field patterns.no_fields (named 15 (codes "val")) (patterns.name (at 16) (codes "v"))))
-          (exprs.name (at 17) (codes "c") types.no_types) [])
-        (exprs.put (at 18) (exprs.name (at 18) (codes "d") types.no_types)
-          (exprs.and_field exprs.no_fields (named 19 (codes "val")) (exprs.binary (at 21) Add (exprs.name (at 20) (codes "v") types.no_types) (exprs.number (at 22) (Some 1))))))
+    (exprs.lets (at 13)
+    (exprs.and_bind exprs.no_binds (patterns.take (at 14) (codes "d") (patterns.and_field patterns.no_fields (named 15 (codes "val")) (patterns.name (at 16) (codes "v"))))
+    (exprs.name (at 17) (codes "c") types.no_types) [])
+    (exprs.put (at 18) (exprs.name (at 18) (codes "d") types.no_types)
+    (exprs.and_field exprs.no_fields (named 19 (codes "val")) (exprs.binary (at 21) Add (exprs.name (at 20) (codes "v") types.no_types) (exprs.number (at 22) (Some 1))))))
     ∷ []
 
 abbrev the_cell : kernel.Tau
@@ -50,7 +49,7 @@ the_cell = kernel.fields (kernel.part (codes "val") (kernel.word U32) false (ker
 abbrev kernel_term : Tree Place
 kernel_term =
     term (at 14) (take_field (term (at 17) (var 0)) (named 15 (codes "val")) (at 14) (at 16)
-      (term (at 18) (put (term (at 18) (var 1)) (named 19 (codes "val")) (term (at 21) (op Add (more (term (at 20) (var 2)) (more (term (at 22) (lit (Some 1))) none)))))))
+    (term (at 18) (put (term (at 18) (var 1)) (named 19 (codes "val")) (term (at 21) (op Add (more (term (at 20) (var 2)) (more (term (at 22) (lit (Some 1))) none)))))))
 
 in_order : program_faults program ≡ []
 in_order = refl

@@ -1,6 +1,6 @@
 -- From a program to its kernel, or to the first fault of names, or to the first limit of written things that it passes (docs/LANGUAGE.md,
 -- "Names", "Desugaring" and "Limits").
-use Rattle.std.specs.Prelude.{◌≡◌, ℕ, ◌+◌, max, ◌<◌, ◌≤◌, List, [], ◌∷◌, map, slice_get, length, Option, Some, None, if◌then◌else◌}
+use Rattle.std.specs.Prelude.{◌≡◌, ℕ, ◌+◌, max, ◌<◌, ◌≤◌, List, [], ◌∷◌, slice_get, length, Option, Some, None}
 use Rattle.std.specs.List.{filter_map}
 use Rattle.cg_base.specs.declared.kind.Bound.{Bound}
 use Rattle.cg_base.specs.declared.place.Place.{Place}

@@ -2,9 +2,8 @@
 -- "Synonyms"). Where names are at fault the type means nothing.
 use Rattle.std.specs.Prelude.{ℕ, zero, suc, ◌+◌, Bool, true, false, ◌||◌, nat_le, List, [], ◌∷◌, ◌++◌, map, length, codes, Option, Some, None, if◌then◌else◌, decimal}
 use Rattle.std.specs.Str.{bytes_eq}
-use Rattle.cg_base.specs.declared.kind.Sigil.{Sigil}
 use Rattle.cg_base.specs.declared.kind.Sigil.TheVariants.{W, U}
-use Rattle.cg_base.specs.Types.{Tau, var, unit, arrow, abs, variant, fields, Taus, Parts, end, part, Piece, to_taus, to_parts}
+use Rattle.cg_base.specs.Types.{Tau, var, unit, arrow, abs, variant, fields, Parts, end, part, Piece, to_taus, to_parts}
 use Rattle.cg_core.specs.declared.at.At.{At}
 use Rattle.cg_kinds.specs.Kinds.{bang, subst}
 use Rattle.cg_surface.specs.Written.{Written, Writtens, WrittenFields, WrittenAlts}

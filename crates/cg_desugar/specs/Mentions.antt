@@ -2,12 +2,11 @@
 -- an item: a synonym, or a signature, which stands for its function.
 use Rattle.std.specs.Prelude.{ℕ, ◌+◌, List, [], ◌∷◌, ◌++◌, map, Option, Some, None, if◌then◌else◌}
 use Rattle.std.specs.Str.{bytes_eq}
-use Rattle.cg_core.specs.declared.at.At.{At}
 use Rattle.cg_surface.specs.Written.{Written, Writtens, WrittenFields, WrittenAlts}
 use Rattle.cg_surface.specs.Written as types
 use Rattle.cg_surface.specs.Exprs.{Expr, Exprs, FieldExprs, Binds, Alts}
 use Rattle.cg_surface.specs.Exprs as exprs
-use Rattle.cg_surface.specs.Programs.{Entry, synonym, abstract, signature, define}
+use Rattle.cg_surface.specs.Programs.{Entry, synonym, signature}
 use Rattle.cg_desugar.specs.Declared.{is_among, Defined, definition_named}
 use Rattle.cg_desugar.specs.Faults.{bound, all_bound}
 

@@ -1,6 +1,6 @@
 -- What an expression is as a term of the kernel (docs/LANGUAGE.md, "Desugaring"). A scope lists the entries of the context, the innermost
 -- first: a variable's name, or none for an entry that no name stands for. Where names are at fault the term means nothing.
-use Rattle.std.specs.Prelude.{ℕ, ◌+◌, Bool, false, List, [], ◌∷◌, map, length, Option, Some, None, if◌then◌else◌}
+use Rattle.std.specs.Prelude.{ℕ, ◌+◌, Bool, false, List, [], ◌∷◌, length, Option, Some, None, if◌then◌else◌}
 use Rattle.std.specs.Str.{bytes_eq}
 use Rattle.cg_base.specs.declared.fun.Fun.{Fun}
 use Rattle.cg_base.specs.declared.fun.Fun.TheVariants.{User, Lib as OfLib}
@@ -8,9 +8,8 @@ use Rattle.cg_base.specs.declared.fun.Lib.TheVariants.{New}
 use Rattle.cg_base.specs.declared.place.Place.{Place}
 use Rattle.cg_base.specs.Types as kernel
 use Rattle.cg_core.specs.declared.at.At.{At}
-use Rattle.cg_core.specs.declared.op.Op.{Op}
 use Rattle.cg_core.specs.declared.term.Seen.{Seen}
-use Rattle.cg_core.specs.Terms.{Tree, term, var, unit, bool, lit, fun, op, app, lets, let_bang, if_else, con, case_of, esac, struct, member, take_field, put, cast, annot, Trees, none, more, Named, end, field, Arg}
+use Rattle.cg_core.specs.Terms.{Tree, term, var, unit, bool, lit, fun, op, app, lets, let_bang, if_else, con, case_of, esac, struct, member, take_field, put, cast, annot, none, more, Named, end, field, Arg}
 use Rattle.cg_surface.specs.Written.{Written, Writtens}
 use Rattle.cg_surface.specs.Written as types
 use Rattle.cg_surface.specs.Patterns.{Pattern, Patterns, FieldPatterns}
