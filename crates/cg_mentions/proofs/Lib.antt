@@ -1,0 +1,7 @@
+pub mod ExprSteps
+pub mod GraphSteps
+pub mod PatternSteps
+pub mod PositionSteps
+pub mod Pushed
+pub mod Same
+pub mod TypeSteps

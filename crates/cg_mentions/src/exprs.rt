@@ -1,0 +1,192 @@
+// Names of functions in expressions.
+#![tactic(auto, using(std::proofs::lemmas::Grind::common_steps, crate::proofs::ExprSteps::expr_steps))]
+
+ghost use Rattle.std.specs.Prelude.{◌≡◌, ◌++◌, map, length, take, OnOk};
+ghost use Rattle.cg_surface.specs.Exprs.{expr_of, field_of, bind_of, alt_of, to_exprs, to_fields, to_binds, to_alts};
+ghost use Rattle.cg_desugar.specs.Faults.{bound, all_bound};
+ghost use Rattle.cg_desugar.specs.Mentions.{expr_mentions, list_mentions, values_mentions, binds_mentions, match_mentions};
+ghost use Rattle.cg_names.specs.Scopes.{SameNames};
+ghost use Rattle.cg_mentions.specs.Parts.{name_mentions, choice_mentions};
+ghost use Rattle.cg_mentions.specs.Positions.{pushed};
+
+use crate::patterns::enter_pattern;
+use crate::positions::{Positions, push_name};
+use cg_base::Memory;
+use cg_names::Scope;
+use cg_surface::{Alt, Bind, FExpr, SExpr, SForm};
+
+/// Adds the positions of the names of functions in an expression, in reading order, among these variables. The scope is as before.
+/// Want of memory is its one refusal.
+#[cycle(push_expr)]
+pub fn push_expr<'a>(
+    signatures: &Positions<'_>,
+    scope: &mut Scope<'a>,
+    targets: &mut Vec<u32>,
+    expr: &'a SExpr,
+) -> Result<(), Memory>
+    ensures targets { OnOk result (targets.new.items ≡ pushed signatures.now targets.old.items (expr_mentions scope.old (expr_of expr.now))) }
+    ensures scope { OnOk result (scope.new ≡ scope.old) }
+{
+    match &expr.form {
+        SForm::Name(name, _) => push_mention(signatures, scope, targets, name.bytes()),
+        SForm::Number(_) => Ok(()),
+        SForm::Bool(_) => Ok(()),
+        SForm::Unit => Ok(()),
+        SForm::Paren(inner) => push_expr(signatures, scope, targets, inner),
+        SForm::Sig(inner, _) => push_expr(signatures, scope, targets, inner),
+        SForm::Tuple(parts) => push_exprs(signatures, scope, targets, parts.as_slice()),
+        SForm::Fields(fields) => push_values(signatures, scope, targets, fields.as_slice()),
+        SForm::Con(_, None) => Ok(()),
+        SForm::Con(_, Some(payload)) => push_expr(signatures, scope, targets, payload),
+        SForm::App(fun, arg) => {
+            push_expr(signatures, scope, targets, fun)?;
+            push_expr(signatures, scope, targets, arg)
+        }
+        SForm::Member(record, _) => push_expr(signatures, scope, targets, record),
+        SForm::Put(record, fields) => {
+            push_expr(signatures, scope, targets, record)?;
+            push_values(signatures, scope, targets, fields.as_slice())
+        }
+        SForm::Unary(_, operand) => push_expr(signatures, scope, targets, operand),
+        SForm::Upcast(operand) => push_expr(signatures, scope, targets, operand),
+        SForm::Binary(_, left, right) => {
+            push_expr(signatures, scope, targets, left)?;
+            push_expr(signatures, scope, targets, right)
+        }
+        SForm::Let(binds, body) => {
+            let kept = scope.len();
+            push_binds(signatures, scope, targets, binds.as_slice())?;
+            push_expr(signatures, scope, targets, body)?;
+            scope.leave(kept);
+            Ok(())
+        }
+        SForm::If(condition, _, yes, no) => {
+            push_expr(signatures, scope, targets, condition)?;
+            push_expr(signatures, scope, targets, yes)?;
+            push_expr(signatures, scope, targets, no)
+        }
+        SForm::Match(subject, _, choices) => {
+            push_expr(signatures, scope, targets, subject)?;
+            push_choices(signatures, scope, targets, choices.as_slice())
+        }
+    }
+}
+
+// The same of a name: a variable hides a function.
+fn push_mention(
+    signatures: &Positions<'_>,
+    scope: &Scope<'_>,
+    targets: &mut Vec<u32>,
+    name: &[u8],
+) -> Result<(), Memory>
+    ensures { OnOk result (targets.new.items ≡ pushed signatures.now targets.old.items (name_mentions scope.now name.now)) }
+{
+    if scope.holds(name) {
+        Ok(())
+    } else {
+        push_name(signatures, targets, name)
+    }
+}
+
+// The same of several expressions, from left to right.
+#[cycle(push_expr)]
+fn push_exprs<'a>(
+    signatures: &Positions<'_>,
+    scope: &mut Scope<'a>,
+    targets: &mut Vec<u32>,
+    exprs: &'a [SExpr],
+) -> Result<(), Memory>
+    ensures targets { OnOk result (targets.new.items ≡ pushed signatures.now targets.old.items (list_mentions scope.old (to_exprs (map expr_of exprs.now)))) }
+    ensures scope { OnOk result (scope.new ≡ scope.old) }
+{
+    for expr in exprs {
+        push_expr(signatures, scope, targets, expr)?;
+    }
+    Ok(())
+}
+
+// The same of the values of fields.
+#[cycle(push_expr)]
+fn push_values<'a>(
+    signatures: &Positions<'_>,
+    scope: &mut Scope<'a>,
+    targets: &mut Vec<u32>,
+    fields: &'a [FExpr],
+) -> Result<(), Memory>
+    ensures targets { OnOk result (targets.new.items ≡ pushed signatures.now targets.old.items (values_mentions scope.old (to_fields (map field_of fields.now)))) }
+    ensures scope { OnOk result (scope.new ≡ scope.old) }
+{
+    for field in fields {
+        push_expr(signatures, scope, targets, &field.value)?;
+    }
+    Ok(())
+}
+
+// The same of bindings, each among the variables of those before it. Their variables come into scope.
+#[cycle(push_expr)]
+fn push_binds<'a>(
+    signatures: &Positions<'_>,
+    scope: &mut Scope<'a>,
+    targets: &mut Vec<u32>,
+    binds: &'a [Bind],
+) -> Result<(), Memory>
+    ensures targets { OnOk result (targets.new.items ≡ pushed signatures.now targets.old.items (binds_mentions scope.old (to_binds (map bind_of binds.now)))) }
+    ensures names { OnOk result (SameNames scope.new (all_bound (to_binds (map bind_of binds.now)) ++ scope.old)) }
+    ensures kept { OnOk result (take (length scope.old) scope.new ≡ scope.old) }
+{
+    for bind in binds {
+        push_bind(signatures, scope, targets, bind)?;
+    }
+    Ok(())
+}
+
+// The same of a binding, whose variables come into scope.
+#[cycle(push_expr)]
+fn push_bind<'a>(
+    signatures: &Positions<'_>,
+    scope: &mut Scope<'a>,
+    targets: &mut Vec<u32>,
+    bind: &'a Bind,
+) -> Result<(), Memory>
+    ensures targets { OnOk result (targets.new.items ≡ pushed signatures.now targets.old.items (expr_mentions scope.old (bind_of bind.now).value)) }
+    ensures names { OnOk result (SameNames scope.new (bound (bind_of bind.now).pattern ++ scope.old)) }
+    ensures kept { OnOk result (take (length scope.old) scope.new ≡ scope.old) }
+{
+    push_expr(signatures, scope, targets, &bind.value)?;
+    enter_pattern(scope, &bind.pat)
+}
+
+// The same of the alternatives of a match.
+#[cycle(push_expr)]
+fn push_choices<'a>(
+    signatures: &Positions<'_>,
+    scope: &mut Scope<'a>,
+    targets: &mut Vec<u32>,
+    choices: &'a [Alt],
+) -> Result<(), Memory>
+    ensures targets { OnOk result (targets.new.items ≡ pushed signatures.now targets.old.items (match_mentions scope.old (to_alts (map alt_of choices.now)))) }
+    ensures scope { OnOk result (scope.new ≡ scope.old) }
+{
+    for choice in choices {
+        push_choice(signatures, scope, targets, choice)?;
+    }
+    Ok(())
+}
+
+// The same of an alternative of a match.
+#[cycle(push_expr)]
+fn push_choice<'a>(
+    signatures: &Positions<'_>,
+    scope: &mut Scope<'a>,
+    targets: &mut Vec<u32>,
+    choice: &'a Alt,
+) -> Result<(), Memory>
+    ensures targets { OnOk result (targets.new.items ≡ pushed signatures.now targets.old.items (choice_mentions scope.old (alt_of choice.now))) }
+    ensures scope { OnOk result (scope.new ≡ scope.old) }
+{
+    let kept = scope.len();
+    enter_pattern(scope, &choice.pat)?;
+    push_expr(signatures, scope, targets, &choice.body)?;
+    scope.leave(kept);
+    Ok(())
+}
