@@ -1,0 +1,57 @@
+-- Lists that are empty, names among names, and names that are apart.
+use Rattle.std.proofs.Common.{◌≡◌, ℕ, zero, suc, ◌+◌, ◌||◌, Bool, true, false, cond, List, [], ◌∷◌, ◌++◌, refl, sym, ap, ◌∙◌, arith}
+use Rattle.std.specs.Cmp.Lexicographic.{bytes_decides}
+use Rattle.std.specs.List.{list_any}
+use Rattle.std.specs.Str.{bytes_eq}
+use Rattle.cg_base.specs.declared.place.Place.{Place}
+use Rattle.cg_desugar.specs.Declared.{is_among}
+use Rattle.cg_desugar.specs.Faults.{again, twice}
+
+-- two lists that are nothing together
+pub none_left : {A : Type 0} (xs ys : List A) → xs ++ ys ≡ [] → xs ≡ []
+none_left [] ys e = refl
+none_left (x ∷ xs) ys e = absurd (cc)
+
+pub none_right : {A : Type 0} (xs ys : List A) → xs ++ ys ≡ [] → ys ≡ []
+none_right [] ys e = e
+none_right (x ∷ xs) ys e = absurd (cc)
+
+-- a name that isn't twice is among none before it
+pub not_again : (before : List (List ℕ)) (p : Place) (n : List ℕ) → again before p n ≡ [] → is_among before n ≡ false
+not_again before p n none = pick (is_among before n) none
+  where
+    pick : (b : Bool) → cond b (twice p ∷ []) [] ≡ [] → b ≡ false
+    pick true e = absurd (cc)
+    pick false e = refl
+
+pub or_left : (b c : Bool) → (b || c) ≡ false → b ≡ false
+or_left true c e = absurd (cc)
+or_left false c e = refl
+
+pub or_right : (b c : Bool) → (b || c) ≡ false → c ≡ false
+or_right true c e = absurd (cc)
+or_right false c e = e
+
+-- names that have the same bytes are the same
+pub same_name : (n : List ℕ) → bytes_eq n n ≡ true
+same_name n = (bytes_decides n n).1 refl
+
+pub is_name : (n m : List ℕ) → bytes_eq n m ≡ true → n ≡ m
+is_name n m e = (bytes_decides n m).0 e
+
+-- names among two lists of them
+pub among_left : (names others : List (List ℕ)) (n : List ℕ) → is_among names n ≡ true → is_among (names ++ others) n ≡ true
+among_left [] others n e = absurd (cc)
+among_left (m ∷ names) others n e = pick (bytes_eq n m) e (among_left names others n)
+  where
+    pick : (b : Bool) → (b || is_among names n) ≡ true → (is_among names n ≡ true → is_among (names ++ others) n ≡ true) → (b || is_among (names ++ others) n) ≡ true
+    pick true h rest = refl
+    pick false h rest = rest h
+
+pub among_right : (names others : List (List ℕ)) (n : List ℕ) → is_among others n ≡ true → is_among (names ++ others) n ≡ true
+among_right [] others n e = e
+among_right (m ∷ names) others n e = pick (bytes_eq n m) (among_right names others n e)
+  where
+    pick : (b : Bool) → is_among (names ++ others) n ≡ true → (b || is_among (names ++ others) n) ≡ true
+    pick true h = refl
+    pick false h = h
