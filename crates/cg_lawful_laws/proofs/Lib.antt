@@ -1,2 +1,3 @@
+pub mod Expanded
 pub mod Lists
 pub mod Types
