@@ -1,3 +1,5 @@
+pub mod Bodies
 pub mod Expanded
+pub mod Items
 pub mod Lists
 pub mod Types
