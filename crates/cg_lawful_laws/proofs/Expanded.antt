@@ -24,7 +24,7 @@ use Rattle.cg_desugar.specs.Faults.{NameFault, again, alt_names, alts_faults, ar
 use Rattle.cg_desugar.specs.Mentions.{alts_mentions, fields_mentions, type_mentions, types_mentions}
 use Rattle.cg_desugar.specs.Takes.{alts_length, fields_length, widest, widest_alt, widest_field, widest_of}
 use Rattle.cg_lawful_laws.specs.Shaped.{AreShapedAlts, AreShapedFields, AreShapedTypes, IsShapedType}
-use Rattle.cg_lawful_laws.proofs.Lists.{is_name, none_left, none_right, not_again, same_name}
+use Rattle.cg_lawful_laws.proofs.Lists.{AreNew, is_name, new_here, none_left, none_right, not_again, one_new}
 use Rattle.cg_lawful_laws.proofs.Types.{AreLawfulPieces, ArePieces, bang_lawful, in_order_pieces, in_order_some, list_count, list_lawful, names_of_pieces, parts_of_pieces, subst_lawful, take_all_lawful, take_some_lawful}
 
 -- ---- numbers of arguments
@@ -170,28 +170,6 @@ module _ (entries : List Entry) (known : Bodies) where
     are_alts (types.and_plain choices at) h = some_alts choices _ tt
     are_alts (types.and_alt choices at t) h = some_alts choices _ tt
 
-    -- none of these names is one of the parts
-    abbrev AreNew : List (List ℕ) → List Piece → Type 0
-    AreNew names ps = (n : List ℕ) → is_among names n ≡ true → is_among (names_of_pieces ps) n ≡ false
-
-    -- with one of them in front of the parts, which stood before no other
-    one_new : (before : List (List ℕ)) (n : List ℕ) (ps : List Piece) (t : Tau) → is_among before n ≡ false → AreNew (n ∷ before) ps → AreNew before (record { name = n; ty = t; taken = false } ∷ ps)
-    one_new before n ps t once new m among = pick (bytes_eq m n) refl
-      where
-        behind : is_among (names_of_pieces ps) m ≡ false
-        behind = new m (either (bytes_eq m n) (is_among before m) among)
-          where
-            either : (b c : Bool) → c ≡ true → (b || c) ≡ true
-            either true c e = refl
-            either false c e = e
-
-        pick : (b : Bool) → bytes_eq m n ≡ b → (b || is_among (names_of_pieces ps) m) ≡ false
-        pick true e = absurd (let same : is_among before n ≡ true = carry (λ x. is_among before x ≡ true) (is_name m n e) among in cc)
-        pick false e = behind
-
-    new_here : (before : List (List ℕ)) (n : List ℕ) (ps : List Piece) → AreNew (n ∷ before) ps → is_among (names_of_pieces ps) n ≡ false
-    new_here before n ps new = new n (ap (λ b. b || is_among before n) (same_name n))
-
     -- one part more in front
     one_piece : (n : List ℕ) (t : Tau) (ps : List Piece) → is_among (names_of_pieces ps) n ≡ false → IsLawfulType (length names) t → ArePieces (length names) ps → ArePieces (length names) (record { name = n; ty = t; taken = false } ∷ ps)
     one_piece n t ps new lawful h = record { apart = (new, h.apart); lawful = (lawful, h.lawful) }
@@ -239,25 +217,25 @@ module _ (entries : List Entry) (known : Bodies) where
           (type_lawful t (none_right (types_faults entries names ts) (type_faults entries names t) none) shaped.1 (omega (arith, narrow)) (sound_right (types_mentions ts) (type_mentions t) sound)) rest)
 
       fields_lawful : (fs : WrittenFields) (behind : List Piece) → fields_faults entries names fs ≡ [] → AreShapedFields fs → widest_field fs ≤ parts_limit → AreSound (fields_mentions fs)
-          → AreNew (field_names fs) behind → ArePieces (length names) behind → ArePieces (length names) (expanded_fields known names fs behind)
+          → AreNew (field_names fs) (names_of_pieces behind) → ArePieces (length names) behind → ArePieces (length names) (expanded_fields known names fs behind)
       fields_lawful types.no_fields behind none shaped narrow sound new rest = rest
       fields_lawful (types.and_field fs at t) behind none shaped narrow sound new rest =
           let before = none_left (fields_faults entries names fs ++ again (field_names fs) at.place at.name) (type_faults entries names t) none in
           fields_lawful fs _ (none_left (fields_faults entries names fs) (again (field_names fs) at.place at.name) before) shaped.0 (omega (arith, narrow)) (sound_left (fields_mentions fs) (type_mentions t) sound)
-          (one_new (field_names fs) at.name behind (expanded known names t) (not_again (field_names fs) at.place at.name (none_right (fields_faults entries names fs) (again (field_names fs) at.place at.name) before)) new)
-          (one_piece at.name (expanded known names t) behind (new_here (field_names fs) at.name behind new)
+          (one_new (field_names fs) at.name (names_of_pieces behind) (not_again (field_names fs) at.place at.name (none_right (fields_faults entries names fs) (again (field_names fs) at.place at.name) before)) new)
+          (one_piece at.name (expanded known names t) behind (new_here (field_names fs) at.name (names_of_pieces behind) new)
           (type_lawful t (none_right (fields_faults entries names fs ++ again (field_names fs) at.place at.name) (type_faults entries names t) none) shaped.1 (omega (arith, narrow)) (sound_right (fields_mentions fs) (type_mentions t) sound)) rest)
 
       alts_lawful : (choices : WrittenAlts) (behind : List Piece) → alts_faults entries names choices ≡ [] → AreShapedAlts choices → widest_alt choices ≤ parts_limit → AreSound (alts_mentions choices)
-          → AreNew (alt_names choices) behind → ArePieces (length names) behind → ArePieces (length names) (expanded_alts known names choices behind)
+          → AreNew (alt_names choices) (names_of_pieces behind) → ArePieces (length names) behind → ArePieces (length names) (expanded_alts known names choices behind)
       alts_lawful types.no_alts behind none shaped narrow sound new rest = rest
       alts_lawful (types.and_plain choices at) behind none shaped narrow sound new rest =
           alts_lawful choices _ (none_left (alts_faults entries names choices) (again (alt_names choices) at.place at.name) none) shaped narrow sound
-          (one_new (alt_names choices) at.name behind kernel.unit (not_again (alt_names choices) at.place at.name (none_right (alts_faults entries names choices) (again (alt_names choices) at.place at.name) none)) new)
-          (one_piece at.name kernel.unit behind (new_here (alt_names choices) at.name behind new) tt rest)
+          (one_new (alt_names choices) at.name (names_of_pieces behind) (not_again (alt_names choices) at.place at.name (none_right (alts_faults entries names choices) (again (alt_names choices) at.place at.name) none)) new)
+          (one_piece at.name kernel.unit behind (new_here (alt_names choices) at.name (names_of_pieces behind) new) tt rest)
       alts_lawful (types.and_alt choices at t) behind none shaped narrow sound new rest =
           let before = none_left (alts_faults entries names choices ++ again (alt_names choices) at.place at.name) (type_faults entries names t) none in
           alts_lawful choices _ (none_left (alts_faults entries names choices) (again (alt_names choices) at.place at.name) before) shaped.0 (omega (arith, narrow)) (sound_left (alts_mentions choices) (type_mentions t) sound)
-          (one_new (alt_names choices) at.name behind (expanded known names t) (not_again (alt_names choices) at.place at.name (none_right (alts_faults entries names choices) (again (alt_names choices) at.place at.name) before)) new)
-          (one_piece at.name (expanded known names t) behind (new_here (alt_names choices) at.name behind new)
+          (one_new (alt_names choices) at.name (names_of_pieces behind) (not_again (alt_names choices) at.place at.name (none_right (alts_faults entries names choices) (again (alt_names choices) at.place at.name) before)) new)
+          (one_piece at.name (expanded known names t) behind (new_here (alt_names choices) at.name (names_of_pieces behind) new)
           (type_lawful t (none_right (alts_faults entries names choices ++ again (alt_names choices) at.place at.name) (type_faults entries names t) none) shaped.1 (omega (arith, narrow)) (sound_right (alts_mentions choices) (type_mentions t) sound)) rest)

@@ -2,4 +2,5 @@ pub mod Bodies
 pub mod Expanded
 pub mod Items
 pub mod Lists
+pub mod Scopes
 pub mod Types

@@ -1,5 +1,5 @@
 -- Lists that are empty, names among names, and names that are apart.
-use Rattle.std.proofs.Common.{◌≡◌, ℕ, zero, suc, ◌+◌, ◌||◌, Bool, true, false, cond, List, [], ◌∷◌, ◌++◌, refl, sym, ap, ◌∙◌, arith}
+use Rattle.std.proofs.Common.{◌≡◌, ℕ, zero, suc, ◌+◌, ◌||◌, Bool, true, false, cond, List, [], ◌∷◌, ◌++◌, ◌⊎◌, inl, inr, refl, ap, subst as carry}
 use Rattle.std.specs.Cmp.Lexicographic.{bytes_decides}
 use Rattle.std.specs.List.{list_any}
 use Rattle.std.specs.Str.{bytes_eq}
@@ -38,6 +38,34 @@ same_name n = (bytes_decides n n).1 refl
 
 pub is_name : (n m : List ℕ) → bytes_eq n m ≡ true → n ≡ m
 is_name n m e = (bytes_decides n m).0 e
+
+-- none of the names before is one of these
+abbrev pub AreNew : List (List ℕ) → List (List ℕ) → Type 0
+AreNew before names = (n : List ℕ) → is_among before n ≡ true → is_among names n ≡ false
+
+-- the last of the names before, which stands twice nowhere, is put in front of these
+pub one_new : (before : List (List ℕ)) (n : List ℕ) (names : List (List ℕ)) → is_among before n ≡ false → AreNew (n ∷ before) names → AreNew before (n ∷ names)
+one_new before n names once new m among = pick (bytes_eq m n) refl
+  where
+    either : (b c : Bool) → c ≡ true → (b || c) ≡ true
+    either true c e = refl
+    either false c e = e
+
+    pick : (b : Bool) → bytes_eq m n ≡ b → (b || is_among names m) ≡ false
+    pick true e = absurd (let same : is_among before n ≡ true = carry (λ x. is_among before x ≡ true) (is_name m n e) among in cc)
+    pick false e = new m (either (bytes_eq m n) (is_among before m) among)
+
+pub new_here : (before : List (List ℕ)) (n : List ℕ) (names : List (List ℕ)) → AreNew (n ∷ before) names → is_among names n ≡ false
+new_here before n names new = new n (ap (λ b. b || is_among before n) (same_name n))
+
+-- a name among two lists of them is among one
+pub among_cases : (names others : List (List ℕ)) (n : List ℕ) → is_among (names ++ others) n ≡ true → (is_among names n ≡ true) ⊎ (is_among others n ≡ true)
+among_cases [] others n e = inr e
+among_cases (m ∷ names) others n e = pick (bytes_eq n m) e (among_cases names others n)
+  where
+    pick : (b : Bool) → (b || is_among (names ++ others) n) ≡ true → (is_among (names ++ others) n ≡ true → (is_among names n ≡ true) ⊎ (is_among others n ≡ true)) → ((b || is_among names n) ≡ true) ⊎ (is_among others n ≡ true)
+    pick true h rest = inl refl
+    pick false h rest = rest h
 
 -- names among two lists of them
 pub among_left : (names others : List (List ℕ)) (n : List ℕ) → is_among names n ≡ true → is_among (names ++ others) n ≡ true
