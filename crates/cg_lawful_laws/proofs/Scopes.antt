@@ -50,6 +50,12 @@ with_entry v a b first = record { long = (let k = first.long in omega arith); ke
 pub named_entry : (m : List ℕ) (outer : Scope) → Extends (None ∷ outer) (Some m ∷ outer)
 named_entry m outer = record { long = omega arith; kept = λ n h. either_true (bytes_eq n m) (stands_in outer n) h }
 
+-- with a name for its last remainder a scope is as long as before
+pub remainder_length : (m : List ℕ) (scope : Scope) → length (named_remainder m scope) ≡ length scope
+remainder_length m [] = refl
+remainder_length m (v ∷ []) = refl
+remainder_length m (v ∷ r ∷ outer) = refl
+
 -- a scope in which the last remainder has no name yet
 pub record HasRemainder (scope : Scope) : Type 0 where
   pub inner : Option (List ℕ)
