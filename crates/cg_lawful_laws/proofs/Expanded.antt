@@ -43,12 +43,12 @@ arity_same p given (Some wanted) h = ap Some (sym (counted_same p wanted given h
 
 -- ---- names that are declared beforehand
 
-abbrev AllLines : {A : Type 0} → (A → Type 0) → List (List ℕ × A) → Type 0
+abbrev pub AllLines : {A : Type 0} → (A → Type 0) → List (List ℕ × A) → Type 0
 AllLines P [] = Unit {0}
 AllLines P (line ∷ lines) = P line.1 × AllLines P lines
 
 -- what holds of all lines of a table holds of what is looked up in it
-looked_up_all : {A : Type 0} (P : A → Type 0) (lines : List (List ℕ × A)) (n : List ℕ) (x : A) → AllLines P lines → looked_up lines n ≡ Some x → P x
+pub looked_up_all : {A : Type 0} (P : A → Type 0) (lines : List (List ℕ × A)) (n : List ℕ) (x : A) → AllLines P lines → looked_up lines n ≡ Some x → P x
 looked_up_all P [] n x all is = absurd (cc)
 looked_up_all P (line ∷ lines) n x all is = pick (bytes_eq n line.0) is (looked_up_all P lines n x all.1)
   where
@@ -72,7 +72,7 @@ component_same : (i j : ℕ) → component i ≡ component j → decimal (i + 1)
 component_same i j e = cc
 
 -- components of a tuple have names apart, as far as the limit of parts
-component_apart : (i j : ℕ) → i < j → j ≤ parts_limit → bytes_eq (component i) (component j) ≡ false
+pub component_apart : (i j : ℕ) → i < j → j ≤ parts_limit → bytes_eq (component i) (component j) ≡ false
 component_apart i j lt within = pick (bytes_eq (component i) (component j)) refl
   where
     pick : (b : Bool) → bytes_eq (component i) (component j) ≡ b → b ≡ false
@@ -81,7 +81,7 @@ component_apart i j lt within = pick (bytes_eq (component i) (component j)) refl
 
 -- ---- type variables
 
-unknown_not : (b : Bool) (p : Place) → cond b [] (unknown p ∷ []) ≡ [] → b ≡ true
+pub unknown_not : (b : Bool) (p : Place) → cond b [] (unknown p ∷ []) ≡ [] → b ≡ true
 unknown_not true p h = refl
 unknown_not false p h = absurd (cc)
 

@@ -6,3 +6,4 @@ pub mod Patterns
 pub mod Proper
 pub mod Scopes
 pub mod Types
+pub mod Walk
