@@ -3,6 +3,7 @@ pub mod Expanded
 pub mod Items
 pub mod Lists
 pub mod Patterns
+pub mod Positions
 pub mod Proper
 pub mod Scopes
 pub mod Types
