@@ -1,11 +1,9 @@
 -- What the synonyms of a program are for is lawful over as many type variables as they have parameters, by induction along an order of the
 -- program's items.
-use Rattle.std.proofs.Common.{◌≡◌, ℕ, zero, suc, ◌+◌, ◌<◌, ◌≤◌, ◌||◌, Bool, true, false, cond, List, [], ◌∷◌, ◌++◌, map, length, codes, Option, Some, None, refl, sym, ap, ◌∙◌, subst as carry, arith}
+use Rattle.std.proofs.Common.{◌≡◌, ℕ, zero, suc, ◌≤◌, ◌||◌, Bool, true, false, cond, List, [], ◌++◌, map, length, codes, Option, Some, None, refl, sym, ap, ◌∙◌, subst as carry}
 use Rattle.std.proofs.lemmas.List.{length-map}
-use Rattle.std.specs.List.{All, Contains}
 use Rattle.std.specs.Option.{option_map}
 use Rattle.std.specs.Str.{bytes_eq}
-use Rattle.cg_base.specs.Types.{Tau}
 use Rattle.cg_circles.specs.Circles.{IsOrder}
 use Rattle.cg_core.specs.declared.at.At.{At}
 use Rattle.cg_lawful.specs.Lawful.{IsLawfulType}
@@ -13,15 +11,15 @@ use Rattle.cg_surface.specs.Programs.{Entry, synonym}
 use Rattle.cg_surface.specs.Written.{Written}
 use Rattle.cg_desugar.specs.Declared.{Declared, arity_beside, is_among, looked_up, plain_types, type_arity, type_named}
 use Rattle.cg_desugar.specs.Desugar.{parts_limit}
-use Rattle.cg_desugar.specs.Expand.{bodies, body_among, body_of, expanded, type_in}
+use Rattle.cg_desugar.specs.Expand.{bodies, body_among, body_of, expanded}
 use Rattle.cg_desugar.specs.Faults.{again, beforehand, names_of, program_faults, twins, type_faults}
-use Rattle.cg_desugar.specs.Mentions.{mentions, type_mentions}
-use Rattle.cg_desugar.specs.Takes.{widest, widest_part}
+use Rattle.cg_desugar.specs.Mentions.{mentions}
+use Rattle.cg_desugar.specs.Takes.{widest_part}
 use Rattle.cg_desugar.proofs.Solved.{IsFirstSynonym, IsPlaced, all_placed, bodies_solve, mentions_placed, nothing_yet, synonym_found}
-use Rattle.cg_lawful_laws.specs.Shaped.{IsShaped, IsShapedType}
+use Rattle.cg_lawful_laws.specs.Shaped.{IsShaped}
 use Rattle.cg_lawful_laws.proofs.Expanded.{AreSound, IsSound, type_lawful}
 use Rattle.cg_lawful_laws.proofs.Items.{entry_narrow, entry_shaped, new_type, without}
-use Rattle.cg_lawful_laws.proofs.Lists.{none_right, same_name}
+use Rattle.cg_lawful_laws.proofs.Lists.{none_right}
 
 module _ (entries : List Entry) (shaped : IsShaped entries) (none : program_faults entries ≡ []) (narrow : widest_part entries ≤ parts_limit) where
   -- a type that is declared is no array

@@ -1,31 +1,28 @@
 -- What a written type without a fault is as a type of the kernel is lawful over the type variables in whose names it is written, where the
 -- bodies of the synonyms that it mentions are.
-use Rattle.std.proofs.Common.{◌≡◌, ℕ, zero, suc, ◌+◌, ◌<◌, ◌≤◌, ◌||◌, ◌==◌, Bool, true, false, cond, List, [], ◌∷◌, ◌++◌, map, length, codes, Option, Some, None, refl, sym, ap, ◌∙◌, subst as carry, arith}
+use Rattle.std.proofs.Common.{◌≡◌, ℕ, ◌+◌, ◌<◌, ◌≤◌, ◌||◌, ◌==◌, Bool, true, false, cond, List, [], ◌∷◌, ◌++◌, map, length, codes, Option, Some, None, refl, sym, ap, ◌∙◌, subst as carry, arith}
 use Rattle.std.proofs.lemmas.Bool.Decides.{nat_tests}
 use Rattle.std.proofs.lemmas.Fmt.{decimal_injective}
 use Rattle.std.proofs.lemmas.List.Elements.{All-cons, All-nil, Contains-append_left, Contains-append_right}
 use Rattle.std.specs.Fmt.{decimal}
 use Rattle.std.specs.List.{All, Contains}
-use Rattle.std.specs.Option.{option_map}
 use Rattle.std.specs.Str.{bytes_eq}
-use Rattle.cg_base.specs.declared.kind.Sigil.TheVariants.{W}
 use Rattle.cg_base.specs.declared.place.Place.{Place}
 use Rattle.cg_base.specs.Types.{Tau, var, abs, Piece, to_taus}
 use Rattle.cg_base.specs.Types as kernel
-use Rattle.cg_kinds.specs.Kinds.{subst}
 use Rattle.cg_lawful.specs.Lawful.{AreSome, HasArguments, IsLawfulType}
 use Rattle.cg_surface.specs.Written.{Written, Writtens, WrittenFields, WrittenAlts}
 use Rattle.cg_surface.specs.Written as types
 use Rattle.cg_surface.specs.Programs.{Entry}
-use Rattle.cg_desugar.specs.Declared.{Declared, arity_beside, is_among, is_variable, looked_up, plain_types, type_arity, type_named}
+use Rattle.cg_desugar.specs.Declared.{arity_beside, is_among, is_variable, looked_up, plain_types, type_arity}
 use Rattle.cg_desugar.specs.Desugar.{parts_limit}
 use Rattle.cg_desugar.specs.Expand.{Bodies, applied_as, component, components, expanded, expanded_all, expanded_alts, expanded_fields, in_order, position_of, types_length}
-use Rattle.cg_desugar.specs.Faults.{NameFault, again, alt_names, alts_faults, arguments, counted, field_names, fields_faults, name_faults, type_faults, type_name_faults, types_faults, unknown}
+use Rattle.cg_desugar.specs.Faults.{again, alt_names, alts_faults, arguments, counted, field_names, fields_faults, name_faults, type_faults, type_name_faults, types_faults, unknown}
 use Rattle.cg_desugar.specs.Mentions.{alts_mentions, fields_mentions, type_mentions, types_mentions}
 use Rattle.cg_desugar.specs.Takes.{alts_length, fields_length, widest, widest_alt, widest_field, widest_of}
 use Rattle.cg_lawful_laws.specs.Shaped.{AreShapedAlts, AreShapedFields, AreShapedTypes, IsShapedType}
 use Rattle.cg_lawful_laws.proofs.Lists.{AreNew, is_name, new_here, none_left, none_right, not_again, one_new}
-use Rattle.cg_lawful_laws.proofs.Types.{AreLawfulPieces, ArePieces, bang_lawful, in_order_pieces, in_order_some, list_count, list_lawful, names_of_pieces, parts_of_pieces, subst_lawful, take_all_lawful, take_some_lawful}
+use Rattle.cg_lawful_laws.proofs.Types.{ArePieces, bang_lawful, in_order_pieces, in_order_some, list_count, list_lawful, names_of_pieces, parts_of_pieces, subst_lawful, take_all_lawful, take_some_lawful}
 
 -- ---- numbers of arguments
 

@@ -1,5 +1,5 @@
 -- Items of a program without a fault of names: each is without one, and of a name there is one type and one signature.
-use Rattle.std.proofs.Common.{◌≡◌, ℕ, zero, suc, ◌+◌, ◌<◌, ◌≤◌, ◌||◌, Bool, true, false, cond, List, [], ◌∷◌, ◌++◌, length, get_or, Some, None, refl, sym, ap, ◌∙◌, subst as carry, arith}
+use Rattle.std.proofs.Common.{◌≡◌, ℕ, zero, suc, ◌≤◌, Bool, true, false, cond, List, [], ◌∷◌, ◌++◌, Some, None, refl, sym, ap, ◌∙◌, subst as carry, arith}
 use Rattle.std.proofs.lemmas.List.Elements.{All-get_or}
 use Rattle.std.proofs.lemmas.Option.{get_or_from_slice_get, slice_get_within}
 use Rattle.std.specs.List.{All, slice_get}
@@ -9,14 +9,12 @@ use Rattle.cg_base.specs.declared.kind.Bound.{Bound}
 use Rattle.cg_base.specs.declared.place.Place.{Place}
 use Rattle.cg_surface.specs.Programs.{Entry, synonym, abstract, signature, define}
 use Rattle.cg_surface.specs.Written.{Written}
-use Rattle.cg_surface.specs.Patterns.{Pattern}
-use Rattle.cg_surface.specs.Exprs.{Expr}
 use Rattle.cg_desugar.specs.Declared.{Declared, Defined, definition_named, is_among, type_named}
 use Rattle.cg_desugar.specs.Desugar.{parts_limit}
 use Rattle.cg_desugar.specs.Faults.{Before, again, ats_of, declared_with, entry_faults, faults_from, names_of, twins, type_faults, var_names}
 use Rattle.cg_desugar.specs.Takes.{widest_entry, widest_part}
 use Rattle.cg_lawful_laws.specs.Shaped.{IsShapedEntry}
-use Rattle.cg_lawful_laws.proofs.Lists.{is_name, none_left, none_right, not_again, or_left, or_right}
+use Rattle.cg_lawful_laws.proofs.Lists.{is_name, none_left, none_right, not_again, or_right}
 
 -- an item without a fault, behind some others
 pub record IsWithout (entries : List Entry) (e : Entry) : Type 0 where

@@ -1,17 +1,17 @@
 -- The kernel of a program of its shape, without a fault of names, whose items stand in an order, is lawful.
-use Rattle.std.proofs.Common.{◌≡◌, ℕ, zero, suc, ◌+◌, ◌<◌, ◌≤◌, List, [], ◌∷◌, ◌++◌, map, length, get_or, Option, Some, None, refl, sym, ap, ◌∙◌, subst as carry, arith}
+use Rattle.std.proofs.Common.{◌≡◌, ℕ, zero, suc, ◌<◌, ◌≤◌, List, [], ◌∷◌, ◌++◌, map, length, get_or, Option, Some, None, refl, sym, ap, ◌∙◌, subst as carry, arith}
 use Rattle.std.proofs.lemmas.List.{length-map}
 use Rattle.std.proofs.lemmas.List.Elements.{All-contains, Contains-append_left, Contains-append_right}
 use Rattle.std.proofs.lemmas.Option.{slice_get-get_or, slice_get-map}
-use Rattle.std.specs.List.{All, Contains, slice_get}
+use Rattle.std.specs.List.{Contains, slice_get}
 use Rattle.std.specs.Option.{option_map}
 use Rattle.cg_circles.specs.Circles.{IsOrder, Mentions, NoCircle, Reaches, mentioned, onward}
 use Rattle.cg_circles.proofs.Laws.{order_has_no_circle}
-use Rattle.cg_core.specs.Kernels.{Body, Function}
+use Rattle.cg_core.specs.Kernels.{Function}
 use Rattle.cg_lawful.specs.Lawful.{IsLawfulBody, IsLawfulFunction, IsLawfulKernel, IsLawfulTerm, IsLawfulType, body_mentions, kernel_mentions, term_mentions}
 use Rattle.cg_surface.specs.Programs.{Entry, define, signature}
 use Rattle.cg_desugar.specs.Declared.{Defined, OfProgram, definition_named, function_named}
-use Rattle.cg_desugar.specs.Desugar.{body_of, function_of, functions_of, parts_limit}
+use Rattle.cg_desugar.specs.Desugar.{body_of, functions_of, parts_limit}
 use Rattle.cg_desugar.specs.Expand.{bodies, type_in}
 use Rattle.cg_desugar.specs.Faults.{again, ats_of, beforehand, bound, expr_faults, pattern_faults, program_faults, twins, type_faults, unsigned, var_names, vars_named}
 use Rattle.cg_desugar.specs.Mentions.{all_of, defined_mentions, entry_mentions, expr_mentions, mentions, signature_from}
@@ -22,10 +22,10 @@ use Rattle.cg_lawful_laws.specs.Shaped.{IsShaped}
 use Rattle.cg_lawful_laws.proofs.Bodies.{all_sound}
 use Rattle.cg_lawful_laws.proofs.Expanded.{type_lawful}
 use Rattle.cg_lawful_laws.proofs.Items.{IsDefinition, IsWithout, definition_found, entry_narrow, entry_shaped, without}
-use Rattle.cg_lawful_laws.proofs.Lists.{none_left, none_right}
+use Rattle.cg_lawful_laws.proofs.Lists.{none_right}
 use Rattle.cg_lawful_laws.proofs.Positions.{IsFound, IsSigned, function_found, function_signed, item_at}
 use Rattle.cg_lawful_laws.proofs.Proper.{IsProper}
-use Rattle.cg_lawful_laws.proofs.Walk.{AreNamed, body_proper}
+use Rattle.cg_lawful_laws.proofs.Walk.{body_proper}
 
 -- what is found by a name is among what is found by some
 among_all : (positions : List ℕ → List ℕ) (ns : List (List ℕ)) (j k : ℕ) (n : List ℕ) → k < length ns → get_or ns k n ≡ n → Contains (positions n) j → Contains (all_of positions ns) j
@@ -127,8 +127,8 @@ module _ (entries : List Entry) where
               targets = all_of (signature_from 0 entries) (defined_mentions (definition_named entries s.at.name));
               at = slice_get-map (entry_mentions entries) entries (item_at entries k) ∙ ap (option_map (entry_mentions entries)) s.stands;
               among =
-              among_all (signature_from 0 entries) (defined_mentions (definition_named entries s.at.name)) (item_at entries j) named.among.0 named.name named.among.1 named.among.2
-              (carry (λ l. Contains l (item_at entries j)) (sym first) (0, omega arith, refl));
+                  among_all (signature_from 0 entries) (defined_mentions (definition_named entries s.at.name)) (item_at entries j) named.among.0 named.name named.among.1 named.among.2
+                  (carry (λ l. Contains l (item_at entries j)) (sym first) (0, omega arith, refl));
             }
 
     reached : (k j : ℕ) → Reaches (kernel_mentions (functions_of entries)) k j → Reaches (mentions entries) (item_at entries k) (item_at entries j)

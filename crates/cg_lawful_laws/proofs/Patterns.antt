@@ -1,11 +1,11 @@
 -- Terms that are bound to patterns: what is bound goes on with one scope, in which all names of the pattern stand; and where the rest is proper
 -- in that scope, the whole is proper.
-use Rattle.std.proofs.Common.{◌≡◌, ℕ, suc, ◌+◌, ◌<◌, ◌≤◌, ◌||◌, Bool, true, false, cond, List, [], ◌∷◌, ◌++◌, map, length, Option, Some, None, ◌⊎◌, inl, inr, refl, sym, ap, ◌∙◌, subst as carry, arith}
+use Rattle.std.proofs.Common.{◌≡◌, ℕ, suc, ◌+◌, ◌<◌, ◌≤◌, ◌||◌, Bool, true, false, List, [], ◌∷◌, ◌++◌, length, Option, Some, None, ◌⊎◌, inl, inr, refl, sym, ap, ◌∙◌, subst as carry, arith}
 use Rattle.std.proofs.lemmas.List.{map-append}
 use Rattle.cg_base.specs.declared.place.Place.{Place}
 use Rattle.cg_base.specs.Types as kernel
 use Rattle.cg_core.specs.declared.at.At.{At}
-use Rattle.cg_core.specs.Terms.{term, var, lets, take_field, annot}
+use Rattle.cg_core.specs.Terms.{term, var, take_field, annot}
 use Rattle.cg_surface.specs.Patterns.{Pattern, Patterns, FieldPatterns}
 use Rattle.cg_surface.specs.Patterns as patterns
 use Rattle.cg_desugar.specs.Declared.{is_among}
@@ -16,7 +16,7 @@ use Rattle.cg_desugar.specs.Terms.{Later, Rest, Scope, Term, behind, bind, bound
 use Rattle.cg_lawful_laws.specs.Shaped.{AreShapedPatterned, AreShapedPatterns, IsShapedPattern, patterned_length}
 use Rattle.cg_lawful_laws.proofs.Lists.{among_cases, among_left, among_right}
 use Rattle.cg_lawful_laws.proofs.Proper.{IsProper, proper_annot, proper_lets, proper_take, proper_var}
-use Rattle.cg_lawful_laws.proofs.Scopes.{Covers, Extends, HasRemainder, covers_both, covers_first, covers_later, covers_none, further, itself, named_entry, remainder_extends, remainder_length, remainder_stands, stands_in, with_entry}
+use Rattle.cg_lawful_laws.proofs.Scopes.{Covers, Extends, HasRemainder, covers_both, covers_first, covers_later, covers_none, further, itself, remainder_extends, remainder_length, remainder_stands, stands_in, with_entry}
 
 -- the names that are bound later: those of a pattern that isn't a name
 abbrev pub deferred : Option (List ℕ) → List (List ℕ) → List (List ℕ)
@@ -117,8 +117,8 @@ module _ (arities : List ℕ) (vars : ℕ) (P : ℕ → Type 0) where
     covers = λ n among. pick n (among_cases (names_of ats) (bound x) n (ap (λ l. is_among l n) (sym (map-append (λ (at : At). at.name) ats (variables x))) ∙ among));
     remainder = λ le. record { inner = its_name x; outer = t.after; is = refl };
     proper = λ go k. t.proper
-    (λ i e' scope' later. term p (take_field e' (label i) p (inner_place x) (go (step i) (term p (var (length scope'))) (its_name x ∷ None ∷ scope') (behind later x (length scope' + 1)))))
-    (proper_take arities vars P (length t.after) p t.left (label t.number) p (inner_place x) _ t.proper_left k);
+        (λ i e' scope' later. term p (take_field e' (label i) p (inner_place x) (go (step i) (term p (var (length scope'))) (its_name x ∷ None ∷ scope') (behind later x (length scope' + 1)))))
+        (proper_take arities vars P (length t.after) p t.left (label t.number) p (inner_place x) _ t.proper_left k);
   }
     where
       new : (n : List ℕ) (o : Option (List ℕ)) → its_name x ≡ o → is_among (bound x) n ≡ true → (stands_in (o ∷ None ∷ t.after) n ≡ true) ⊎ (is_among (deferred o (bound x) ++ t.names_later) n ≡ true)
@@ -160,7 +160,7 @@ module _ (arities : List ℕ) (vars : ℕ) (P : ℕ → Type 0) where
         extends = further scope t.after b.after t.extends (further t.after (named_remainder m t.after) b.after r b.extends);
         covers = record { at = λ n among. stands b n (among_cases (m ∷ []) names n among) };
         proper = λ rest h. t.proper (λ i e' scope' later. later (named_remainder m scope') rest)
-        (carry (λ k. IsProper arities vars P k (t.later (named_remainder m t.after) rest)) (remainder_length m t.after) (b.proper rest h));
+            (carry (λ k. IsProper arities vars P k (t.later (named_remainder m t.after) rest)) (remainder_length m t.after) (b.proper rest h));
       }
     where
       one : (b : Bool) → (b || false) ≡ true → b ≡ true
@@ -195,7 +195,7 @@ module _ (arities : List ℕ) (vars : ℕ) (P : ℕ → Type 0) where
       extends = with_entry None scope scope (itself scope);
       covers = covers_none (None ∷ scope);
       proper = λ rest k. proper_lets arities vars P (length scope) q p (term p (annot e (record { place = p; ty = kernel.unit }))) (rest (None ∷ scope))
-      (proper_annot arities vars P (length scope) p e (record { place = p; ty = kernel.unit }) h tt) k;
+          (proper_annot arities vars P (length scope) p e (record { place = p; ty = kernel.unit }) h tt) k;
     }
     binds_to q (patterns.paren p x) e scope shaped h = binds_to q x e scope shaped h
     binds_to q (patterns.tuple p xs) e scope shaped h = binds_taken _ (patterns_length xs) scope (λ go. components_taken p xs e scope go) (components_bound p xs e scope shaped.1 h)

@@ -1,5 +1,5 @@
 -- Positions: of a function among the signatures, and of its signature among the items.
-use Rattle.std.proofs.Common.{◌≡◌, ℕ, zero, suc, ◌+◌, ◌<◌, ◌≤◌, ◌||◌, Bool, true, false, cond, List, [], ◌∷◌, ◌++◌, map, length, Option, Some, None, refl, sym, ap, ◌∙◌, subst as carry, arith}
+use Rattle.std.proofs.Common.{◌≡◌, ℕ, zero, suc, ◌+◌, Bool, true, false, cond, List, [], ◌∷◌, Some, refl, sym, ap, ◌∙◌, arith}
 use Rattle.std.specs.List.{filter_map, slice_get}
 use Rattle.std.specs.Str.{bytes_eq}
 use Rattle.cg_base.specs.declared.kind.Bound.{Bound}
@@ -122,9 +122,9 @@ module _ (entries : List Entry) where
         stands = r.stands;
         is = r.is;
         found =
-        ap (λ t. cond t (Some (record { position = b; vars = vars })) (function_from (b + 1) es r.at.name))
-        (or_left (bytes_eq r.at.name at.name) (is_among before.signatures r.at.name) (not_before es (declared_with before (signature at vars places ty)) (item_at es k) r.at r.vars r.places r.ty rest r.stands))
-        ∙ r.found ∙ ap (λ i. Some (record { position = i; vars = r.vars })) (omega arith);
+            ap (λ t. cond t (Some (record { position = b; vars = vars })) (function_from (b + 1) es r.at.name))
+            (or_left (bytes_eq r.at.name at.name) (is_among before.signatures r.at.name) (not_before es (declared_with before (signature at vars places ty)) (item_at es k) r.at r.vars r.places r.ty rest r.stands))
+            ∙ r.found ∙ ap (λ i. Some (record { position = i; vars = r.vars })) (omega arith);
       }
   function_signed (synonym at params body ∷ es) before b k g none made =
       let r = function_signed es (declared_with before (synonym at params body)) b k g (behind entries before (synonym at params body) es none) made in

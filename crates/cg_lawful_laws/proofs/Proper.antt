@@ -1,14 +1,13 @@
 -- Proper terms: they are lawful, and mention only functions of which something holds. A term of each form is proper where its parts are.
-use Rattle.std.proofs.Common.{◌≡◌, ℕ, suc, ◌+◌, ◌<◌, List, [], ◌∷◌, ◌++◌, map, length, Option, refl, arith}
+use Rattle.std.proofs.Common.{◌≡◌, ℕ, suc, ◌<◌, List, [], ◌++◌, length}
 use Rattle.std.proofs.lemmas.List.Elements.{All-append, All-nil}
 use Rattle.std.specs.List.{All}
 use Rattle.cg_base.specs.declared.fun.Fun.{Fun}
 use Rattle.cg_base.specs.declared.place.Place.{Place}
 use Rattle.cg_core.specs.declared.at.At.{At}
 use Rattle.cg_core.specs.declared.op.Op.{Op}
-use Rattle.cg_core.specs.declared.op.Op.TheVariants.{Complement, Not}
 use Rattle.cg_core.specs.declared.term.Seen.{Seen}
-use Rattle.cg_core.specs.Terms.{Tree, term, var, unit, bool, lit, fun, op, app, lets, let_bang, if_else, con, case_of, esac, struct, member, take_field, put, cast, annot, Trees, none, more, Named, end, field, Arg}
+use Rattle.cg_core.specs.Terms.{Tree, term, var, unit, fun, op, app, lets, let_bang, if_else, con, case_of, esac, struct, member, take_field, put, cast, annot, none, more, Named, Arg}
 use Rattle.cg_lawful.specs.Lawful.{AreApart, AreLawfulFields, AreSome, IsLawfulArg, IsLawfulTerm, IsLawfulType, Takes, field_names, fields_mentions, operands, term_mentions, user_of}
 
 module _ (arities : List ℕ) (vars : ℕ) (P : ℕ → Type 0) where

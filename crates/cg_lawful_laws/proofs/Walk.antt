@@ -1,8 +1,8 @@
 -- What an expression without a fault is as a term of the kernel is proper in each scope that covers the names that are bound round it.
-use Rattle.std.proofs.Common.{◌≡◌, ℕ, suc, ◌+◌, ◌<◌, ◌≤◌, ◌||◌, Bool, true, false, cond, List, [], ◌∷◌, ◌++◌, map, length, Option, Some, None, refl, sym, ap, ◌∙◌, subst as carry, arith}
+use Rattle.std.proofs.Common.{◌≡◌, ℕ, suc, ◌+◌, ◌<◌, ◌≤◌, ◌||◌, Bool, true, false, cond, List, [], ◌∷◌, ◌++◌, length, Option, Some, None, refl, sym, ap, ◌∙◌, subst as carry, arith}
 use Rattle.std.proofs.lemmas.List.Elements.{All-append, All-cons, All-nil, Contains-append_left, Contains-append_right}
 use Rattle.std.specs.List.{All, Contains, slice_get}
-use Rattle.cg_base.specs.declared.fun.Fun.TheVariants.{User, Lib as OfLib}
+use Rattle.cg_base.specs.declared.fun.Fun.TheVariants.{User}
 use Rattle.cg_base.specs.declared.place.Place.{Place}
 use Rattle.cg_core.specs.declared.at.At.{At}
 use Rattle.cg_core.specs.declared.op.Op.{Op}
@@ -19,12 +19,12 @@ use Rattle.cg_surface.specs.Programs.{Entry}
 use Rattle.cg_desugar.specs.Declared.{OfLibrary, OfProgram, function_named, is_among, library, looked_up}
 use Rattle.cg_desugar.specs.Desugar.{parts_limit}
 use Rattle.cg_desugar.specs.Expand.{Bodies, component, expanded, types_length}
-use Rattle.cg_desugar.specs.Faults.{NameFault, again, all_bound, binds_faults, bound, counted, expr_faults, function_faults, library_faults, list_faults, match_faults, mention_faults, pattern_faults, put_faults, record_faults, seen_faults, type_faults, types_faults, unknown, value_names}
+use Rattle.cg_desugar.specs.Faults.{again, all_bound, binds_faults, bound, counted, expr_faults, function_faults, library_faults, list_faults, match_faults, mention_faults, pattern_faults, put_faults, record_faults, seen_faults, type_faults, types_faults, unknown, value_names}
 use Rattle.cg_desugar.specs.Mentions.{binds_mentions, expr_mentions, list_mentions, match_mentions, values_mentions}
 use Rattle.cg_desugar.specs.Takes.{exprs_length, values_length, widest, widest_alts, widest_binds, widest_expr, widest_list, widest_of, widest_values}
 use Rattle.cg_desugar.specs.Terms.{Rest, Scope, Term, all_written, alternatives, bindings, body_term, cases, components_of, fields_of, first_place, function_of, inner_place, its_name, last_bound, let_bound, list_length, mention, observed, or_empty, or_library, or_zero, payload_bound, positions, puts, seen_bound, term_of, variable, written}
 use Rattle.cg_lawful_laws.specs.Shaped.{AreShapedBinds, AreShapedChoices, AreShapedExprs, AreShapedTypes, AreShapedValues, IsBinary, IsShapedExpr, IsShapedPattern, IsShapedType, IsUnary}
-use Rattle.cg_lawful_laws.proofs.Expanded.{AllLines, AreSound, all_lawful, component_apart, counted_same, looked_up_all, type_lawful, unknown_not}
+use Rattle.cg_lawful_laws.proofs.Expanded.{AreSound, component_apart, counted_same, looked_up_all, type_lawful, unknown_not}
 use Rattle.cg_lawful_laws.proofs.Lists.{AreNew, new_here, none_left, none_right, not_again, one_new}
 use Rattle.cg_lawful_laws.proofs.Patterns.{Binds as Binding, binds_at, binds_both, binds_nothing, binds_to, name_bound}
 use Rattle.cg_lawful_laws.proofs.Proper.{AreProper, IsProper, proper_annot, proper_app, proper_case, proper_cast, proper_con, proper_esac, proper_fun, proper_if, proper_let_bang, proper_member, proper_op_one, proper_op_two, proper_put, proper_struct, proper_unit, proper_var}
@@ -377,8 +377,8 @@ module _ (entries : List Entry) (known : Bodies) (names : List (List ℕ)) (arit
           extends = with_entry None scope g.after g.extends;
           proper_subject = proper_var arities (length names) P (suc (length g.after)) (length g.after) p (omega arith);
           proper = λ go k. g.proper
-          (λ subject' scope'. term p (case_of subject' (record { place = p; name = or_empty head }) (inner_place x) (payload_bound (its_name x) x scope' (λ scope''. term_of entries known names scope'' b)) (go (term p (var (length scope'))) (None ∷ scope'))))
-          (proper_case arities (length names) P (length g.after) p (record { place = p; name = or_empty head }) (inner_place x) g.subject _ _ g.proper_subject one k);
+              (λ subject' scope'. term p (case_of subject' (record { place = p; name = or_empty head }) (inner_place x) (payload_bound (its_name x) x scope' (λ scope''. term_of entries known names scope'' b)) (go (term p (var (length scope'))) (None ∷ scope'))))
+              (proper_case arities (length names) P (length g.after) p (record { place = p; name = or_empty head }) (inner_place x) g.subject _ _ g.proper_subject one k);
         }
 
   -- the body of a definition, in the context of its argument alone

@@ -1,7 +1,7 @@
 -- Programs of a shape that the grammar gives (docs/LANGUAGE.md, "Grammar"): each list that has an item at least has one, each tuple has two,
 -- a signature has a place for each type variable, an operator has its number of operands, and only the last alternative of a match may be
 -- without a constructor.
-use Rattle.std.specs.Prelude.{◌≡◌, ℕ, ◌+◌, ◌≤◌, List, length, Option, Some, None, ⊤}
+use Rattle.std.specs.Prelude.{◌≡◌, ℕ, ◌+◌, ◌≤◌, List, length, Some, None}
 use Rattle.std.specs.List.{All}
 use Rattle.cg_core.specs.declared.op.Op.{Op}
 use Rattle.cg_core.specs.declared.op.Op.TheVariants.{Complement, Not}
