@@ -2,6 +2,7 @@ pub mod Bodies
 pub mod Expanded
 pub mod Items
 pub mod Kernel
+pub mod Limit
 pub mod Lists
 pub mod Patterns
 pub mod Positions

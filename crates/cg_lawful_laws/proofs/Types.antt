@@ -146,7 +146,7 @@ pub record ArePieces (vars : ℕ) (ps : List Piece) : Type 0 where
   pub apart : AreApart (names_of_pieces ps)
   pub lawful : AreLawfulPieces vars ps
 
-piece_names : (ps : List Piece) → part_names (to_parts ps) ≡ names_of_pieces ps
+pub piece_names : (ps : List Piece) → part_names (to_parts ps) ≡ names_of_pieces ps
 unfolding to_parts
 piece_names [] = refl
 piece_names (p ∷ ps) = ap (λ l. p.name ∷ l) (piece_names ps)
