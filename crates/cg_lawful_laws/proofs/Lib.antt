@@ -1,0 +1,12 @@
+pub mod Bodies
+pub mod Expanded
+pub mod Items
+pub mod Kernel
+pub mod Limit
+pub mod Lists
+pub mod Patterns
+pub mod Positions
+pub mod Proper
+pub mod Scopes
+pub mod Types
+pub mod Walk

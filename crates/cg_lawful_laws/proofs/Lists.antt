@@ -1,0 +1,84 @@
+-- Lists that are empty, names among names, and names that are apart.
+use Rattle.std.proofs.Common.{◌≡◌, ℕ, ◌||◌, Bool, true, false, cond, List, [], ◌∷◌, ◌++◌, ◌⊎◌, inl, inr, refl, ap, subst as carry}
+use Rattle.std.specs.Cmp.Lexicographic.{bytes_decides}
+use Rattle.std.specs.Str.{bytes_eq}
+use Rattle.cg_base.specs.declared.place.Place.{Place}
+use Rattle.cg_desugar.specs.Declared.{is_among}
+use Rattle.cg_desugar.specs.Faults.{again, twice}
+
+-- two lists that are nothing together
+pub none_left : {A : Type 0} (xs ys : List A) → xs ++ ys ≡ [] → xs ≡ []
+none_left [] ys e = refl
+none_left (x ∷ xs) ys e = absurd (cc)
+
+pub none_right : {A : Type 0} (xs ys : List A) → xs ++ ys ≡ [] → ys ≡ []
+none_right [] ys e = e
+none_right (x ∷ xs) ys e = absurd (cc)
+
+-- a name that isn't twice is among none before it
+pub not_again : (before : List (List ℕ)) (p : Place) (n : List ℕ) → again before p n ≡ [] → is_among before n ≡ false
+not_again before p n none = pick (is_among before n) none
+  where
+    pick : (b : Bool) → cond b (twice p ∷ []) [] ≡ [] → b ≡ false
+    pick true e = absurd (cc)
+    pick false e = refl
+
+pub or_left : (b c : Bool) → (b || c) ≡ false → b ≡ false
+or_left true c e = absurd (cc)
+or_left false c e = refl
+
+pub or_right : (b c : Bool) → (b || c) ≡ false → c ≡ false
+or_right true c e = absurd (cc)
+or_right false c e = e
+
+-- names that have the same bytes are the same
+pub same_name : (n : List ℕ) → bytes_eq n n ≡ true
+same_name n = (bytes_decides n n).1 refl
+
+pub is_name : (n m : List ℕ) → bytes_eq n m ≡ true → n ≡ m
+is_name n m e = (bytes_decides n m).0 e
+
+-- none of the names before is one of these
+abbrev pub AreNew : List (List ℕ) → List (List ℕ) → Type 0
+AreNew before names = (n : List ℕ) → is_among before n ≡ true → is_among names n ≡ false
+
+-- the last of the names before, which stands twice nowhere, is put in front of these
+pub one_new : (before : List (List ℕ)) (n : List ℕ) (names : List (List ℕ)) → is_among before n ≡ false → AreNew (n ∷ before) names → AreNew before (n ∷ names)
+one_new before n names once new m among = pick (bytes_eq m n) refl
+  where
+    either : (b c : Bool) → c ≡ true → (b || c) ≡ true
+    either true c e = refl
+    either false c e = e
+
+    pick : (b : Bool) → bytes_eq m n ≡ b → (b || is_among names m) ≡ false
+    pick true e = absurd (let same : is_among before n ≡ true = carry (λ x. is_among before x ≡ true) (is_name m n e) among in cc)
+    pick false e = new m (either (bytes_eq m n) (is_among before m) among)
+
+pub new_here : (before : List (List ℕ)) (n : List ℕ) (names : List (List ℕ)) → AreNew (n ∷ before) names → is_among names n ≡ false
+new_here before n names new = new n (ap (λ b. b || is_among before n) (same_name n))
+
+-- a name among two lists of them is among one
+pub among_cases : (names others : List (List ℕ)) (n : List ℕ) → is_among (names ++ others) n ≡ true → (is_among names n ≡ true) ⊎ (is_among others n ≡ true)
+among_cases [] others n e = inr e
+among_cases (m ∷ names) others n e = pick (bytes_eq n m) e (among_cases names others n)
+  where
+    pick : (b : Bool) → (b || is_among (names ++ others) n) ≡ true → (is_among (names ++ others) n ≡ true → (is_among names n ≡ true) ⊎ (is_among others n ≡ true)) → ((b || is_among names n) ≡ true) ⊎ (is_among others n ≡ true)
+    pick true h rest = inl refl
+    pick false h rest = rest h
+
+-- names among two lists of them
+pub among_left : (names others : List (List ℕ)) (n : List ℕ) → is_among names n ≡ true → is_among (names ++ others) n ≡ true
+among_left [] others n e = absurd (cc)
+among_left (m ∷ names) others n e = pick (bytes_eq n m) e (among_left names others n)
+  where
+    pick : (b : Bool) → (b || is_among names n) ≡ true → (is_among names n ≡ true → is_among (names ++ others) n ≡ true) → (b || is_among (names ++ others) n) ≡ true
+    pick true h rest = refl
+    pick false h rest = rest h
+
+pub among_right : (names others : List (List ℕ)) (n : List ℕ) → is_among others n ≡ true → is_among (names ++ others) n ≡ true
+among_right [] others n e = e
+among_right (m ∷ names) others n e = pick (bytes_eq n m) (among_right names others n e)
+  where
+    pick : (b : Bool) → is_among (names ++ others) n ≡ true → (b || is_among (names ++ others) n) ≡ true
+    pick true h = refl
+    pick false h = h
