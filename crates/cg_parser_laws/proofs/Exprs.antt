@@ -40,8 +40,8 @@ named_heads exprs.no_alts n = tt
 named_heads (exprs.and_alt choices p None x e) n = absurd n
 named_heads (exprs.and_alt choices p (Some c) x e) n = named_heads choices n
 
-module _ (OfType : List Seen → Written → Type 0) (OfPattern : List Seen → Pattern → Type 0) (of_type : (ts : List Seen) (t : Written) → OfType ts t → IsShapedType t)
-    (of_pattern : (ts : List Seen) (x : Pattern) → OfPattern ts x → IsShapedPattern x) where
+module _ (OfType : List Seen → Written → Type 0) (OfPattern : List Seen → Pattern → Type 0)
+    (of_type : (ts : List Seen) (t : Written) → OfType ts t → IsShapedType t) (of_pattern : (ts : List Seen) (x : Pattern) → OfPattern ts x → IsShapedPattern x) where
   abbrev Reads : Expr → List ℕ → List ℕ → Reading
   Reads = grammar.ReadsExpr OfType OfPattern
 
@@ -80,7 +80,8 @@ module _ (OfType : List Seen → Written → Type 0) (OfPattern : List Seen → 
   last_shaped exprs.no_alts c os to ts rest o r = tt
   last_shaped (exprs.and_alt choices p (Some n) x b) c os to ts rest o r = named_heads choices o
   last_shaped (exprs.and_alt exprs.no_alts p None x b) c os to ts rest o r = (tt, head_bare p x r.4.0 r.4.2.0 r.4.2.1)
-  last_shaped (exprs.and_alt (exprs.and_alt choices p' head' x' b') p None x b) c os to ts rest o r = (named_heads (exprs.and_alt choices p' head' x' b') o, head_bare p x r.6.2.0 r.6.2.2.0 r.6.2.2.1)
+  last_shaped (exprs.and_alt (exprs.and_alt choices p' head' x' b') p None x b) c os to ts rest o r =
+      (named_heads (exprs.and_alt choices p' head' x' b') o, head_bare p x r.6.2.0 r.6.2.2.0 r.6.2.2.1)
 
   -- a field's value is a variable, where none is written, and else is as it is read
   field_shaped : (at : At) (e : Expr) (ts rest : List Seen) → ((os to : List ℕ) (from behind : List Seen) → Reads e os to from behind → IsShapedExpr e)
@@ -144,7 +145,8 @@ module _ (OfType : List Seen → Written → Type 0) (OfPattern : List Seen → 
     binds_shaped (exprs.and_bind bs x e seen) k ts rest r =
         (binds_before bs k.0 ts r.0 r.1, of_pattern r.2.1.front x r.2.1.spelled, expr_shaped e k.2 [] r.2.2.2.1.0 r.2.2.0 r.2.2.2.0 r.2.2.2.1.1)
 
-    alts_shaped : (choices : Alts) → AltsBind choices → (c : ℕ) (os to : List ℕ) (ts rest : List Seen) → grammar.ReadsAlts OfType OfPattern choices c os to ts rest → AreShapedChoices choices
+    alts_shaped : (choices : Alts) → AltsBind choices → (c : ℕ) (os to : List ℕ) (ts rest : List Seen)
+        → grammar.ReadsAlts OfType OfPattern choices c os to ts rest → AreShapedChoices choices
     alts_shaped exprs.no_alts k c os to ts rest r = tt
     alts_shaped (exprs.and_alt exprs.no_alts p head x b) k c os to ts rest r =
         let on = r.4.2 in

@@ -58,4 +58,5 @@ module _ (OfType : List Seen → Written → Type 0) (OfPattern : List Seen → 
 
 pub spelled_shaped : SpelledIsShaped
 spelled_shaped bytes p s =
-    program_shaped SpellsType SpellsPattern SpellsExpr spelled_type_shaped spelled_pattern_shaped (spelled_expr_shaped SpellsType SpellsPattern spelled_type_shaped spelled_pattern_shaped) p (map seen s.0) [] s.2
+    let of_expr : (ts : List Seen) (e : Expr) → SpellsExpr ts e → IsShapedExpr e = spelled_expr_shaped SpellsType SpellsPattern spelled_type_shaped spelled_pattern_shaped in
+    program_shaped SpellsType SpellsPattern SpellsExpr spelled_type_shaped spelled_pattern_shaped of_expr p (map seen s.0) [] s.2
