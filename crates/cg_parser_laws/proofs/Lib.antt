@@ -1,0 +1,4 @@
+pub mod Exprs
+pub mod Items
+pub mod Patterns
+pub mod Types
