@@ -1,7 +1,7 @@
 // Names that are in scope.
 #![tactic(auto, using(std::proofs::lemmas::Grind::common_steps, crate::proofs::ScopeSteps::scope_steps))]
 
-ghost use Rattle.std.specs.Prelude.{◌≡◌, ◌-◌, ◌++◌, ◌∷◌, [], ℕ, List, length, take, not, IfOk, OnOk, if◌then◌else◌};
+ghost use Rattle.std.specs.Prelude.{◌≡◌, ◌-◌, ◌++◌, ◌∷◌, [], ℕ, List, length, take, not, IfOk, OnOk, OnErr, if◌then◌else◌};
 ghost use Rattle.cg_desugar.specs.Declared.{is_among};
 ghost use Rattle.cg_declared.specs.Tables.{texts};
 ghost use Rattle.cg_names.specs.Scopes.{IsScope, SameNames};
@@ -52,10 +52,11 @@ impl<'a> Scope<'a> {
         self.names.contains(name)
     }
 
-    /// Brings a name into scope, and answers whether it is new there. Want of memory is its one refusal.
+    /// Brings a name into scope, and answers whether it is new there. Want of memory is its one refusal, and leaves the scope as it was.
     pub fn enter(&mut self, name: &'a [u8]) -> Result<bool, Memory>
         ensures new { IfOk result (λ new. new ≡ not (is_among self.old name.now)) }
         ensures names { IfOk result (λ new. self.new ≡ self.old ++ (if new then name.now ∷ [] else [])) }
+        ensures err { OnErr result (self.new ≡ self.old) }
     {
         if self.holds(name) {
             return Ok(false);
@@ -70,13 +71,21 @@ impl<'a> Scope<'a> {
         }
     }
 
-    /// Brings names into scope, those that aren't there already. Want of memory is its one refusal.
+    /// Brings names into scope, those that aren't there already. Want of memory is its one refusal, and leaves the scope as it was.
     pub fn enter_all(&mut self, names: &[&'a [u8]]) -> Result<(), Memory>
         ensures names { OnOk result (SameNames self.new (texts names.now ++ self.old)) }
         ensures kept { OnOk result (take (length self.old) self.new ≡ self.old) }
+        ensures err { OnErr result (self.new ≡ self.old) }
     {
+        let before = self.len();
         for name in names {
-            self.enter(*name)?;
+            match self.enter(*name) {
+                Ok(_) => {}
+                Err(memory) => {
+                    self.leave(before);
+                    return Err(memory);
+                }
+            }
         }
         Ok(())
     }

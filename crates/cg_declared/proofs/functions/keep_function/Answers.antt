@@ -5,7 +5,7 @@ use Rattle.cg_declared.proofs.functions.keep_function.Goals as goal
 
 pub returns-in_ok-keep_first-in-Signature : goal.returns-in_ok-keep_first-in-Signature
 returns-in_ok-keep_first-in-Signature c = rw c.in-Signature.is
-    (λ front is are. functions_signature front c.in-Signature.at c.args.position is c.args.table.now are _ _ _ _ c.keep_first.new.table _ (rw c.bytes.ensures at c.in_ok-keep_first-in-Signature.ensures) (ap (λ l. record { position = c.args.position; vars = l }) c.as_slice-vars.ensures)
+    (λ front is are. functions_signature front c.in-Signature.at c.args.position is c.args.table.now are _ _ _ _ c.keep_first.new.table _ (rw c.bytes.ensures at c.in_ok-keep_first-in-Signature.ensures.kept) (ap (λ l. record { position = c.args.position; vars = l }) c.as_slice-vars.ensures)
     (grind (arith, common_steps)))
 
 pub returns-in-Synonym : goal.returns-in-Synonym
