@@ -7,4 +7,6 @@ pub mod Main
 pub mod OnePass
 pub mod PassSteps
 pub mod SameTypes
+pub mod SmallLaws
+pub mod SmallSteps
 pub mod Sound

@@ -1,6 +1,6 @@
 -- The laws of the checker, for small terms: it is complete, the occurrence marks serve wherever any splits do, there is
--- one core, and the pass answers the first event that fails.
-use Rattle.std.specs.Prelude.{◌≡◌, ◌↔◌, Some, List, [], ◌∷◌, length}
+-- one core, the pass answers the first event that fails, and small lawful kernels are what it may be asked about.
+use Rattle.std.specs.Prelude.{◌≡◌, ◌↔◌, true, Some, List, [], ◌∷◌, length}
 use Rattle.cg_base.specs.declared.kind.Kinds.{Kinds}
 use Rattle.cg_base.specs.declared.place.Place.{Place}
 use Rattle.cg_base.specs.Types.{Tau}
@@ -13,6 +13,8 @@ use Rattle.cg_faults.specs.Faults.{AllHold, body_events, kernel_events, first_fa
 use Rattle.cg_derive.specs.NormalForm.{tree}
 use Rattle.cg_check.specs.Pass.{check_kernel, verdict}
 use Rattle.cg_core.specs.Small.{IsSmall, IsSmallKernel}
+use Rattle.cg_lawful.specs.Lawful.{IsLawfulKernel}
+use Rattle.cg_check.specs.Small.{is_small_kernel}
 
 -- a body that is derived in the context of its argument alone, checked against its result
 abbrev pub IsDerived : List Function → List Kinds → Tau → Tau → Derivation → Tree Note → Type 0
@@ -45,3 +47,7 @@ OneCore =
 -- the pass answers the first event that fails
 abbrev pub PassAnswersTheFirstFault : Type 0
 PassAnswersTheFirstFault = (functions : List Function) → IsSmallKernel functions → check_kernel functions ≡ verdict (first_failing (kernel_events functions))
+
+-- a lawful kernel that is small by its forms has its positions in range
+abbrev pub SmallIsRanged : Type 0
+SmallIsRanged = (functions : List Function) → IsLawfulKernel functions → is_small_kernel functions ≡ true → IsSmallKernel functions

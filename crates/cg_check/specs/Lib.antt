@@ -1,4 +1,5 @@
 pub mod Laws
 pub mod Pass
+pub mod Small
 pub mod Uses
 pub mod View
