@@ -17,12 +17,13 @@ TOP = os.path.dirname(os.path.dirname(os.path.abspath(__file__)))
 PROGRAM = os.path.abspath(sys.argv[1] if len(sys.argv) > 1 else f"{TOP}/crates/cg_cli/out/cg_cli")
 
 
-def source(functions):
-    """Functions of which each calls the one before it, adds, and binds a name."""
+def source(functions, sums=0):
+    """Functions of which each calls the one before it, adds, and binds a name, with so many sums more."""
     lines = []
+    more = " + x + 4294967295" * sums
     for i in range(functions):
         called = f"f{i - 1} x" if i else "x"
-        lines.append(f"f{i} : U32 -> U32\nf{i} x = let y = {called} in y + {i} + x\n")
+        lines.append(f"f{i} : U32 -> U32\nf{i} x = let y = {called} in y + {i} + x{more}\n")
     return "".join(lines)
 
 
@@ -64,14 +65,15 @@ def main():
     resource.setrlimit(resource.RLIMIT_CORE, (0, 0))
     os.sched_setaffinity(0, {max(os.sched_getaffinity(0))})
     before = None
-    for functions in (500, 1000, 2000, 4000, 8000, 16000):
+    for functions in (500, 1000, 2000, 4000):
         before = report(f"{functions} functions", source(functions), before)
-    whole = source(30000)[: 1 << 20]
-    report("1 MiB", whole[: whole.rindex("\nf") + 1], None)
     before = None
-    for lets in (1, 225, 450, 900):
+    for functions in (512, 1024, 2048, 4096):
+        before = report(f"{functions} long functions", source(functions, 11), before)
+    before = None
+    for lets in (1, 120, 240, 480):
         before = report(f"{lets} lets, 30000 terms", nested(lets, 30000), before)
-    report("900 lets, 60000 terms", nested(900, 60000), before)
+    report("480 lets, 60000 terms", nested(480, 60000), before)
 
 
 if __name__ == "__main__":

@@ -85,10 +85,10 @@ def main():
         before = report(f"doubled {depth} times", doubled(depth), before)
     report("doubled 21 times", doubled(21), None, "--steps", "20000000")
     before = None
-    for count in (125, 250, 500, 1000):
+    for count in (60, 120, 240, 480):
         before = report(f"{count} lets", lets(count, 1), before)
     for sums in (2, 4, 8, 16):
-        before = report(f"1000 lets of {sums} sums", lets(1000, sums), before)
+        before = report(f"480 lets of {sums} sums", lets(480, sums), before)
 
 
 main()

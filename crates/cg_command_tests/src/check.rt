@@ -46,6 +46,24 @@ fn expect(
     Ok(())
 }
 
+/// Calls `check` on a source, and compares its status and what it prints.
+pub(crate) fn checks(
+    rt: &impl Abort,
+    alloc: Global,
+    source: &str,
+    code: u8,
+    printed: &str,
+) -> Result<(), Fail> {
+    expect(
+        rt,
+        alloc,
+        &["check", "a.cg"],
+        source.as_bytes(),
+        code,
+        printed,
+    )
+}
+
 /// Calls `check` on sources, and compares the status of each, and what is printed where it isn't accepted.
 fn judged(rt: &impl Abort, alloc: Global, sources: &[(&str, u8)]) -> Result<(), Fail> {
     let words = words_of(alloc, &["check", "a.cg"])?;
@@ -108,7 +126,7 @@ const ITEMS: [(&str, u8, &str); 20] = [
         1,
         "a.cg:2:3: S3 unexpected token\n",
     ),
-    ("f : U32 -> U32\nf _ = 1\n", 1, NOT_BUILT),
+    ("f : U32 -> U32\nf _ = 1\n", 0, "ok: 1 functions\n"),
     ("f : U32 -> U32\nf _x' = _x'\n", 0, "ok: 1 functions\n"),
     ("-- f\n", 0, "ok: 0 functions\n"),
     (
@@ -189,41 +207,8 @@ fn faults_of_reading_are_told_with_their_places(rt: HostRuntime) -> Result<(), F
     Ok(())
 }
 
-/// Sources, and the status that their names call for.
-const NAMES: [(&str, u8); 13] = [
-    ("f : U32 -> U32\nf x = y\n", 1),
-    ("f : U32 -> U32\nf f = f\n", 0),
-    ("f x = x\n", 1),
-    ("f : U32 -> U32\nf : U32 -> U32\n", 1),
-    ("f : U32 -> U32\nf x = x\nf y = y\n", 1),
-    ("new : U32 -> U32\n", 1),
-    ("seq32_broken : U32 -> U32\n", 0),
-    ("f : U32 -> U32\nf x = new x\n", 1),
-    ("f : U32 -> U32\nf x = let y = y in x\n", 1),
-    ("f : U32 -> U32\nf x = f x\n", 1),
-    ("f : U32 -> U32\nf x = g x\ng : U32 -> U32\ng x = x\n", 0),
-    (
-        "f : U32 -> U32\nf x = g x\ng : U32 -> U32\ng x = h x\nh : U32 -> U32\nh x = f x\n",
-        1,
-    ),
-    (
-        "f : U32 -> U32\nf x = let g = x in g\ng : U32 -> U32\ng x = f x\n",
-        0,
-    ),
-];
-
-#[test]
-fn names_are_judged(rt: HostRuntime) -> Result<(), Fail> {
-    judged(&rt, rt.alloc(), NAMES.as_slice())
-}
-
 /// Sources, and the status that their types call for.
-const TYPES: [(&str, u8); 31] = [
-    ("f : U32 -> U32\nf x = let y = x + 1 in y + x\n", 0),
-    ("f : SysState -> SysState\nf s = let t = s in t\n", 0),
-    ("f : SysState -> ()\nf s = ()\n", 1),
-    ("f : SysState -> SysState\nf s = let t = s in s\n", 1),
-    ("f : U32 -> U32\nf x = let y = 1 in x\n", 1),
+const TYPES: [(&str, u8); 26] = [
     ("f : U32\n", 1),
     ("f : U32 -> U32\nf x = 4294967295\n", 0),
     ("f : U32 -> U32\nf x = 4294967296\n", 1),
@@ -276,7 +261,7 @@ fn types_are_judged(rt: HostRuntime) -> Result<(), Fail> {
 }
 
 #[test]
-fn depth_is_limited(rt: HostRuntime) -> Result<(), Fail> {
+fn nesting_is_limited(rt: HostRuntime) -> Result<(), Fail> {
     let alloc = rt.alloc();
     let (one, deep) = ("ok: 1 functions\n", "limit: nesting\n");
     let words = ["check", "a.cg"].as_slice();
@@ -293,19 +278,6 @@ fn depth_is_limited(rt: HostRuntime) -> Result<(), Fail> {
         expect(&rt, alloc, words, source.as_bytes(), code, printed)?;
     }
     Ok(())
-}
-
-#[test]
-fn long_terms_are_accepted(rt: HostRuntime) -> Result<(), Fail> {
-    let alloc = rt.alloc();
-    let one = "ok: 1 functions\n";
-    let words = ["check", "a.cg"].as_slice();
-    let sums = copies(alloc, " + x", 1_000)?;
-    let source = format!(in alloc; "f : U32 -> U32\nf x = x{sums}\n")?;
-    expect(&rt, alloc, words, source.as_bytes(), 0, one)?;
-    let lets = copies(alloc, "let x = x in ", 1_000)?;
-    let source = format!(in alloc; "f : SysState -> SysState\nf x = {lets}x\n")?;
-    expect(&rt, alloc, words, source.as_bytes(), 0, one)
 }
 
 /// Words, with the status and what is printed; only `a.cg` is there.

@@ -9,7 +9,7 @@ use std::process::Abort;
 use std::test::Fail;
 
 /// Sources and heap files at which several steps would refuse, the reads that fail, and what the first of these steps says.
-const ORDER: [(&str, &str, &[u64], u8, &str); 13] = [
+const ORDER: [(&str, &str, &[u64], u8, &str); 14] = [
     (NEXT, "arg = 41", &[1, 2], 3, "a.cg: cannot be read\n"),
     // Not spelled, before names and types.
     (
@@ -19,9 +19,17 @@ const ORDER: [(&str, &str, &[u64], u8, &str); 13] = [
         1,
         "a.cg:3:1: S3 unexpected token\n",
     ),
-    // Not small, before names and types.
-    ("g : U8 -> U32\ng x = y\n", "x", &[2], 1, NOT_BUILT),
-    // Names and types, before a source that isn't plain.
+    // Names, before a source that isn't small.
+    (
+        "g : U8 -> U32\ng x = y\n",
+        "x",
+        &[2],
+        1,
+        "a.cg:2:7: N1 unknown name\n",
+    ),
+    // Not small, before types.
+    ("g : U8 -> ()\ng x = x + 1\n", "x", &[2], 1, NOT_BUILT),
+    // Types, before a source that isn't plain.
     (
         "f : SysState -> ()\nf s = ()\n",
         "x",
@@ -30,7 +38,7 @@ const ORDER: [(&str, &str, &[u64], u8, &str); 13] = [
         "a.cg: F2 not accepted\n",
     ),
     (
-        "f : () -> ()\nf x = y\n",
+        "f : () -> ()\nf x = 1\n",
         "x",
         &[2],
         1,

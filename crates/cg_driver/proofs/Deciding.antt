@@ -2,8 +2,6 @@
 -- order gives status 0, unless memory runs out.
 use Rattle.std.proofs.Common.{◌≡◌, ◌⊎◌, ◌∙◌, ◌+◌, ◌<◌, ◌≤◌, ℕ, true, false, List, [], ◌∷◌, Option, Some, None, Result, Err, take, length, refl, sym, ap, subst, inl, inr, arith}
 use Rattle.std.specs.Io.KnownBytes.{append_known}
-use Rattle.std.specs.Prelude.{codes}
-use Rattle.std.proofs.lemmas.List.{take_all, length-take}
 use Rattle.cg_base.specs.declared.fun.Fun.TheVariants.{User}
 use Rattle.cg_check.proofs.Main.{one_core}
 use Rattle.cg_core.specs.Derivations.{Derivation}
@@ -14,16 +12,7 @@ use Rattle.cg_eval.specs.Plain.{plain_kernel}
 use Rattle.cg_heaptext.specs.Laws.{OneArgument}
 use Rattle.cg_outside.specs.Held.{Held, IsReadOf, bytes_at}
 use Rattle.cg_outside.specs.Causes.{Rose}
-use Rattle.cg_parser.specs.Answers.{depth_limit, NoProgram, Answers as Parses}
-use Rattle.cg_parser.specs.Grammar.{Spells}
-use Rattle.cg_parser.specs.Laws.{OneProgram, OneAnswer}
-use Rattle.cg_parser.specs.declared.fault.ParseFault.{ParseFault}
-use Rattle.cg_parser.specs.declared.fault.ParseFault.TheVariants.{S1, S2, S3, S4, Memory as NoMemory}
-use Rattle.cg_surface.specs.declared.program.Program.{Program}
-use Rattle.cg_small.specs.Desugar.{functions_of}
-use Rattle.cg_small.specs.Small.{small_program}
-use Rattle.cg_small.specs.Trees.{Entry as SmallEntry}
-use Rattle.cg_surface.specs.Programs.{Entry, program_depth}
+use Rattle.cg_parser.specs.Laws.{OneProgram}
 use Rattle.cg_base.specs.declared.kind.Kinds.{Kinds}
 use Rattle.cg_base.specs.Types.{Tau, arrow}
 use Rattle.cg_typing.specs.Kept.{IsKeptBody, IsKeptMaybe, IsKept, AreKept}
@@ -32,89 +21,22 @@ use Rattle.cg_value.specs.Values.{number, function}
 use Rattle.cg_words.specs.Words.{Command, check, run}
 use Rattle.cg_driver.specs.declared.status.Status.{Status}
 use Rattle.cg_driver.specs.declared.status.Status.TheVariants.{Done, Refused, Usage, ReadFault, WriteFault, Memory, StepLimit, HeapRefused, CertRefused, TooLarge}
-use Rattle.cg_driver.specs.Answer.{source_limit, heap_limit, SpellsWithin, SpellsSmall, IsAcceptedSource, RefusesSyntax, unknown_byte, open_comment, unexpected, wrong_bar, Refuses, not_spelled, not_small, not_accepted, Exceeds, too_long, too_deep, Judges, entry_at, IsReady, RefusesRun, of_source, not_plain, no_entry, RefusesHeap, no_heap_text, out_of_range, IsArgument, IsJudgedRun}
-use Rattle.cg_driver.specs.Lines.{fault_line}
+use Rattle.cg_driver.specs.Answer.{source_limit, heap_limit, IsAcceptedSource, Exceeds, Judges, entry_at, IsReady, RefusesRun, of_source, not_plain, no_entry, RefusesHeap, no_heap_text, out_of_range, IsArgument, IsJudgedRun}
 use Rattle.cg_driver.specs.Run.{table_in, Runs, RunsOut}
-use Rattle.cg_driver.specs.Says.{ReadFails, of_source as source_fails, of_heap, SaysOf, Answers, IsVerdict, IsReadBy, IsTooLarge, IsNotSmall, IsNotAccepted, IsRefused, CheckStatus, Ready, Evaluates, IsNotPlain, HasNoEntry, HasNoArgument, RunStatus, IsSyntaxLine, Decides}
+use Rattle.cg_driver.specs.Says.{ReadFails, of_source as source_fails, of_heap, SaysOf, Answers, IsVerdict, IsReadBy, IsTooLarge, IsRefused, CheckStatus, Ready, Evaluates, IsNotPlain, HasNoEntry, HasNoArgument, RunStatus, Decides}
+use Rattle.cg_driver.proofs.Sources.{whole, longer, refused_as, exceeds, same_kernel, no_refusal, no_limit, refused_not_large}
 
 -- ---- what was read of files whose contents are told
 
--- bytes within the limit were read whole, and of longer ones more than the limit was read
-whole : (most : ℕ) (bytes read : List ℕ) → read ≡ take (most + 1) bytes → length read ≤ most → read ≡ bytes
-whole most bytes read is short = is ∙ take_all (most + 1) bytes (omega (arith, length-take (most + 1) bytes, ap length is))
-
-longer : (most : ℕ) (bytes read : List ℕ) → read ≡ take (most + 1) bytes → most < length read → most < length bytes
-longer most bytes read is long = omega (arith, length-take (most + 1) bytes, ap length is)
-
-told_is : (h : Option Held) (held : Held) (file : List ℕ) (most : ℕ) (read : List ℕ) → h ≡ Some held → IsReadOf h file most read → read ≡ take (most + 1) (bytes_at held file)
+pub told_is : (h : Option Held) (held : Held) (file : List ℕ) (most : ℕ) (read : List ℕ) → h ≡ Some held → IsReadOf h file most read → read ≡ take (most + 1) (bytes_at held file)
 told_is h held file most read told r = subst (λ x. IsReadOf x file most read) told r
 
--- ---- sources
-
-refused_as : (file source text : List ℕ) → Refuses file source text → length source ≤ source_limit → IsRefused source
-refused_as file source text (not_spelled (unknown_byte place found is)) short = (short, inl found.4)
-refused_as file source text (not_spelled (open_comment place found is)) short = (short, inl found.4)
-refused_as file source text (not_spelled (unexpected place found is)) short = (short, inl found.4)
-refused_as file source text (not_spelled (wrong_bar place found is)) short = (short, inl found.4)
-refused_as file source text (not_small p spelled other is) short = (short, inr (inl (p, spelled, other)))
-refused_as file source text (not_accepted q spelled never is) short = (short, inr (inr ((q, spelled), never)))
-
-exceeds : (file : List ℕ) (bytes source text : List ℕ) → source ≡ take (source_limit + 1) bytes → Exceeds source text → IsTooLarge bytes
-exceeds file bytes source text is (too_long long line) = inl (longer source_limit bytes source is long)
-exceeds file bytes source text is (too_deep short p spelled beyond line) = subst IsTooLarge (whole source_limit bytes source is short) (inr (short, p, spelled, beyond))
-
 module _ (one : OneProgram) (single : OneArgument) where
-  -- a source spells one small program
-  same_small : (source : List ℕ) (p q : List SmallEntry) → SpellsSmall source p → SpellsSmall source q → p ≡ q
-  same_small source p q a b =
-      let same : small_program a.program ≡ small_program b.program = ap small_program (one source a.program b.program a.within.spells b.within.spells) in
-      let first : small_program a.program ≡ Some p = a.small in
-      let second : small_program b.program ≡ Some q = b.small in
-      cc
-
-  small_or_not : (source : List ℕ) (p : List Entry) (q : List SmallEntry) → SpellsWithin source p → small_program p ≡ None → SpellsSmall source q → ⊥
-  small_or_not source p q s none b =
-      let same : small_program p ≡ small_program b.program = ap small_program (one source p b.program s.spells b.within.spells) in
-      let some : small_program b.program ≡ Some q = b.small in
-      absurd (cc)
-
-  -- a source is accepted with one kernel, and isn't refused, nor too large
-  same_kernel : (source : List ℕ) (f g : List Function) → IsAcceptedSource source f → IsAcceptedSource source g → f ≡ g
-  same_kernel source f g a b = a.kernel ∙ ap functions_of (same_small source a.program b.program a.spelled b.spelled) ∙ sym b.kernel
-
-  no_refusal : (source : List ℕ) (f : List Function) → IsAcceptedSource source f → IsRefused source → ⊥
-  no_refusal source f a r = go r.1
-    where
-      go : NoProgram source ⊎ (IsNotSmall source ⊎ IsNotAccepted source) → ⊥
-      go (inl none) = none a.spelled.program a.spelled.within.spells
-      go (inr (inl other)) = small_or_not source other.0 a.program other.1 other.2 a.spelled
-      go (inr (inr never)) = never.1 (a.spelled.program, a.program, a.spelled.within.spells, a.spelled.small, a.accepted)
-
-  not_large : (source : List ℕ) (p : List Entry) → length source ≤ source_limit → SpellsWithin source p → IsTooLarge source → ⊥
-  not_large source p short s (inl long) = absurd (omega arith)
-  not_large source p short s (inr beyond) =
-      let same : program_depth p ≡ program_depth beyond.1 = ap program_depth (one source p beyond.1 s.spells beyond.2) in
-      let within : program_depth p ≤ depth_limit = s.within in
-      let past : depth_limit < program_depth beyond.1 = beyond.3 in
-      absurd (omega arith)
-
-  no_limit : (source : List ℕ) (f : List Function) → IsAcceptedSource source f → IsTooLarge source → ⊥
-  no_limit source f a = not_large source a.spelled.program a.short a.spelled.within
-
-  refused_not_large : (source : List ℕ) → IsRefused source → IsTooLarge source → ⊥
-  refused_not_large source r (inl long) = absurd (omega (arith, r.0))
-  refused_not_large source r (inr beyond) = go r.1
-    where
-      go : NoProgram source ⊎ (IsNotSmall source ⊎ IsNotAccepted source) → ⊥
-      go (inl none) = none beyond.1 beyond.2
-      go (inr (inl other)) = not_large source other.0 r.0 other.1 (inr beyond)
-      go (inr (inr never)) = not_large source never.0.1.program r.0 never.0.1.within (inr beyond)
-
   -- ---- checks
 
   checks_are_one : (source : List ℕ) (s t : Status) → CheckStatus source s → CheckStatus source t → s ≡ t
   checks_are_one source Done Done a b = refl
-  checks_are_one source Done Refused a b = absurd (no_refusal source a.0 a.1 b)
+  checks_are_one source Done Refused a b = absurd (no_refusal one source a.0 a.1 b)
   checks_are_one source Done Usage a b = absurd b
   checks_are_one source Done ReadFault a b = absurd b
   checks_are_one source Done WriteFault a b = absurd b
@@ -122,8 +44,8 @@ module _ (one : OneProgram) (single : OneArgument) where
   checks_are_one source Done StepLimit a b = absurd b
   checks_are_one source Done HeapRefused a b = absurd b
   checks_are_one source Done CertRefused a b = absurd b
-  checks_are_one source Done TooLarge a b = absurd (no_limit source a.0 a.1 b)
-  checks_are_one source Refused Done a b = absurd (no_refusal source b.0 b.1 a)
+  checks_are_one source Done TooLarge a b = absurd (no_limit one source a.0 a.1 b)
+  checks_are_one source Refused Done a b = absurd (no_refusal one source b.0 b.1 a)
   checks_are_one source Refused Refused a b = refl
   checks_are_one source Refused Usage a b = absurd b
   checks_are_one source Refused ReadFault a b = absurd b
@@ -132,7 +54,7 @@ module _ (one : OneProgram) (single : OneArgument) where
   checks_are_one source Refused StepLimit a b = absurd b
   checks_are_one source Refused HeapRefused a b = absurd b
   checks_are_one source Refused CertRefused a b = absurd b
-  checks_are_one source Refused TooLarge a b = absurd (refused_not_large source a b)
+  checks_are_one source Refused TooLarge a b = absurd (refused_not_large one source a b)
   checks_are_one source Usage t a b = absurd a
   checks_are_one source ReadFault t a b = absurd a
   checks_are_one source WriteFault t a b = absurd a
@@ -140,8 +62,8 @@ module _ (one : OneProgram) (single : OneArgument) where
   checks_are_one source StepLimit t a b = absurd a
   checks_are_one source HeapRefused t a b = absurd a
   checks_are_one source CertRefused t a b = absurd a
-  checks_are_one source TooLarge Done a b = absurd (no_limit source b.0 b.1 a)
-  checks_are_one source TooLarge Refused a b = absurd (refused_not_large source b a)
+  checks_are_one source TooLarge Done a b = absurd (no_limit one source b.0 b.1 a)
+  checks_are_one source TooLarge Refused a b = absurd (refused_not_large one source b a)
   checks_are_one source TooLarge Usage a b = absurd b
   checks_are_one source TooLarge ReadFault a b = absurd b
   checks_are_one source TooLarge WriteFault a b = absurd b
@@ -154,7 +76,7 @@ module _ (one : OneProgram) (single : OneArgument) where
   check_comes : (held : Held) (file source text : List ℕ) (s : Status) → source ≡ take (source_limit + 1) (bytes_at held file) → Judges file source s text → CheckStatus (bytes_at held file) s
   check_comes held file source text Done is j = subst (λ x. CheckStatus x Done) (whole source_limit (bytes_at held file) source is j.1.short) (j.0, j.1)
   check_comes held file source text Refused is j = subst IsRefused (whole source_limit (bytes_at held file) source is j.0) (refused_as file source text j.1 j.0)
-  check_comes held file source text TooLarge is j = exceeds file (bytes_at held file) source text is j
+  check_comes held file source text TooLarge is j = exceeds (bytes_at held file) source text is j
   check_comes held file source text Usage is j = absurd j
   check_comes held file source text ReadFault is j = absurd j
   check_comes held file source text WriteFault is j = absurd j
@@ -232,7 +154,7 @@ module _ (one : OneProgram) (single : OneArgument) where
   -- two things that hold of ready runs hold of one
   meet : (P Q : List Function → ℕ → Type 0) (source entry : List ℕ) → ((f : List Function) (i : ℕ) → IsReady source entry f i → P f i → Q f i → ⊥) → Ready source entry P → Ready source entry Q → ⊥
   meet P Q source entry h a b =
-      let same : a.0 ≡ b.0 = same_kernel source a.0 b.0 a.2.accepted b.2.accepted in
+      let same : a.0 ≡ b.0 = same_kernel one source a.0 b.0 a.2.accepted b.2.accepted in
       let named : entry_at entry a.0 ≡ Some b.1 = ap (entry_at entry) same ∙ b.2.named in
       let first = a.2.named in
       let at : a.1 ≡ b.1 = cc in
@@ -273,25 +195,25 @@ module _ (one : OneProgram) (single : OneArgument) where
 
   -- a run that is ready isn't refused, nor is its source too large
   not_refused : (source entry : List ℕ) (P : List Function → ℕ → Type 0) → IsRefused source ⊎ (IsNotPlain source ⊎ HasNoEntry source entry) → Ready source entry P → ⊥
-  not_refused source entry P (inl r) b = no_refusal source b.0 b.2.accepted r
+  not_refused source entry P (inl r) b = no_refusal one source b.0 b.2.accepted r
   not_refused source entry P (inr (inl r)) b =
-      let same : r.0 ≡ b.0 = same_kernel source r.0 b.0 r.1 b.2.accepted in
+      let same : r.0 ≡ b.0 = same_kernel one source r.0 b.0 r.1 b.2.accepted in
       let yes : plain_kernel r.0 ≡ true = ap plain_kernel same ∙ b.2.plain in
       let no : plain_kernel r.0 ≡ false = r.2 in
       absurd (cc)
   not_refused source entry P (inr (inr r)) b =
-      let same : r.0 ≡ b.0 = same_kernel source r.0 b.0 r.1 b.2.accepted in
+      let same : r.0 ≡ b.0 = same_kernel one source r.0 b.0 r.1 b.2.accepted in
       let some : entry_at entry r.0 ≡ Some b.1 = ap (entry_at entry) same ∙ b.2.named in
       let none : entry_at entry r.0 ≡ None = r.3 in
       absurd (cc)
 
   refused_or_large : (source entry : List ℕ) → IsRefused source ⊎ (IsNotPlain source ⊎ HasNoEntry source entry) → IsTooLarge source → ⊥
-  refused_or_large source entry (inl r) b = refused_not_large source r b
-  refused_or_large source entry (inr (inl r)) b = no_limit source r.0 r.1 b
-  refused_or_large source entry (inr (inr r)) b = no_limit source r.0 r.1 b
+  refused_or_large source entry (inl r) b = refused_not_large one source r b
+  refused_or_large source entry (inr (inl r)) b = no_limit one source r.0 r.1 b
+  refused_or_large source entry (inr (inr r)) b = no_limit one source r.0 r.1 b
 
   either_large : (source heap entry : List ℕ) (P : List Function → ℕ → Type 0) → (Ready source entry P → Ready source entry (IsOver heap) → ⊥) → Ready source entry P → IsTooLarge source ⊎ Ready source entry (IsOver heap) → ⊥
-  either_large source heap entry P h a (inl large) = no_limit source a.0 a.2.accepted large
+  either_large source heap entry P h a (inl large) = no_limit one source a.0 a.2.accepted large
   either_large source heap entry P h a (inr over) = h a over
 
   refused_large : (source heap entry : List ℕ) → IsRefused source ⊎ (IsNotPlain source ⊎ HasNoEntry source entry) → IsTooLarge source ⊎ Ready source entry (IsOver heap) → ⊥
@@ -398,7 +320,7 @@ module _ (one : OneProgram) (single : OneArgument) where
           ready_comes source (HoldsNone (bytes_at held heap)) is j.functions j.at j.ready (none_comes j.bytes text (heap_is HeapRefused text j) j.judged.0 j.judged.1)
 
       large_comes : (text : List ℕ) → Exceeds source text ⊎ IsJudgedRun h heap source entry steps TooLarge text → Comes TooLarge
-      large_comes text (inl e) = inl (exceeds file (bytes_at held file) source text is e)
+      large_comes text (inl e) = inl (exceeds (bytes_at held file) source text is e)
       large_comes text (inr j) =
           inr (ready_comes source (IsOver (bytes_at held heap)) is j.functions j.at j.ready (longer heap_limit (bytes_at held heap) j.bytes (heap_is TooLarge text j) j.judged.0))
 
@@ -506,65 +428,3 @@ module _ (one : OneProgram) (single : OneArgument) (c : Option Command) (h : Opt
   run_done file entry heap steps asked done same also =
       done_or_memory (RunStatus (bytes_at held file) (bytes_at held heap) entry steps) s done (λ e. run_unfailed c before now file entry heap steps asked same also (read_fault c h before now old new f f' s a e))
       (λ e. no_write (write_rose (SaysOf c h before now) old new f f' s a e)) (runs one single c h held before now old new f f' s a file entry heap steps told asked)
-
--- ---- faults of reading
-
--- the line of a fault of reading
-abbrev line_of : List ℕ → ParseFault → List ℕ
-line_of file (S1 place) = fault_line file place (codes "S1 unknown byte")
-line_of file (S2 place) = fault_line file place (codes "S2 comment not closed")
-line_of file (S3 place) = fault_line file place (codes "S3 unexpected token")
-line_of file (S4 place) = fault_line file place (codes "S4 bar in no open match")
-line_of file f = []
-
-abbrev answer_of : ParseFault → Result Program ParseFault
-answer_of f = Err f
-
-record Fault (file source text : List ℕ) : Type 0 where
-  fault : ParseFault
-  parses : Parses source (Err fault)
-  real : answer_of fault ≡ answer_of NoMemory → ⊥
-  line : text ≡ line_of file fault
-  none : NoProgram source
-
-fault_of : (file source text : List ℕ) → RefusesSyntax file source text → Fault file source text
-fault_of file source text (unknown_byte place found is) = record { fault = S1 place; parses = found; real = λ e. absurd (cc); line = is; none = found.4 }
-fault_of file source text (open_comment place found is) = record { fault = S2 place; parses = found; real = λ e. absurd (cc); line = is; none = found.4 }
-fault_of file source text (unexpected place found is) = record { fault = S3 place; parses = found; real = λ e. absurd (cc); line = is; none = found.4 }
-fault_of file source text (wrong_bar place found is) = record { fault = S4 place; parses = found; real = λ e. absurd (cc); line = is; none = found.4 }
-
-module _ (answer : OneAnswer) (file : List ℕ) where
-  -- a source has one line of a fault of reading, and no other line
-  same_fault : (source a b : List ℕ) → Fault file source a → Fault file source b → a ≡ b
-  same_fault source a b x y = x.line ∙ ap (line_of file) (answer source (Err x.fault) (Err y.fault) x.parses y.parses x.real y.real) ∙ sym y.line
-
-  same_line : (source text line : List ℕ) → Refuses file source text → Fault file source line → text ≡ line
-  same_line source text line (not_spelled s) y = same_fault source text line (fault_of file source text s) y
-  same_line source text line (not_small p spelled other is) y = absurd (y.none p spelled.spells)
-  same_line source text line (not_accepted q spelled never is) y = absurd (y.none spelled.program spelled.within.spells)
-
-  never_accepted : (source read line : List ℕ) (functions : List Function) → read ≡ take (source_limit + 1) source → IsAcceptedSource read functions → Fault file source line → ⊥
-  never_accepted source read line functions is accepted y =
-      y.none accepted.spelled.program (subst (λ x. Spells x accepted.spelled.program) (whole source_limit source read is accepted.short) accepted.spelled.within.spells)
-
-  same_run : (source read entry text line : List ℕ) → read ≡ take (source_limit + 1) source → RefusesRun file read entry text → Fault file source line → text ≡ line
-  same_run source read entry text line is (of_source short r) y = same_line source text line (subst (λ x. Refuses file x text) (whole source_limit source read is short) r) y
-  same_run source read entry text line is (not_plain functions accepted p e) y = absurd (never_accepted source read line functions is accepted y)
-  same_run source read entry text line is (no_entry functions accepted p n e) y = absurd (never_accepted source read line functions is accepted y)
-
-module _ (one : OneProgram) (single : OneArgument) (answer : OneAnswer) (c : Option Command) (h : Option Held) (held : Held) (before now : List ℕ → ℕ) (old new : Option (List ℕ)) (f f' : ℕ) (s : Status)
-    (a : Answers (SaysOf c h before now) old new f f' s) (told : h ≡ Some held) (verdict : IsVerdict s) where
-  pub check_refuses : (file line : List ℕ) → c ≡ Some (check file) → IsSyntaxLine file (bytes_at held file) line → (s ≡ Refused) × (new ≡ append_known old line)
-  check_refuses file line asked found =
-      let y : Fault file (bytes_at held file) line = fault_of file (bytes_at held file) line found.1 in
-      let is : s ≡ Refused = (checks one single c h held before now old new f f' s a file told asked verdict Refused).1 (found.0, inl y.none) in
-      let b : Answers (SaysOf (Some (check file)) h before now) old new f f' Refused = subst (λ x. Answers (SaysOf x h before now) old new f f' Refused) asked (subst (Answers (SaysOf c h before now) old new f f') is a) in
-      let read : b.1.0 ≡ bytes_at held file = whole source_limit (bytes_at held file) b.1.0 (told_is h held file source_limit b.1.0 told b.1.1) b.1.2.0 in
-      (is, b.2 ∙ ap (append_known old) (same_line answer file (bytes_at held file) b.0 line (subst (λ x. Refuses file x b.0) read b.1.2.1) y))
-
-  pub run_refuses : (file entry heap line : List ℕ) (steps : ℕ) → c ≡ Some (run file entry heap steps) → IsSyntaxLine file (bytes_at held file) line → (s ≡ Refused) × (new ≡ append_known old line)
-  run_refuses file entry heap line steps asked found =
-      let y : Fault file (bytes_at held file) line = fault_of file (bytes_at held file) line found.1 in
-      let is : s ≡ Refused = (runs one single c h held before now old new f f' s a file entry heap steps told asked verdict Refused).1 (inl (found.0, inl y.none)) in
-      let b : Answers (SaysOf (Some (run file entry heap steps)) h before now) old new f f' Refused = subst (λ x. Answers (SaysOf x h before now) old new f f' Refused) asked (subst (Answers (SaysOf c h before now) old new f f') is a) in
-      (is, b.2 ∙ ap (append_known old) (same_run answer file (bytes_at held file) b.1.0 entry b.0 line (told_is h held file source_limit b.1.0 told b.1.1) b.1.2 y))

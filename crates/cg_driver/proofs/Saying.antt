@@ -5,16 +5,16 @@ use Rattle.std.specs.Io.KnownBytes.{append_known}
 use Rattle.std.specs.List.{position_or_len}
 use Rattle.std.proofs.lemmas.Bool.{ltb-true}
 use Rattle.std.proofs.lemmas.Slice.Eq.{bytes_eq-Decides}
+use Rattle.cg_base.specs.declared.limit.Limit.{Limit}
 use Rattle.cg_base.specs.declared.place.Place.{Place}
 use Rattle.cg_core.specs.declared.kernel.KFun.{KFun}
 use Rattle.cg_core.specs.declared.kernel.Kernel.{Kernel}
 use Rattle.cg_core.specs.Kernels.{Function, function_of, kernel_of}
 use Rattle.cg_eval.specs.Plain.{plain_kernel}
 use Rattle.cg_heaptext.specs.HeapText.{HeapText}
-use Rattle.cg_small.specs.Circles.{mentions, NoCircle}
-use Rattle.cg_small.specs.Desugar.{name_faults, functions_of}
-use Rattle.cg_small.specs.Small.{small_program}
-use Rattle.cg_small.specs.Trees.{Entry as SmallEntry}
+use Rattle.cg_desugar.specs.Desugar.{functions_of, NamesStand, WithinLimits}
+use Rattle.cg_resolve.specs.Answers.{Answers as Resolves}
+use Rattle.cg_resolve.specs.declared.fault.Fault.TheVariants.{Limit as Passes}
 use Rattle.cg_surface.specs.Programs.{Entry, program_depth}
 use Rattle.cg_parser.specs.Grammar.{Spells}
 use Rattle.cg_parser.specs.Answers.{depth_limit}
@@ -30,9 +30,9 @@ use Rattle.cg_driver.specs.declared.report.Step.{Step}
 use Rattle.cg_driver.specs.declared.report.Step.TheVariants.{Goes, Ends as Ended}
 use Rattle.cg_driver.specs.declared.status.Status.{Status}
 use Rattle.cg_driver.specs.declared.status.Status.TheVariants.{Done, Refused, Usage, ReadFault, WriteFault, Memory, StepLimit, HeapRefused, CertRefused, TooLarge}
-use Rattle.cg_driver.specs.Answer.{source_limit, heap_limit, Accepted, IsAcceptedProgram, RefusesSyntax, Refuses, not_spelled, not_small, not_accepted, too_deep, RefusesSource, Judges, entry_at, of_source, not_plain, no_entry, IsReady, out_of_range}
-use Rattle.cg_driver.specs.Judged.{functions_in, IsCheckedKernel, IsCheckedProgram, IsCheckedSpelled, IsCheckedSource, RefusesKernel, RefusesProgram, RefusesSpelled, IsEntry, RefusesBytes}
-use Rattle.cg_driver.specs.Lines.{fault_line, limit_line, out_of_range_line}
+use Rattle.cg_driver.specs.Answer.{source_limit, heap_limit, Accepted, SpellsWithin, HasKernel, RefusesSyntax, RefusesNames, Refuses, not_spelled, not_named, not_small, not_accepted, too_deep, too_great as passes_limit, RefusesSource, Judges, entry_at, of_source, not_plain, no_entry, IsReady, out_of_range}
+use Rattle.cg_driver.specs.Judged.{functions_in, IsCheckedKernel, IsCheckedProgram, IsCheckedSource, RefusesKernel, RefusesProgram, IsEntry, RefusesBytes}
+use Rattle.cg_driver.specs.Lines.{fault_line, limit_name, limit_line, out_of_range_line}
 use Rattle.cg_driver.specs.Reports.{IsLine, Reports, Steps}
 use Rattle.cg_driver.specs.Running.{SaysChecked, SaysSource}
 use Rattle.cg_driver.specs.Says.{SaysCheck, of_heap, SaysRun, SaysOf, Answers, Ends}
@@ -58,64 +58,66 @@ steps_follow P Q S U goes ends (Err e) said = tt
 
 -- ---- sources
 
--- a small program whose names are in order is judged as its kernel is
-pub kernel_checked : (p : List SmallEntry) (functions : List Function) → name_faults p ≡ [] → NoCircle (mentions p) → functions ≡ functions_of p
+-- a program whose names are in order, and in which all is within its limits, is judged as its kernel is
+pub kernel_checked : (p : List Entry) (functions : List Function) → NamesStand p → WithinLimits p → functions ≡ functions_of p
     → (checked : Checked) → IsCheckedKernel functions checked → IsCheckedProgram p checked
-kernel_checked p functions names circles is checked c =
-    record { accepted = record { names = names; circles = circles; typed = subst IsAcceptedKernel is c.accepted }; same = c.same ∙ is; cores = c.cores }
+kernel_checked p functions names limits is checked c = record { names = names; limits = limits; kernel = subst (λ f. IsCheckedKernel f checked) is c }
 
-pub kernel_refused : (file : List ℕ) (p : List SmallEntry) (functions : List Function) → functions ≡ functions_of p
+pub kernel_refused : (file : List ℕ) (p : List Entry) (functions : List Function) → NamesStand p → WithinLimits p → functions ≡ functions_of p
     → (s : Status) (text : List ℕ) → RefusesKernel file functions s text → RefusesProgram file p s text
-kernel_refused file p functions is Refused text j = ((λ accepted. j.0 (subst IsAcceptedKernel (sym is) accepted.typed)), j.1)
-kernel_refused file p functions is Done text j = absurd j
-kernel_refused file p functions is Usage text j = absurd j
-kernel_refused file p functions is ReadFault text j = absurd j
-kernel_refused file p functions is WriteFault text j = absurd j
-kernel_refused file p functions is Memory text j = absurd j
-kernel_refused file p functions is StepLimit text j = absurd j
-kernel_refused file p functions is HeapRefused text j = absurd j
-kernel_refused file p functions is CertRefused text j = absurd j
-kernel_refused file p functions is TooLarge text j = absurd j
+kernel_refused file p functions names limits is Refused text j = inr (names, limits, subst (λ f. RefusesKernel file f Refused text) is j)
+kernel_refused file p functions names limits is s text j = absurd j
 
--- a program that is small is judged as its small program is
-pub small_checked : (p : List Entry) (q : List SmallEntry) → small_program p ≡ Some q → (checked : Checked) → IsCheckedProgram q checked → IsCheckedSpelled p checked
-small_checked p q is checked c = record { program = q; small = is; holds = c }
+-- a fault of names and a limit, as they are told
+pub names_say : {E : Type 0} (file : List ℕ) (p : List Entry) (place : Place) (rule : List ℕ) → RefusesNames file p (fault_line file place rule)
+    → (r : Result Report E) → IfOk r (IsLine Refused (fault_line file place rule)) → IfOk r (Reports (RefusesProgram file p))
+names_say file p place rule s r h =
+    each (IsLine Refused (fault_line file place rule)) (Reports (RefusesProgram file p)) (λ x is. line_says (RefusesProgram file p) Refused (fault_line file place rule) x is (inl s)) r h
 
-pub small_refused : (file : List ℕ) (p : List Entry) (q : List SmallEntry) → small_program p ≡ Some q → (s : Status) (text : List ℕ) → RefusesProgram file q s text → RefusesSpelled file p s text
-small_refused file p q is Refused text j = inr (q, is, j)
-small_refused file p q is s text j = absurd j
+pub limit_says : {E : Type 0} (file : List ℕ) (p : List Entry) (limit : Limit) (name : List ℕ) → name ≡ limit_name limit → Resolves p (Err (Passes limit))
+    → (r : Result Report E) → IfOk r (IsLine TooLarge (limit_line name)) → IfOk r (Reports (RefusesProgram file p))
+limit_says file p limit name is found r h =
+    each (IsLine TooLarge (limit_line name)) (Reports (RefusesProgram file p)) (λ x line. line_says (RefusesProgram file p) TooLarge (limit_line name) x line (limit, found, ap limit_line is)) r h
 
 -- a source is judged as the one program that it spells within the depth
 pub program_checked : (source : List ℕ) (p : List Entry) → length source ≤ source_limit → Spells source p → program_depth p ≤ depth_limit
-    → (checked : Checked) → IsCheckedSpelled p checked → IsCheckedSource source checked
+    → (checked : Checked) → IsCheckedProgram p checked → IsCheckedSource source checked
 program_checked source p short spelled deep checked c =
     record {
       accepted = record {
-        program = c.program;
+        program = p;
         short = short;
-        spelled = record { program = p; within = record { spells = spelled; within = deep }; small = c.small };
-        accepted = c.holds.accepted;
-        kernel = c.holds.same;
+        resolved = record { spelled = record { spells = spelled; within = deep }; names = c.names; limits = c.limits };
+        small = c.kernel.small;
+        typed = c.kernel.accepted;
+        kernel = c.kernel.same;
       };
-      cores = c.holds.cores;
+      cores = c.kernel.cores;
     }
 
 module _ (file source : List ℕ) (p : List Entry) (short : length source ≤ source_limit) (spelled : Spells source p) (deep : program_depth p ≤ depth_limit)
     (only : (q : List Entry) → Spells source q → q ≡ p) where
-  -- the small program of the source is the one that is accepted, where one is
-  never_accepted : (q : List SmallEntry) → small_program p ≡ Some q → (IsAcceptedProgram q → ⊥) → Accepted source → ⊥
-  never_accepted q is never accepted =
-      let same : small_program accepted.0 ≡ small_program p = ap small_program (only accepted.0 accepted.2) in
-      let other : small_program accepted.0 ≡ Some accepted.1 = accepted.3 in
-      let equal : accepted.1 ≡ q = cc in
-      never (subst IsAcceptedProgram equal accepted.4)
+  spelling : SpellsWithin source p
+  spelling = record { spells = spelled; within = deep }
 
-  refused : (text : List ℕ) → RefusesSpelled file p Refused text → Refuses file source text
-  refused text (inl j) = not_small p (record { spells = spelled; within = deep }) j.0 j.1
-  refused text (inr j) = not_accepted j.0 (record { program = p; within = record { spells = spelled; within = deep }; small = j.1 }) (never_accepted j.0 j.1 j.2.0) j.2.1
+  kernel : NamesStand p → WithinLimits p → HasKernel source p
+  kernel names limits = record { spelled = spelling; names = names; limits = limits }
 
-  pub program_refused : (s : Status) (text : List ℕ) → RefusesSpelled file p s text → RefusesSource file source s text
+  -- the kernel of the source is the one that is accepted, where one is
+  never_accepted : (IsAcceptedKernel (functions_of p) → ⊥) → Accepted source → ⊥
+  never_accepted never accepted = never (subst (λ q. IsAcceptedKernel (functions_of q)) (only accepted.0 accepted.1) accepted.2.typed)
+
+  untyped : (text : List ℕ) → NamesStand p → WithinLimits p → RefusesKernel file (functions_of p) Refused text → Refuses file source text
+  untyped text names limits (inl j) = not_small p (kernel names limits) j.0 j.1
+  untyped text names limits (inr j) = not_accepted p (kernel names limits) j.0 (never_accepted j.1) j.2
+
+  refused : (text : List ℕ) → RefusesProgram file p Refused text → Refuses file source text
+  refused text (inl j) = not_named p spelling j
+  refused text (inr j) = untyped text j.0 j.1 j.2
+
+  pub program_refused : (s : Status) (text : List ℕ) → RefusesProgram file p s text → RefusesSource file source s text
   program_refused Refused text j = (short, refused text j)
+  program_refused TooLarge text j = passes_limit short p spelling j
   program_refused s text j = absurd j
 
 deep : (file source : List ℕ) (p : List Entry) → length source ≤ source_limit → Spells source p → depth_limit < program_depth p

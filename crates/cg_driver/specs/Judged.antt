@@ -1,10 +1,9 @@
 -- What the checker's answer and the parts of a run say, as the code has them.
 use Rattle.std.specs.Prelude.{◌≡◌, ℕ, ◌<◌, ◌≤◌, true, false, List, length, map, Some, None, codes, ◌⊎◌}
+use Rattle.cg_check.specs.Small.{is_small_kernel}
 use Rattle.cg_core.specs.Kernels.{Function, kernel_of}
+use Rattle.cg_desugar.specs.Desugar.{functions_of, NamesStand, WithinLimits}
 use Rattle.cg_eval.specs.Plain.{plain_kernel}
-use Rattle.cg_small.specs.Desugar.{functions_of}
-use Rattle.cg_small.specs.Small.{small_program}
-use Rattle.cg_small.specs.Trees.{Entry as SmallEntry}
 use Rattle.cg_surface.specs.Programs.{Entry}
 use Rattle.cg_typing.specs.Accepted.{IsAcceptedKernel}
 use Rattle.cg_typing.specs.declared.checked.Checked.{Checked}
@@ -12,7 +11,7 @@ use Rattle.cg_typing.specs.Holds.{kernel_in, cores_in}
 use Rattle.cg_typing.specs.Kept.{maybe_core}
 use Rattle.cg_driver.specs.declared.status.Status.{Status}
 use Rattle.cg_driver.specs.declared.status.Status.TheVariants.{Refused, HeapRefused, TooLarge}
-use Rattle.cg_driver.specs.Answer.{heap_limit, IsAcceptedProgram, IsAcceptedSource, entry_at, RefusesHeap}
+use Rattle.cg_driver.specs.Answer.{heap_limit, IsAcceptedSource, RefusesNames, ExceedsWritten, entry_at, RefusesHeap}
 use Rattle.cg_driver.specs.Lines.{not_built_line, not_accepted_line, no_entry_line, limit_line}
 use Rattle.cg_driver.specs.Run.{AreCores}
 
@@ -24,43 +23,35 @@ functions_in checked = kernel_of (kernel_in checked)
 abbrev pub HoldsCores : Checked → Type 0
 HoldsCores checked = AreCores (functions_in checked) (map maybe_core (cores_in checked))
 
--- a kernel is accepted, and kept so
+-- a kernel is small and accepted, and kept so
 pub record IsCheckedKernel (functions : List Function) (checked : Checked) : Type 0 where
+  pub small : is_small_kernel functions ≡ true
   pub accepted : IsAcceptedKernel functions
   pub same : functions_in checked ≡ functions
   pub cores : HoldsCores checked
 
--- a small program is accepted, and its kernel is kept so
-pub record IsCheckedProgram (p : List SmallEntry) (checked : Checked) : Type 0 where
-  pub accepted : IsAcceptedProgram p
-  pub same : functions_in checked ≡ functions_of p
-  pub cores : HoldsCores checked
-
--- a program is a small one, which is accepted, and its kernel is kept so
-pub record IsCheckedSpelled (p : List Entry) (checked : Checked) : Type 0 where
-  pub program : List SmallEntry
-  pub small : small_program p ≡ Some program
-  pub holds : IsCheckedProgram program checked
+-- a program has a kernel, which is small and accepted, and kept so
+pub record IsCheckedProgram (p : List Entry) (checked : Checked) : Type 0 where
+  pub names : NamesStand p
+  pub limits : WithinLimits p
+  pub kernel : IsCheckedKernel (functions_of p) checked
 
 -- a source is accepted, and its kernel is kept so
 pub record IsCheckedSource (source : List ℕ) (checked : Checked) : Type 0 where
   pub accepted : IsAcceptedSource source (functions_in checked)
   pub cores : HoldsCores checked
 
--- the refusal of a kernel, of a small program, and of a program
+-- the refusal of a kernel, and of a program
 abbrev pub RefusesKernel : List ℕ → List Function → Status → List ℕ → Type 0
-RefusesKernel file functions Refused text = (IsAcceptedKernel functions → ⊥) × (text ≡ not_accepted_line file)
+RefusesKernel file functions Refused text =
+    ((is_small_kernel functions ≡ false) × (text ≡ not_built_line file))
+    ⊎ ((is_small_kernel functions ≡ true) × (IsAcceptedKernel functions → ⊥) × (text ≡ not_accepted_line file))
 RefusesKernel file functions _ text = ⊥
 
-abbrev pub RefusesProgram : List ℕ → List SmallEntry → Status → List ℕ → Type 0
-RefusesProgram file p Refused text = (IsAcceptedProgram p → ⊥) × (text ≡ not_accepted_line file)
+abbrev pub RefusesProgram : List ℕ → List Entry → Status → List ℕ → Type 0
+RefusesProgram file p Refused text = RefusesNames file p text ⊎ (NamesStand p × WithinLimits p × RefusesKernel file (functions_of p) Refused text)
+RefusesProgram file p TooLarge text = ExceedsWritten p text
 RefusesProgram file p _ text = ⊥
-
-abbrev pub RefusesSpelled : List ℕ → List Entry → Status → List ℕ → Type 0
-RefusesSpelled file p Refused text =
-    ((small_program p ≡ None) × (text ≡ not_built_line file))
-    ⊎ ((q : List SmallEntry) × (small_program p ≡ Some q) × RefusesProgram file q Refused text)
-RefusesSpelled file p _ text = ⊥
 
 -- the refusal of an entry of an accepted source
 abbrev pub RefusesEntry : List ℕ → List ℕ → List Function → Status → List ℕ → Type 0

@@ -1,5 +1,7 @@
 -- The lines that are printed (docs/LANGUAGE.md, "Commands").
 use Rattle.std.specs.Prelude.{ℕ, List, ◌++◌, codes, count_by, decimal, is_some, length}
+use Rattle.cg_base.specs.declared.limit.Limit.{Limit}
+use Rattle.cg_base.specs.declared.limit.Limit.TheVariants.{Source, Nesting, Functions, Fields, Ty, Depth, Instances, Core, Heap, Certificate}
 use Rattle.cg_base.specs.declared.place.Place.{Place}
 use Rattle.cg_core.specs.Kernels.{Function}
 use Rattle.cg_value.specs.Printed.{printed}
@@ -39,6 +41,19 @@ unread_line name = name ++ codes ": cannot be read\n"
 
 abbrev pub limit_line : List ℕ → List ℕ
 limit_line name = codes "limit: " ++ name ++ codes "\n"
+
+-- the name of a limit (docs/LANGUAGE.md, "Limits")
+abbrev pub limit_name : Limit → List ℕ
+limit_name Source = codes "source"
+limit_name Nesting = codes "nesting"
+limit_name Functions = codes "functions"
+limit_name Fields = codes "fields"
+limit_name Ty = codes "type"
+limit_name Depth = codes "depth"
+limit_name Instances = codes "instances"
+limit_name Core = codes "core"
+limit_name Heap = codes "heap"
+limit_name Certificate = codes "certificate"
 
 abbrev pub step_limit_line : ℕ → List ℕ
 step_limit_line steps = codes "step limit " ++ decimal steps ++ codes " reached\n"

@@ -1,7 +1,9 @@
 -- What a call says and answers, and why.
 use Rattle.std.specs.Prelude.{◌≡◌, ◌↔◌, ℕ, ◌<◌, ◌≤◌, ◌^◌, true, false, List, [], length, take, Option, Some, None, ◌⊎◌, ⊤}
 use Rattle.std.specs.Io.KnownBytes.{append_known}
+use Rattle.cg_check.specs.Small.{is_small_kernel}
 use Rattle.cg_core.specs.Kernels.{Function}
+use Rattle.cg_desugar.specs.Desugar.{functions_of, NamesStand, WithinLimits}
 use Rattle.cg_base.specs.declared.fun.Fun.TheVariants.{User}
 use Rattle.cg_core.specs.Terms.{Note, Tree}
 use Rattle.cg_eval.specs.Evaluation.{evaluation}
@@ -11,14 +13,12 @@ use Rattle.cg_outside.specs.Held.{Held, IsReadOf}
 use Rattle.cg_outside.specs.Causes.{Rose}
 use Rattle.cg_parser.specs.Grammar.{Spells}
 use Rattle.cg_parser.specs.Answers.{depth_limit, NoProgram}
-use Rattle.cg_small.specs.Small.{small_program}
-use Rattle.cg_small.specs.Trees.{Entry as SmallEntry}
 use Rattle.cg_surface.specs.Programs.{Entry, program_depth}
 use Rattle.cg_value.specs.Values.{number, function}
 use Rattle.cg_words.specs.Words.{Command, check, run, command_of}
 use Rattle.cg_driver.specs.declared.status.Status.{Status}
 use Rattle.cg_driver.specs.declared.status.Status.TheVariants.{Done, Refused, Usage, ReadFault, WriteFault, Memory, StepLimit, HeapRefused, TooLarge}
-use Rattle.cg_driver.specs.Answer.{source_limit, heap_limit, Accepted, SpellsWithin, SpellsSmall, IsAcceptedSource, RefusesSyntax, Exceeds, Judges, entry_at, IsReady, RefusesRun, IsArgument, IsJudgedRun}
+use Rattle.cg_driver.specs.Answer.{source_limit, heap_limit, Accepted, SpellsWithin, HasKernel, IsAcceptedSource, RefusesSyntax, RefusesNames, Exceeds, Judges, entry_at, IsReady, RefusesRun, IsArgument, IsJudgedRun}
 use Rattle.cg_driver.specs.Lines.{usage_text, unread_line}
 use Rattle.cg_driver.specs.Run.{AreCores, table_in, RunsOut}
 
@@ -84,25 +84,42 @@ IsReadBy (Some (run file entry heap steps)) name = (name ≡ file) ⊎ (name ≡
 
 -- ---- which statuses the bytes of the files give, where no fault and no want of memory decides
 
--- the source is too long, or spells a program beyond the depth
+-- the source spells a program beyond the depth
+abbrev pub IsTooDeep : List ℕ → Type 0
+IsTooDeep source = (p : List Entry) × Spells source p × (depth_limit < program_depth p)
+
+-- it spells a program within the depth whose names are in order, and in which something written passes a limit
+abbrev pub IsTooGreat : List ℕ → Type 0
+IsTooGreat source = (p : List Entry) × SpellsWithin source p × NamesStand p × (WithinLimits p → ⊥)
+
+-- the source is too long, or spells a program that passes a limit
 abbrev pub IsTooLarge : List ℕ → Type 0
-IsTooLarge source = (source_limit < length source) ⊎ ((length source ≤ source_limit) × (p : List Entry) × Spells source p × (depth_limit < program_depth p))
+IsTooLarge source = (source_limit < length source) ⊎ ((length source ≤ source_limit) × (IsTooDeep source ⊎ IsTooGreat source))
 
--- the source spells a program within the depth that isn't small
+-- the source spells a program within the depth whose names aren't in order
+abbrev pub IsMisnamed : List ℕ → Type 0
+IsMisnamed source = (p : List Entry) × SpellsWithin source p × (NamesStand p → ⊥)
+
+-- it has a kernel, which isn't small
 abbrev pub IsNotSmall : List ℕ → Type 0
-IsNotSmall source = (p : List Entry) × SpellsWithin source p × (small_program p ≡ None)
+IsNotSmall source = (p : List Entry) × HasKernel source p × (is_small_kernel (functions_of p) ≡ false)
 
--- it spells a small program within the depth that isn't accepted
+-- it has a small kernel, and isn't accepted
 abbrev pub IsNotAccepted : List ℕ → Type 0
-IsNotAccepted source = ((q : List SmallEntry) × SpellsSmall source q) × (Accepted source → ⊥)
+IsNotAccepted source = (p : List Entry) × HasKernel source p × (is_small_kernel (functions_of p) ≡ true) × (Accepted source → ⊥)
 
--- the source is within its limit and spells no program, or one within the depth that isn't small, or isn't accepted
+-- the source is within its limit and spells no program; or one within the depth whose names aren't in order; or its kernel isn't small, or isn't
+-- accepted
 abbrev pub IsRefused : List ℕ → Type 0
-IsRefused source = (length source ≤ source_limit) × (NoProgram source ⊎ (IsNotSmall source ⊎ IsNotAccepted source))
+IsRefused source = (length source ≤ source_limit) × (NoProgram source ⊎ (IsMisnamed source ⊎ (IsNotSmall source ⊎ IsNotAccepted source)))
 
--- the source is within its limit and spells no program, and this is the line of its first fault of reading
-abbrev pub IsSyntaxLine : List ℕ → List ℕ → List ℕ → Type 0
-IsSyntaxLine file source line = (length source ≤ source_limit) × RefusesSyntax file source line
+-- the line of the first fault of names of the program within the depth that the source spells
+abbrev pub IsNamesLine : List ℕ → List ℕ → List ℕ → Type 0
+IsNamesLine file source line = (p : List Entry) × SpellsWithin source p × RefusesNames file p line
+
+-- the source is within its limit, and this is the line of its first fault of reading or of names
+abbrev pub IsFaultLine : List ℕ → List ℕ → List ℕ → Type 0
+IsFaultLine file source line = (length source ≤ source_limit) × (RefusesSyntax file source line ⊎ IsNamesLine file source line)
 
 -- what a check comes to, of the bytes of its file
 abbrev pub CheckStatus : List ℕ → Status → Type 0

@@ -5,8 +5,9 @@ ghost use Rattle.cg_core.specs.Kernels.{Function};
 ghost use Rattle.cg_outside.specs.Held.{Held, bytes_at};
 ghost use Rattle.cg_outside.specs.Causes.{Rose};
 ghost use Rattle.cg_words.specs.Words.{texts, command_of, check, run as run_of};
+ghost use Rattle.cg_driver.specs.Answer.{Exceeds};
 ghost use Rattle.cg_driver.specs.Run.{Runs};
-ghost use Rattle.cg_driver.specs.Says.{Says, Answers, Ends, IsVerdict, IsReadBy, CheckStatus, RunStatus, IsSyntaxLine, Decides};
+ghost use Rattle.cg_driver.specs.Says.{Says, Answers, Ends, IsVerdict, IsReadBy, CheckStatus, RunStatus, IsFaultLine, Decides};
 
 use crate::Status;
 use crate::plan::plan;
@@ -67,13 +68,21 @@ pub fn cogent<F: Files, O: Sink>(
         → command_of (texts words.now) ≡ Some (run_of file entry heap steps)
         → IsVerdict result → Decides (RunStatus (bytes_at held file) (bytes_at held heap) entry steps) result }
 
-    // A source that spells no program is refused, and with just the line of its first fault of reading.
+    // A source that spells no program, or one whose names aren't in order, is refused, and with just the line of its first fault.
     ensures check_refuses { (held : Held) (file line : List ℕ) → F.held files.old ≡ Some held → command_of (texts words.now) ≡ Some (check file)
-        → IsVerdict result → IsSyntaxLine file (bytes_at held file) line
+        → IsVerdict result → IsFaultLine file (bytes_at held file) line
         → (result ≡ Status.Refused) × (O.taken out.new ≡ append_known (O.taken out.old) line) }
     ensures run_refuses { (held : Held) (file entry heap line : List ℕ) (steps : ℕ) → F.held files.old ≡ Some held
-        → command_of (texts words.now) ≡ Some (run_of file entry heap steps) → IsVerdict result → IsSyntaxLine file (bytes_at held file) line
+        → command_of (texts words.now) ≡ Some (run_of file entry heap steps) → IsVerdict result → IsFaultLine file (bytes_at held file) line
         → (result ≡ Status.Refused) × (O.taken out.new ≡ append_known (O.taken out.old) line) }
+
+    // A source that passes a limit is answered with just the line of the first that it passes.
+    ensures check_exceeds { (held : Held) (file line : List ℕ) → F.held files.old ≡ Some held → command_of (texts words.now) ≡ Some (check file)
+        → IsVerdict result → Exceeds (bytes_at held file) line
+        → (result ≡ Status.TooLarge) × (O.taken out.new ≡ append_known (O.taken out.old) line) }
+    ensures run_exceeds { (held : Held) (file entry heap line : List ℕ) (steps : ℕ) → F.held files.old ≡ Some held
+        → command_of (texts words.now) ≡ Some (run_of file entry heap steps) → IsVerdict result → Exceeds (bytes_at held file) line
+        → (result ≡ Status.TooLarge) × (O.taken out.new ≡ append_known (O.taken out.old) line) }
 
     // The seven lines of a run: both runs, on the text that is written.
     ensures seven_lines { (file entry heap : List ℕ) (steps : ℕ) → command_of (texts words.now) ≡ Some (run_of file entry heap steps)

@@ -1,34 +1,37 @@
 // Judging a source.
 ghost use Rattle.std.specs.Prelude.{ℕ, ◌≤◌, List, length, Err, IfOk};
-ghost use Rattle.std.specs.List.{All};
 ghost use Rattle.cg_core.specs.Kernels.{kernel_of};
-ghost use Rattle.cg_core.specs.Small.{IsSmallKernel};
-ghost use Rattle.cg_small.specs.Trees.{program_of, OnlySumsEntry};
-ghost use Rattle.cg_surface.specs.Programs as programs;
+ghost use Rattle.cg_lawful.specs.Lawful.{IsLawfulKernel};
+ghost use Rattle.cg_lawful_laws.specs.Shaped.{IsShaped};
+ghost use Rattle.cg_surface.specs.Programs.{Entry, program_of};
+ghost use Rattle.cg_resolve.specs.Answers.{Answers as Resolves};
 ghost use Rattle.cg_parser.specs.Answers.{Answers as Parses};
 ghost use Rattle.cg_driver.specs.Answer.{source_limit, RefusesSource};
-ghost use Rattle.cg_driver.specs.Judged.{IsCheckedKernel, IsCheckedProgram, IsCheckedSpelled, IsCheckedSource, RefusesKernel, RefusesProgram, RefusesSpelled};
+ghost use Rattle.cg_driver.specs.Judged.{IsCheckedKernel, IsCheckedProgram, IsCheckedSource, RefusesKernel, RefusesProgram};
 ghost use Rattle.cg_driver.specs.Reports.{Reports, Steps};
 
-use crate::lines::{beyond, fault, not_accepted, not_built};
+use crate::lines::{beyond, fault, limit_name, not_accepted, not_built};
 use crate::report::{Report, Step};
 use cg_base::Memory;
-use cg_check::{Refusal, check};
+use cg_check::{Refusal, check, is_small};
 use cg_core::Kernel;
 use cg_parser::{ParseFault, parse};
 use cg_resolve::{Fault, resolve};
-use cg_small::{Program, small};
+use cg_surface::Program;
 use cg_typing::Checked;
 use std::alloc::Global;
 
 /// No source has more bytes.
 pub(crate) const SOURCE_LIMIT: usize = 1_048_576;
 
-/// Judges a kernel by the typing rules.
+/// Judges a kernel: whether it is a small one, and then by the typing rules.
 fn judge_kernel(alloc: Global, file: &str, kernel: Kernel) -> Result<Step<Checked>, Memory>
-    requires { IsSmallKernel (kernel_of kernel) }
+    requires { IsLawfulKernel (kernel_of kernel) }
     ensures { IfOk result (Steps (IsCheckedKernel (kernel_of kernel)) (RefusesKernel file.now (kernel_of kernel))) }
 {
+    if !is_small(&kernel) {
+        return Ok(Step::Ends(not_built(alloc, file)?));
+    }
     match check(alloc, kernel) {
         Ok(checked) => Ok(Step::Goes(checked)),
         Err(Refusal::Rule(_, _)) => Ok(Step::Ends(not_accepted(alloc, file)?)),
@@ -36,30 +39,29 @@ fn judge_kernel(alloc: Global, file: &str, kernel: Kernel) -> Result<Step<Checke
     }
 }
 
-/// Judges a small program: its names, and then its kernel.
+/// What is said where a program has no kernel within the limits.
+fn not_resolved(alloc: Global, file: &str, found: Fault) -> Result<Report, Memory>
+    ensures { (p : List Entry) → Resolves p (Err found) → IfOk result (Reports (RefusesProgram file.now p)) }
+{
+    match found {
+        Fault::N1(place) => fault(alloc, file, place, "N1 unknown name"),
+        Fault::N2(place) => fault(alloc, file, place, "N2 name defined twice"),
+        Fault::N3(place) => fault(alloc, file, place, "N3 circle of mentions"),
+        Fault::N4(place) => fault(alloc, file, place, "N4 wrong number of type arguments"),
+        Fault::N5(place) => fault(alloc, file, place, "N5 take of no field"),
+        Fault::Limit(limit) => beyond(alloc, limit_name(limit)),
+        Fault::Memory => Err(Memory),
+    }
+}
+
+/// Judges a program: its names, what is written in it, and then its kernel.
 fn judge_program(alloc: Global, file: &str, program: &Program) -> Result<Step<Checked>, Memory>
-    requires { All OnlySumsEntry (program_of program.now) }
+    requires { IsShaped (program_of program.now) }
     ensures { IfOk result (Steps (IsCheckedProgram (program_of program.now)) (RefusesProgram file.now (program_of program.now))) }
 {
     match resolve(alloc, program) {
         Ok(kernel) => judge_kernel(alloc, file, kernel),
-        Err(Fault::Memory) => Err(Memory),
-        Err(_) => Ok(Step::Ends(not_accepted(alloc, file)?)),
-    }
-}
-
-/// Judges a program: whether it is a small one, and then that.
-fn judge_spelled(
-    alloc: Global,
-    file: &str,
-    program: cg_surface::Program,
-) -> Result<Step<Checked>, Memory>
-    ensures { IfOk result (Steps (IsCheckedSpelled (programs.program_of program)) (RefusesSpelled file.now (programs.program_of program))) }
-{
-    match small(alloc, program) {
-        Ok(Some(program)) => judge_program(alloc, file, &program),
-        Ok(None) => Ok(Step::Ends(not_built(alloc, file)?)),
-        Err(_) => Err(Memory),
+        Err(found) => Ok(Step::Ends(not_resolved(alloc, file, found)?)),
     }
 }
 
@@ -77,7 +79,7 @@ fn not_read(alloc: Global, file: &str, found: ParseFault) -> Result<Report, Memo
     }
 }
 
-/// Judges a source: its size, the program that it spells, its depth, and whether that program is small and accepted.
+/// Judges a source: its size, the program that it spells, its depth, and then that program.
 pub(crate) fn judge(alloc: Global, file: &str, source: &[u8]) -> Result<Step<Checked>, Memory>
     ensures { IfOk result (Steps (IsCheckedSource source.now) (RefusesSource file.now source.now)) }
 {
@@ -85,7 +87,7 @@ pub(crate) fn judge(alloc: Global, file: &str, source: &[u8]) -> Result<Step<Che
         return Ok(Step::Ends(beyond(alloc, "source")?));
     }
     match parse(alloc, source) {
-        Ok(program) => judge_spelled(alloc, file, program),
+        Ok(program) => judge_program(alloc, file, &program),
         Err(fault) => Ok(Step::Ends(not_read(alloc, file, fault)?)),
     }
 }

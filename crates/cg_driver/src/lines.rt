@@ -7,7 +7,7 @@ ghost use Rattle.cg_driver.specs.Reports.{IsLine};
 
 use crate::Status;
 use crate::report::Report;
-use cg_base::{Memory, Place};
+use cg_base::{Limit, Memory, Place};
 use cg_core::KFun;
 use std::alloc::Global;
 
@@ -93,6 +93,24 @@ pub(crate) fn unread(alloc: Global, name: &str) -> Result<Report, Memory>
         status: Status::ReadFault,
         text: format!(in alloc; "{name}: cannot be read\n")?,
     })
+}
+
+/// The name of a limit (docs/LANGUAGE.md, "Limits").
+pub(crate) fn limit_name(limit: Limit) -> &'static str
+    ensures { result.now ≡ lines.limit_name limit }
+{
+    match limit {
+        Limit::Source => "source",
+        Limit::Nesting => "nesting",
+        Limit::Functions => "functions",
+        Limit::Fields => "fields",
+        Limit::Ty => "type",
+        Limit::Depth => "depth",
+        Limit::Instances => "instances",
+        Limit::Core => "core",
+        Limit::Heap => "heap",
+        Limit::Certificate => "certificate",
+    }
 }
 
 /// The line of a limit.

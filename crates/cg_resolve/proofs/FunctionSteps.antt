@@ -1,93 +1,94 @@
--- Functions and mentions from tables.
-use Rattle.std.proofs.Common.{◌≡◌, ℕ, ◌+◌, ◌<◌, length, take, get_or, Bool, true, false, List, [], ◌∷◌, ◌++◌, map, Option, Some, None, refl, sym, ap, ◌∙◌, cond, Bor, append_assoc, append-nil}
-use Rattle.std.proofs.lemmas.List.{map-append}
+-- The functions of some items, one further.
+use Rattle.std.proofs.Common.{◌≡◌, ℕ, ◌+◌, ◌<◌, ◌≤◌, max, List, [], ◌∷◌, ◌++◌, length, map, take, drop, get_or, Option, Result, Ok, Err, arith, sym, ap, ◌∙◌, subst}
+use Rattle.std.proofs.lemmas.List.{map_more, map-append, take-append-drop, length-append}
 use Rattle.std.proofs.lemmas.List.Elements.{filter_map-append}
-use Rattle.std.specs.BTreeMap.{BTreeMap}
-use Rattle.std.specs.Global.{Vec}
 use Rattle.std.specs.List.{filter_map, cons_option}
-use Rattle.std.specs.Str.{bytes_eq}
+use Rattle.std.specs.Result.{IsErrAnd}
+use Rattle.cg_base.specs.declared.kind.Bound.{Bound}
+use Rattle.cg_base.specs.declared.ty.Ty.{Ty}
+use Rattle.cg_base.specs.Types.{type_of}
 use Rattle.cg_core.specs.declared.at.At.{At}
-use Rattle.cg_small.specs.declared.expr.SExpr.{the_lemmas}
-use Rattle.cg_small.specs.Circles.{body_mentions, mentions}
-use Rattle.cg_small.specs.Desugar.{body_named, function_of_entry, signatures}
-use Rattle.cg_small.specs.Trees.{Entry, entry_of, signature, define, Written}
-use Rattle.cg_small.specs.declared.program.Item.{Item}
+use Rattle.cg_core.specs.declared.kernel.KBody.{KBody}
 use Rattle.cg_core.specs.declared.kernel.KFun.{KFun}
+use Rattle.cg_core.specs.declared.kernel.Kernel.{Kernel}
 use Rattle.cg_core.specs.Kernels.{Function, function_of}
-use Rattle.cg_resolve.specs.Edges.{lists}
-use Rattle.cg_resolve.specs.Entries.{entries_of}
-use Rattle.cg_resolve.specs.Names.{texts}
-use Rattle.cg_resolve.proofs.DefinitionSteps.{entries_more}
-use Rattle.cg_resolve.specs.Defined.{AreDefinitions, body_from, mentions_from, mentions_in, function_from, first_definition, definition_in}
-use Rattle.cg_resolve.specs.declared.items.Definition.{Definition}
-use Rattle.cg_resolve.proofs.Tables.{scope_push, bound, signed_from, texts_more}
+use Rattle.cg_surface.specs.declared.program.Item.{Item}
+use Rattle.cg_surface.specs.declared.written.STy.{STy}
+use Rattle.cg_surface.specs.Programs.{Entry, entry_of}
+use Rattle.cg_surface.specs.Written.{written_of, place_of}
+use Rattle.cg_desugar.specs.Declared.{definition_named}
+use Rattle.cg_desugar.specs.Desugar.{term_limit, deepest_body, body_of}
+use Rattle.cg_desugar.specs.Desugar.{function_of as signed}
+use Rattle.cg_desugar.specs.Expand.{Bodies, bodies, expanded}
+use Rattle.cg_desugar.specs.Faults.{var_names}
+use Rattle.cg_takes.proofs.HeadSteps.{place_at}
+use Rattle.cg_terms.specs.declared.fault.TermFault.{TermFault}
+use Rattle.cg_terms.specs.declared.fault.TermFault.TheVariants.{TooDeep, Memory}
+use Rattle.cg_resolve.specs.Answers.{IsTooDeep, MaybeBodySays, FunctionSays, KernelSays}
 
--- a body is that of the first definition
-pub body_is : (sigs : List (List ℕ)) (name : List ℕ) (entries : List Entry) → body_named sigs name entries ≡ body_from sigs (first_definition name entries)
-body_is sigs name [] = refl
-body_is sigs name (signature at ty ∷ later) = body_is sigs name later
-body_is sigs name (define at param body ∷ later) = pick (bytes_eq name at.name) (body_is sigs name later)
-  where
-    pick : (b : Bool) → body_named sigs name later ≡ body_from sigs (first_definition name later)
-        → cond b (body_from sigs (Some (record { param = param; body = body }))) (body_named sigs name later) ≡ body_from sigs (cond b (Some (record { param = param; body = body })) (first_definition name later))
-    pick true h = refl
-    pick false h = h
+deepest-append : (fs gs : List Function) → deepest_body (fs ++ gs) ≡ max (deepest_body fs) (deepest_body gs)
+deepest-append [] gs = omega arith
+deepest-append (f ∷ fs) gs = let later = deepest-append fs gs in omega arith
 
-pub mentions_are : (sigs : List (List ℕ)) (name : List ℕ) (entries : List Entry) → body_mentions sigs name entries ≡ mentions_from sigs (first_definition name entries)
-mentions_are sigs name [] = refl
-mentions_are sigs name (signature at ty ∷ later) = mentions_are sigs name later
-mentions_are sigs name (define at param body ∷ later) = pick (bytes_eq name at.name) (mentions_are sigs name later)
-  where
-    pick : (b : Bool) → body_mentions sigs name later ≡ mentions_from sigs (first_definition name later)
-        → cond b (mentions_from sigs (Some (record { param = param; body = body }))) (body_mentions sigs name later) ≡ mentions_from sigs (cond b (Some (record { param = param; body = body })) (first_definition name later))
-    pick true h = refl
-    pick false h = h
+module _ (f : Entry → Option Function) (items : List Item) where
+  -- the functions of so many items
+  abbrev pub functions_to : ℕ → List Function
+  functions_to i = filter_map f (map entry_of (take i items))
 
-module _ (sigs : List (List ℕ)) (entries : List Entry) (table : BTreeMap (Bor (List ℕ)) Definition) (are : AreDefinitions entries table) where
-  -- the function of a signature
-  pub function_is : (at : At) (ty : Written) → function_of_entry sigs entries (signature at ty) ≡ Some (function_from sigs table at ty)
-  function_is at ty =
-      ap (λ b. Some (record { at = at; vars = []; ty = (function_from sigs table at ty).ty; body = b })) (body_is sigs at.name entries ∙ ap (body_from sigs) (sym (are at.name)))
+  functions_more : (i : ℕ) (x : Item) → i < length items → x ≡ get_or items i x → functions_to (i + 1) ≡ functions_to i ++ cons_option (f (entry_of x)) []
+  functions_more i x within is =
+      ap (filter_map f) (map_more entry_of items i x within) ∙ filter_map-append f (map entry_of (take i items)) (entry_of (get_or items i x) ∷ [])
+      ∙ ap (λ y. functions_to i ++ cons_option (f (entry_of y)) []) (sym is)
 
-  -- the mentions of each function
-  each : (names : List (List ℕ)) → map (λ name. mentions_from sigs (definition_in table name)) names ≡ map (λ name. body_mentions sigs name entries) names
-  each [] = refl
-  each (name ∷ names) = ap (λ m. m ∷ map (λ n. mentions_from sigs (definition_in table n)) names) (ap (mentions_from sigs) (are name) ∙ sym (mentions_are sigs name entries))
-      ∙ ap (λ l. body_mentions sigs name entries ∷ l) (each names)
+  deepest_front : (i : ℕ) → deepest_body (functions_to i) ≤ deepest_body (filter_map f (map entry_of items))
+  deepest_front i =
+      let whole : filter_map f (map entry_of items) ≡ functions_to i ++ filter_map f (map entry_of (drop i items)) =
+      ap (λ l. filter_map f (map entry_of l)) (sym (take-append-drop i items)) ∙ ap (filter_map f) (map-append entry_of (take i items) (drop i items)) ∙ filter_map-append f (map entry_of (take i items)) (map entry_of (drop i items)) in
+      let deep : deepest_body (filter_map f (map entry_of items)) ≡ max (deepest_body (functions_to i)) (deepest_body (filter_map f (map entry_of (drop i items)))) =
+      ap deepest_body whole ∙ deepest-append (functions_to i) (filter_map f (map entry_of (drop i items))) in
+      omega arith
 
-  pub mentions_from_table : sigs ≡ signatures entries → mentions_in sigs table ≡ mentions entries
-  mentions_from_table same = each sigs ∙ ap (λ names. map (λ n. body_mentions names n entries) names) same
+  -- how many there are, counted
+  pub counted_more : (i : ℕ) (x : Item) → i < length items → x ≡ get_or items i x → (n : ℕ) → n ≡ length (functions_to i) → n + length (cons_option (f (entry_of x)) []) ≡ length (functions_to (i + 1))
+  counted_more i x within is n so_far = omega (arith, ap length (functions_more i x within is), length-append (functions_to i) (cons_option (f (entry_of x)) []))
 
-pub ruleset function_steps = (scope_push, bound, signed_from, the_lemmas, map-append, filter_map-append, append_assoc)
+  -- these are the functions of so many items, and none of their terms is too deep
+  pub record AreMade (i : ℕ) (funs : List KFun) : Type 0 where
+    pub within : deepest_body (functions_to i) ≤ term_limit
+    pub same : map function_of funs ≡ functions_to i
 
--- one function more
-pub functions_turn : (sigs : List (List ℕ)) (entries : List Entry) (table : BTreeMap (Bor (List ℕ)) Definition) → AreDefinitions entries table → (at : At) (ty : Written) (funs new : List KFun) (f : KFun)
-    → new ≡ funs ++ f ∷ [] → function_of f ≡ function_from sigs table at ty
-    → map function_of new ≡ map function_of funs ++ cons_option (function_of_entry sigs entries (signature at ty)) []
-functions_turn sigs entries table are at ty funs new f grown is =
-    ap (map function_of) grown
-    ∙ map-append function_of funs (f ∷ [])
-    ∙ ap (λ g. map function_of funs ++ g ∷ []) is
-    ∙ ap (λ o. map function_of funs ++ cons_option o []) (sym (function_is sigs entries table are at ty))
+  pub made_more : (i : ℕ) (x : Item) → i < length items → x ≡ get_or items i x → (old new : List KFun) → AreMade i old → deepest_body (cons_option (f (entry_of x)) []) ≤ term_limit
+      → map function_of new ≡ map function_of old ++ cons_option (f (entry_of x)) [] → AreMade (i + 1) new
+  made_more i x within is old new made shallow more =
+      let deep : deepest_body (functions_to (i + 1)) ≡ max (deepest_body (functions_to i)) (deepest_body (cons_option (f (entry_of x)) [])) =
+      ap deepest_body (functions_more i x within is) ∙ deepest-append (functions_to i) (cons_option (f (entry_of x)) []) in
+      let so_far : deepest_body (functions_to i) ≤ term_limit = made.within in
+      record { within = omega arith; same = more ∙ ap (λ l. l ++ cons_option (f (entry_of x)) []) made.same ∙ sym (functions_more i x within is) }
 
--- the items so far, one more
-pub kernel_turn : (h : Entry → Option Function) (items : List Item) (i : ℕ) (x : Item) → i < length items → x ≡ get_or items i x → (funs new : List KFun)
-    → map function_of funs ≡ filter_map h (entries_of (take i items))
-    → map function_of new ≡ map function_of funs ++ cons_option (h (entry_of x)) []
-    → map function_of new ≡ filter_map h (entries_of (take (i + 1) items))
-kernel_turn h items i x within is funs new so_far grown =
-    grown
-    ∙ ap (λ l. l ++ cons_option (h (entry_of x)) []) so_far
-    ∙ sym (filter_map-append h (entries_of (take i items)) (entry_of x ∷ []))
-    ∙ ap (filter_map h) (sym (entries_more items i x within ∙ ap (λ y. entries_of (take i items) ++ entry_of y ∷ []) (sym is)))
+  -- where one more is too deep, all are
+  pub made_over : (i : ℕ) (x : Item) → i < length items → x ≡ get_or items i x → (fault : TermFault) → IsTooDeep fault (term_limit < deepest_body (cons_option (f (entry_of x)) []))
+      → IsTooDeep fault (term_limit < deepest_body (filter_map f (map entry_of items)))
+  made_over i x within is TooDeep over =
+      let deep : deepest_body (functions_to (i + 1)) ≡ max (deepest_body (functions_to i)) (deepest_body (cons_option (f (entry_of x)) [])) =
+      ap deepest_body (functions_more i x within is) ∙ deepest-append (functions_to i) (cons_option (f (entry_of x)) []) in
+      omega (arith, deepest_front (i + 1))
+  made_over i x within is Memory over = over
 
--- the mentions so far, one more
-pub edges_turn : (f : List ℕ → List ℕ) (names : List (Bor (List ℕ))) (i : ℕ) (d : Bor (List ℕ)) → i < length names → (edges new : List (Vec ℕ)) (v : Vec ℕ)
-    → lists edges ≡ map f (texts (take i names)) → new ≡ edges ++ v ∷ [] → v.items ≡ f (get_or names i d).now → lists new ≡ map f (texts (take (i + 1) names))
-edges_turn f names i d within edges new v so_far grown is =
-    ap lists grown
-    ∙ map-append (λ w. w.items) edges (v ∷ [])
-    ∙ ap (λ l. l ++ v.items ∷ []) so_far
-    ∙ ap (λ l. map f (texts (take i names)) ++ l ∷ []) is
-    ∙ sym (map-append f (texts (take i names)) ((get_or names i d).now ∷ []))
-    ∙ ap (map f) (sym (texts_more names i d within))
+-- an answer handed on
+pub kernel_error : (fs : List Function) (fault : TermFault) (r : Result Kernel TermFault) → IsErrAnd r (λ e. e ≡ fault) → IsTooDeep fault (term_limit < deepest_body fs) → KernelSays fs r
+kernel_error fs fault (Ok k) is over = absurd is
+kernel_error fs fault (Err e) is over = subst (λ f. IsTooDeep f (term_limit < deepest_body fs)) (sym is) over
+
+-- the function that is made of the parts of a signature
+pub function_made : (entries : List Entry) (at : At) (vars : List Bound) (ty : STy) (known : Bodies) (names : List (List ℕ)) (n : List ℕ) (at' : At) (vars' : List Bound) (ty' : Ty) (body : Option KBody)
+    → known ≡ bodies entries → names ≡ var_names vars → n ≡ at.name → at' ≡ at → vars' ≡ vars → type_of ty' ≡ expanded known names (written_of ty)
+    → MaybeBodySays (body_of entries names (definition_named entries n)) (Ok body)
+    → FunctionSays (signed entries at vars (written_of ty)) (Ok (record { at = at'; vars = vars'; ty = record { place = ty.place; ty = ty' }; body = body }))
+function_made entries at vars ty known names n at' vars' ty' body is_known are named same_at same_vars same_ty says =
+    let the_type : type_of ty' ≡ expanded (bodies entries) (var_names vars) (written_of ty) =
+    same_ty ∙ ap (λ k. expanded k names (written_of ty)) is_known ∙ ap (λ ns. expanded (bodies entries) ns (written_of ty)) are in
+    let the_body : body_of entries names (definition_named entries n) ≡ body_of entries (var_names vars) (definition_named entries at.name) =
+    ap (λ ns. body_of entries ns (definition_named entries n)) are ∙ ap (λ m. body_of entries (var_names vars) (definition_named entries m)) named in
+    let place : ty.place ≡ place_of (written_of ty) = sym (place_at ty) in
+    let made : MaybeBodySays (body_of entries (var_names vars) (definition_named entries at.name)) (Ok body) = subst (λ b. MaybeBodySays b (Ok body)) the_body says in
+    (made.0, λ k. record { at = same_at k; vars = same_vars k; ty = record { place = place k; ty = the_type k }; body = made.1 k })

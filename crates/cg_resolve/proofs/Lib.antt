@@ -1,11 +1,4 @@
 pub mod AnswerSteps
-pub mod DefinitionSteps
-pub mod FaultSteps
 pub mod FunctionSteps
-pub mod RankSteps
-pub mod ReachSteps
-pub mod SmallSteps
-pub mod Steps
-pub mod Tables
-pub mod TermSteps
-pub mod TypeSteps
+pub mod One
+pub mod OrderSteps

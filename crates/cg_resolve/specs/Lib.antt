@@ -1,10 +1,3 @@
 pub mod Answers
-pub mod Behind
-pub mod Circle
-pub mod Defined
-pub mod Edges
-pub mod Entries
-pub mod Names
-pub mod Reached
-pub mod Says
-pub mod Signed
+pub mod Faults
+pub mod Laws

@@ -1,39 +1,40 @@
 // The functions of a kernel.
-#![tactic(auto, using(std::proofs::lemmas::Grind::common_steps, crate::proofs::FunctionSteps::function_steps))]
+#![tactic(auto)]
 
-ghost use Rattle.std.specs.Prelude.{◌≡◌, List, [], ◌++◌, map, IfOk, OnOk};
-ghost use Rattle.std.specs.List.{filter_map, cons_option};
-ghost use Rattle.cg_core.specs.Kernels.{function_of, maybe_body_of, kernel_of};
-ghost use Rattle.cg_small.specs.Trees.{Entry, entry_of, written_of};
-ghost use Rattle.cg_small.specs.Desugar.{function_of_entry};
-ghost use Rattle.cg_resolve.specs.Defined.{AreDefinitions, body_from, function_from, definition_in};
-ghost use Rattle.cg_resolve.specs.Entries.{entries_of};
-ghost use Rattle.cg_resolve.specs.Signed.{names_of, IsIndexed};
+ghost use Rattle.std.specs.Prelude.{[]};
+ghost use Rattle.std.specs.List.{cons_option};
+ghost use Rattle.cg_surface.specs.Programs.{entry_of};
+ghost use Rattle.cg_surface.specs.Written.{written_of};
+ghost use Rattle.cg_declared.specs.Declarations.{entries_of, IsIndexed};
+ghost use Rattle.cg_declared.specs.Tables.{texts};
+ghost use Rattle.cg_desugar.specs.Declared.{definition_named};
+ghost use Rattle.cg_desugar.specs.Desugar.{functions_of, function_of_entry, body_of, function_of as signed};
+ghost use Rattle.cg_written.specs.Answers.{AreBodies};
+ghost use Rattle.cg_resolve.specs.Answers.{KernelSays, FunctionsSay, FunctionSays, MaybeBodySays};
 
-use crate::definitions::Definitions;
-use crate::signatures::Signatures;
-use crate::terms::term;
-use crate::types::written_type;
-use cg_base::{Items, Memory};
+use crate::copies::{copy_bounds, names_of};
+use cg_base::{Bound, Items, Memory};
 use cg_core::{At, KBody, KFun, Kernel, TyArg};
-use cg_small::{Item, STy};
+use cg_declared::Declarations;
+use cg_surface::{Item, STy};
+use cg_terms::{TermFault, body};
+use cg_written::{Synonyms, written_type};
 use std::alloc::Global;
 
-/// The kernel of these items: the functions of their signatures, in order, each with the body of the first definition of
-/// its name (docs/LANGUAGE.md, "Names"). Want of memory is its one refusal.
-pub fn kernel<'a>(
+/// The kernel of a program: the functions of its signatures, in order, each with the body of the first definition of its name
+/// (docs/LANGUAGE.md, "Desugaring").
+pub fn kernel(
     alloc: Global,
-    signed: &Signatures<'_>,
-    defined: &Definitions<'a>,
-    items: &'a [Item],
-) -> Result<Kernel, Memory>
-    requires { IsIndexed signed.now }
-    ensures { IfOk result (λ k. (entries : List Entry) → AreDefinitions entries defined.now
-        → kernel_of k ≡ filter_map (function_of_entry (names_of signed.now) entries) (entries_of items.now)) }
+    declared: &Declarations<'_>,
+    synonyms: &Synonyms<'_>,
+) -> Result<Kernel, TermFault>
+    requires indexed { IsIndexed declared.now }
+    requires bodies { AreBodies (entries_of declared.now) synonyms.now }
+    ensures { KernelSays (functions_of (entries_of declared.now)) result }
 {
     let mut funs = Items::new(alloc);
-    for item in items {
-        push_function(alloc, signed, defined, &mut funs, item)?;
+    for item in declared.items {
+        push_function(alloc, declared, synonyms, &mut funs, item)?;
     }
     Ok(Kernel { funs })
 }
@@ -41,68 +42,67 @@ pub fn kernel<'a>(
 // Adds the function of an item, where the item is a signature.
 fn push_function(
     alloc: Global,
-    signed: &Signatures<'_>,
-    defined: &Definitions<'_>,
+    declared: &Declarations<'_>,
+    synonyms: &Synonyms<'_>,
     funs: &mut Items<KFun>,
     item: &Item,
-) -> Result<(), Memory>
-    requires { IsIndexed signed.now }
-    ensures { OnOk result ((entries : List Entry) → AreDefinitions entries defined.now
-        → map function_of funs.new ≡ map function_of funs.old ++ cons_option (function_of_entry (names_of signed.now) entries (entry_of item.now)) []) }
+) -> Result<(), TermFault>
+    requires indexed { IsIndexed declared.now }
+    requires bodies { AreBodies (entries_of declared.now) synonyms.now }
+    ensures { FunctionsSay (cons_option (function_of_entry (entries_of declared.now) (entry_of item.now)) []) funs.old funs.new result }
 {
     match item {
-        Item::Define { .. } => Ok(()),
-        Item::Signature { at, ty } => {
-            let function = function(alloc, signed, defined, at, ty)?;
+        Item::Signature { at, vars, ty, .. } => {
+            let function = function(alloc, declared, synonyms, at, vars.as_slice(), ty)?;
             funs.push(function)?;
             Ok(())
         }
+        Item::Synonym { .. } => Ok(()),
+        Item::Abstract { .. } => Ok(()),
+        Item::Define { .. } => Ok(()),
     }
 }
 
 // The function of a signature.
 fn function(
     alloc: Global,
-    signed: &Signatures<'_>,
-    defined: &Definitions<'_>,
+    declared: &Declarations<'_>,
+    synonyms: &Synonyms<'_>,
     at: &At,
+    vars: &[Bound],
     ty: &STy,
-) -> Result<KFun, Memory>
-    requires { IsIndexed signed.now }
-    ensures { IfOk result (λ f. function_of f ≡ function_from (names_of signed.now) defined.now at.now (written_of ty.now)) }
+) -> Result<KFun, TermFault>
+    requires indexed { IsIndexed declared.now }
+    requires bodies { AreBodies (entries_of declared.now) synonyms.now }
+    ensures { FunctionSays (signed (entries_of declared.now) at.now vars.now (written_of ty.now)) result }
 {
-    let body = body(alloc, signed, defined, at.name.bytes())?;
+    let names = names_of(alloc, vars)?;
+    let body = function_body(alloc, declared, synonyms, names.as_slice(), at.name.bytes())?;
     Ok(KFun {
         at: at.copy(alloc)?,
-        vars: Items::new(alloc),
+        vars: copy_bounds(alloc, vars)?,
         ty: TyArg {
             place: ty.place,
-            ty: written_type(alloc, ty)?,
+            ty: written_type(alloc, synonyms, names.as_slice(), ty)?,
         },
         body,
     })
 }
 
 // The body of a function, where it has one.
-fn body(
+fn function_body(
     alloc: Global,
-    signed: &Signatures<'_>,
-    defined: &Definitions<'_>,
+    declared: &Declarations<'_>,
+    synonyms: &Synonyms<'_>,
+    vars: &[&[u8]],
     name: &[u8],
-) -> Result<Option<KBody>, Memory>
-    requires { IsIndexed signed.now }
-    ensures { IfOk result (λ b. maybe_body_of b ≡ body_from (names_of signed.now) (definition_in defined.now name.now)) }
+) -> Result<Option<KBody>, TermFault>
+    requires indexed { IsIndexed declared.now }
+    requires bodies { AreBodies (entries_of declared.now) synonyms.now }
+    ensures { MaybeBodySays (body_of (entries_of declared.now) (texts vars.now) (definition_named (entries_of declared.now) name.now)) result }
 {
-    match defined.get(name) {
+    match declared.definition_named(name) {
         None => Ok(None),
-        Some(definition) => {
-            let mut scope = Vec::new(alloc);
-            scope.push(definition.param.name.bytes())?;
-            let term = term(alloc, signed, &mut scope, definition.body)?;
-            Ok(Some(KBody {
-                param: definition.param.place,
-                term,
-            }))
-        }
+        Some(definition) => Ok(Some(body(alloc, declared, synonyms, vars, &definition)?)),
     }
 }

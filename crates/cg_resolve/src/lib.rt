@@ -1,60 +1,46 @@
-//! From a surface program to its kernel. This is the small language's part: names of variables and functions, and
-//! circles of mentions.
+//! From a surface program to its kernel: names become positions and functions, synonyms are expanded, and patterns, matches and
+//! observers become terms (docs/LANGUAGE.md, "Names", "Synonyms" and "Desugaring").
 #![tactic(auto)]
 
-ghost use Rattle.std.specs.Prelude.{◌≡◌, ◌<◌, length};
+ghost use Rattle.std.specs.Prelude.{IfOk};
+ghost use Rattle.cg_core.specs.Kernels.{kernel_of};
+ghost use Rattle.cg_lawful.specs.Lawful.{IsLawfulKernel};
+ghost use Rattle.cg_surface.specs.Programs.{program_of};
+ghost use Rattle.cg_lawful_laws.specs.Shaped.{IsShaped};
 ghost use Rattle.cg_resolve.specs.Answers.{Answers};
-ghost use Rattle.cg_resolve.specs.Circle.{IsCircleAt};
-ghost use Rattle.cg_small.specs.Trees.{program_of};
 
-mod circles;
-mod definitions;
+mod copies;
+mod counts;
 mod fault;
-mod faults;
 mod functions;
-mod items;
-mod mentions;
-mod names;
-mod ranked;
-mod ranks;
-mod reach;
-mod signatures;
-mod terms;
-mod types;
+mod law;
+mod order;
 
 use cg_core::Kernel;
-use cg_small::Program;
-use circles::find_circle;
-use definitions::definitions;
+use cg_declared::Declarations;
+use cg_names::check_names;
+use cg_surface::Program;
+use cg_takes::check_takes;
+use cg_written::synonyms;
+use counts::check_counts;
 pub use fault::Fault;
-use faults::check_names;
 use functions::kernel;
-use mentions::mentions;
-use signatures::Signatures;
+pub use law::one_answer;
+use order::mention_order;
 use std::alloc::Global;
 
-/// The kernel of a program (docs/LANGUAGE.md, "Names"), or its first fault: N1, N2 or N4, the first in reading order; or,
-/// where there is none of these, N3, the first function that mentions itself through bodies. Want of memory is answered
-/// too where there are more than 2^32 functions, or variables in one scope.
+/// The kernel of a program (docs/LANGUAGE.md, "Desugaring"), or its first fault of names: N1, N2 or N4, the first in reading order;
+/// else N3; else the first N5; or the first of the limits `functions`, `fields`, `type` and `depth` that it passes. Want of memory is
+/// answered too where there are more than 2^32 items, or variables in one scope.
 pub fn resolve(alloc: Global, program: &Program) -> Result<Kernel, Fault>
-    ensures { Answers (program_of program.now) result }
+    ensures answers { Answers (program_of program.now) result }
+    ensures lawful { IsShaped (program_of program.now) → IfOk result (λ k. IsLawfulKernel (kernel_of k)) }
 {
-    let items = program.items.as_slice();
-    let signed = Signatures::new(alloc, items)?;
-    check_names(alloc, &signed, items)?;
-    let defined = definitions(alloc, items)?;
-    let kernel = kernel(alloc, &signed, &defined, items)?;
-    let edges = mentions(alloc, &signed, &defined)?;
-    match find_circle(alloc, edges.as_slice())? {
-        None => Ok(kernel),
-        Some(at) => Err(circle(&kernel, at)),
-    }
-}
-
-// The fault of a circle of this function.
-fn circle(kernel: &Kernel, at: usize) -> Fault
-    requires { at < length kernel.now.funs }
-    ensures { IsCircleAt kernel.now at result }
-{
-    Fault::N3(kernel.funs.as_slice()[at].at.place)
+    let declared = Declarations::new(alloc, program.items.as_slice())?;
+    check_names(alloc, &declared)?;
+    let order = mention_order(alloc, &declared)?;
+    check_takes(alloc, &declared, order.as_slice())?;
+    check_counts(declared.items)?;
+    let synonyms = synonyms(alloc, declared.items, order.as_slice())?;
+    Ok(kernel(alloc, &declared, &synonyms)?)
 }

@@ -1,14 +1,14 @@
 // Evaluation of plain sources, and their C.
 ghost use Rattle.std.specs.Prelude.{IsTrue};
-ghost use Rattle.std.specs.List.{All};
 ghost use Rattle.cg_core.specs.Kernels.{kernel_of};
-ghost use Rattle.cg_core.specs.Small.{IsSmallKernel};
+ghost use Rattle.cg_lawful.specs.Lawful.{IsLawfulKernel};
+ghost use Rattle.cg_lawful_laws.specs.Shaped.{IsShaped};
+ghost use Rattle.cg_surface.specs.Programs.{program_of};
 ghost use Rattle.cg_eval.specs.Plain.{plain_kernel};
 ghost use Rattle.cg_typing.specs.Holds.{kernel_in};
-ghost use Rattle.cg_small.specs.Trees.{program_of, OnlySumsEntry};
 
 use cg_base::{Items, Name, Ty, Word};
-use cg_check::check;
+use cg_check::{check, is_small};
 use cg_cmachine::{RunFault, run_words};
 use cg_core::Kernel;
 use cg_ctext::print_c;
@@ -16,42 +16,33 @@ use cg_eval::{EvalFault, eval, is_plain};
 use cg_lower::{lower, lower_function};
 use cg_parser::parse;
 use cg_resolve::resolve;
-use cg_small::{Program, small};
+use cg_surface::Program;
 use cg_typing::Checked;
 use cg_value::{Value, print_value};
 use std::alloc::Global;
 use std::process::Abort;
 use std::test::Fail;
 
-/// A kernel, checked.
+/// A small kernel, checked.
 fn checked_kernel(rt: &impl Abort, alloc: Global, kernel: Kernel) -> Result<Checked, Fail>
-    requires { IsSmallKernel (kernel_of kernel) }
+    requires { IsLawfulKernel (kernel_of kernel) }
 {
+    if !is_small(&kernel) {
+        panic!(rt; "not small");
+    }
     match check(alloc, kernel) {
         Ok(checked) => Ok(checked),
         Err(_) => panic!(rt; "not accepted"),
     }
 }
 
-/// A small program, resolved and checked.
+/// A program, resolved and checked.
 fn checked_program(rt: &impl Abort, alloc: Global, program: &Program) -> Result<Checked, Fail>
-    requires { All OnlySumsEntry (program_of program.now) }
+    requires { IsShaped (program_of program.now) }
 {
     match resolve(alloc, program) {
         Ok(kernel) => checked_kernel(rt, alloc, kernel),
-        Err(_) => panic!(rt; "a name is at fault"),
-    }
-}
-
-/// A program, made a small one and checked.
-fn checked_spelled(
-    rt: &impl Abort,
-    alloc: Global,
-    program: cg_surface::Program,
-) -> Result<Checked, Fail> {
-    match small(alloc, program) {
-        Ok(Some(program)) => checked_program(rt, alloc, &program),
-        _ => panic!(rt; "not small"),
+        Err(_) => panic!(rt; "a name is at fault, or a limit is passed"),
     }
 }
 
@@ -62,7 +53,7 @@ pub(crate) fn checked_source(
     source: &str,
 ) -> Result<Checked, Fail> {
     match parse(alloc, source.as_bytes()) {
-        Ok(program) => checked_spelled(rt, alloc, program),
+        Ok(program) => checked_program(rt, alloc, &program),
         Err(_) => panic!(rt; "not spelled"),
     }
 }
@@ -129,16 +120,16 @@ fn a_callee_sees_its_argument_alone(rt: HostRuntime) -> Result<(), Fail> {
 }
 
 #[test]
-fn a_chain_of_ten_thousand_calls_is_evaluated(rt: HostRuntime) -> Result<(), Fail> {
+fn a_chain_of_all_functions_is_evaluated(rt: HostRuntime) -> Result<(), Fail> {
     let alloc = rt.alloc();
     let mut source = String::from_str(alloc, "f0 : U32 -> U32\nf0 x = x + 1\n")?;
-    for at in 1..=10_000_u32 {
+    for at in 1..=4_095_u32 {
         let before = at - 1;
         source.push_str(&format!(in alloc; "f{at} : U32 -> U32\nf{at} x = f{before} x\n")?)?;
     }
     let checked = checked_source(&rt, alloc, &source)?;
-    expect(&rt, alloc, &checked, 10_000, 1, 30_003, Some((2, 30_003)))?;
-    expect(&rt, alloc, &checked, 10_000, 1, 30_002, None)
+    expect(&rt, alloc, &checked, 4_095, 1, 12_288, Some((2, 12_288)))?;
+    expect(&rt, alloc, &checked, 4_095, 1, 12_287, None)
 }
 
 #[test]

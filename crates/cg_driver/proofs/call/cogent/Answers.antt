@@ -1,7 +1,9 @@
 use Rattle.cg_heaptext.proofs.Reading.{one_argument}
 use Rattle.cg_parser.proofs.One.{one_program}
-use Rattle.cg_parser.proofs.Same.{one_answer}
-use Rattle.cg_driver.proofs.Deciding.{checks, runs, read_fault, check_refuses, run_refuses, check_done, run_done}
+use Rattle.cg_parser.proofs.Same.{one_answer as one_reading}
+use Rattle.cg_resolve.proofs.One.{one_answer as one_resolving}
+use Rattle.cg_driver.proofs.Deciding.{checks, runs, read_fault, check_done, run_done}
+use Rattle.cg_driver.proofs.Refusing.{check_refuses, check_exceeds, run_refuses, run_exceeds}
 use Rattle.cg_driver.proofs.call.cogent.Goals as goal
 
 pub returns-clause-read_fault : goal.returns-clause-read_fault
@@ -21,8 +23,17 @@ returns-clause-run_done g c held file entry heap steps told asked done same also
     run_done one_program one_argument _ _ held _ _ _ _ _ _ _ c.answer.ensures.answer told no_write file entry heap steps asked done same also
 
 pub returns-clause-check_refuses : goal.returns-clause-check_refuses
-returns-clause-check_refuses g c held file line told asked verdict found = check_refuses one_program one_argument one_answer _ _ held _ _ _ _ _ _ _ c.answer.ensures.answer told verdict file line asked found
+returns-clause-check_refuses g c held file line told asked verdict found =
+    check_refuses one_program one_reading one_resolving file one_argument _ _ held _ _ _ _ _ _ _ c.answer.ensures.answer told verdict line asked found
+
+pub returns-clause-check_exceeds : goal.returns-clause-check_exceeds
+returns-clause-check_exceeds g c held file line told asked verdict found =
+    check_exceeds one_program one_reading one_resolving file one_argument _ _ held _ _ _ _ _ _ _ c.answer.ensures.answer told verdict line asked found
 
 pub returns-clause-run_refuses : goal.returns-clause-run_refuses
 returns-clause-run_refuses g c held file entry heap line steps told asked verdict found =
-    run_refuses one_program one_argument one_answer _ _ held _ _ _ _ _ _ _ c.answer.ensures.answer told verdict file entry heap line steps asked found
+    run_refuses one_program one_reading one_resolving file one_argument _ _ held _ _ _ _ _ _ _ c.answer.ensures.answer told verdict entry heap line steps asked found
+
+pub returns-clause-run_exceeds : goal.returns-clause-run_exceeds
+returns-clause-run_exceeds g c held file entry heap line steps told asked verdict found =
+    run_exceeds one_program one_reading one_resolving file one_argument _ _ held _ _ _ _ _ _ _ c.answer.ensures.answer told verdict entry heap line steps asked found

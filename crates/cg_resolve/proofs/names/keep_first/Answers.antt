@@ -1,7 +1,0 @@
-use Rattle.cg_resolve.specs.Names.{find}
-use Rattle.cg_resolve.proofs.Tables.{kept_new, absent_from}
-use Rattle.cg_resolve.proofs.names.keep_first.Goals as goal
-
-pub returns-in_ok-insert : goal.returns-in_ok-insert
-returns-in_ok-insert g c =
-    kept_new c.args.table.now c.insert.new.self c.args.name c.args.value (absent_from (find c.args.table.now c.args.name.now) c.contains_key.result c.contains_key.ensures c.if-not-contains_key.true) c.in_ok-insert.ensures.updates

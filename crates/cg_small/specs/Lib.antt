@@ -1,4 +1,0 @@
-pub mod Circles
-pub mod Desugar
-pub mod Small
-pub mod Trees
