@@ -1,4 +1,4 @@
-use Rattle.std.proofs.Common.{◌≡◌, map, Ok, sym, ap, ◌∙◌, subst}
+use Rattle.std.proofs.Common.{rules, ◌≡◌, map, Ok, sym, ap, ◌∙◌, subst}
 use Rattle.cg_declared.specs.Declarations.{entries_of}
 use Rattle.cg_lawful.specs.Lawful.{IsLawfulKernel}
 use Rattle.cg_lawful_laws.proofs.Kernel.{desugared_lawful}
@@ -14,7 +14,7 @@ returns-in_err-order-clause-answers c =
     let whole : entries_of c.in_ok-declared.declared ≡ program_of c.args.program.now = c.in_ok-declared.ensures.items ∙ ap (map entry_of) c.as_slice.ensures in
     subst (λ entries. Answers entries c.from_residual-in_err-order.result) whole
     (handed_on (entries_of c.in_ok-declared.declared) c.in_err-order.field-0.0 c.from_residual-in_err-order.result c.from_residual-in_err-order.ensures.1
-    (order_answers (entries_of c.in_ok-declared.declared) c.in_err-order.field-0.0 c.in_ok-check_names.ensures c.in_err-order.ensures))
+    (order_answers (entries_of c.in_ok-declared.declared) c.in_err-order.field-0.0 (search rules) c.in_err-order.ensures))
 
 pub returns-in_err-check_takes-clause-answers : goal.returns-in_err-check_takes-clause-answers
 returns-in_err-check_takes-clause-answers c =
@@ -27,7 +27,7 @@ pub returns-in_err-check_counts-clause-answers : goal.returns-in_err-check_count
 returns-in_err-check_counts-clause-answers c =
     let whole : entries_of c.in_ok-declared.declared ≡ program_of c.args.program.now = c.in_ok-declared.ensures.items ∙ ap (map entry_of) c.as_slice.ensures in
     let names : NamesStand (entries_of c.in_ok-declared.declared) =
-    stand (entries_of c.in_ok-declared.declared) c.in_ok-order.order.items c.in_ok-check_names.ensures c.in_ok-order.ensures c.in_ok-check_takes.ensures in
+    stand (entries_of c.in_ok-declared.declared) c.in_ok-order.order.items c.in_ok-check_names.ensures c.in_ok-order.ensures (search rules) in
     subst (λ entries. Answers entries c.from_residual-in_err-check_counts.result) whole
     (handed_on (entries_of c.in_ok-declared.declared) c.in_err-check_counts.field-0.0 c.from_residual-in_err-check_counts.result c.from_residual-in_err-check_counts.ensures.1
     (count_answers (entries_of c.in_ok-declared.declared) c.in_err-check_counts.field-0.0 names c.in_err-check_counts.ensures))
