@@ -45,7 +45,7 @@ fn the_entry_is_found_by_its_name(rt: HostRuntime) -> Result<(), Fail> {
 }
 
 /// Words on a sum of cost 3, and the number that is printed where the steps are too few.
-const STEPS: [(&[&str], Option<u64>); 22] = [
+const STEPS: [(&[&str], Option<u64>); 29] = [
     (&["run", "a.cg", "f", "h", "--steps", "4"], None),
     (&["run", "a.cg", "f", "h", "--steps", "3"], None),
     (&["run", "a.cg", "f", "h", "--steps", "2"], Some(2)),
@@ -74,6 +74,13 @@ const STEPS: [(&[&str], Option<u64>); 22] = [
         None,
     ),
     (&["run", "a.cg", "f", "h", "--steps", "1099511627776"], None),
+    (&["run", "--", "a.cg", "f", "h"], None),
+    (&["run", "a.cg", "--", "f", "h"], None),
+    (&["run", "a.cg", "f", "--", "h"], None),
+    (&["run", "a.cg", "f", "h", "--"], None),
+    (&["run", "a.cg", "f", "h", "--steps=5", "--"], None),
+    (&["run", "--steps=2", "--", "a.cg", "f", "h"], Some(2)),
+    (&["run", "a.cg", "--steps", "2", "f", "--", "h"], Some(2)),
 ];
 
 #[test]

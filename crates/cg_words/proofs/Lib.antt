@@ -1,1 +1,9 @@
+pub mod Bools
+pub mod Commands
 pub mod Few
+pub mod Refused
+pub mod Rows
+pub mod Rules
+pub mod Sorts
+pub mod Top
+pub mod Walking

@@ -1,2 +1,4 @@
+pub mod Apps
+pub mod Matches
 pub mod Views
 pub mod Words

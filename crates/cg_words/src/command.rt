@@ -1,12 +1,17 @@
 // The commands.
-ghost use Rattle.std.specs.Prelude.{◌≡◌, IfOk, Some};
+ghost use Rattle.std.specs.Prelude.{◌≡◌, IfOk};
 ghost use Rattle.std.specs.Option.{option_map};
-ghost use Rattle.cg_words.specs.Views.{command_view, sorted_view};
-ghost use Rattle.cg_words.specs.Words.{as_check as check_of, as_run as run_of, command_of, texts, HasFewSteps};
+ghost use Rattle.clap.specs.Words.{fault_of, first_of, found_of, rows_of, subcommand_of};
+ghost use Rattle.cg_words.specs.Apps.{cogent_app};
+ghost use Rattle.cg_words.specs.Matches.{check_in, command_from, command_in, run_in};
+ghost use Rattle.cg_words.specs.Views.{command_view};
+ghost use Rattle.cg_words.specs.Words.{command_of, texts, HasFewSteps};
 
-use crate::sort::{Sorted, sort};
+use crate::app::cogent;
 use crate::steps::steps_in;
 use cg_base::Memory;
+use clap::ArgMatches;
+use clap::error::ErrorKind;
 use std::alloc::Global;
 
 /// The number of steps where none is asked for.
@@ -26,26 +31,38 @@ pub enum Command<'a> {
     },
 }
 
-fn as_check<'a>(sorted: &Sorted<'a>) -> Option<Command<'a>>
-    ensures { option_map command_view result ≡ check_of (Some (sorted_view sorted.now)) }
+/// The value that clap found under an id.
+fn text_of<'a>(matches: &ArgMatches<'a>, id: &str) -> Option<&'a str>
+    ensures { option_map (λ s. s.now) result ≡ first_of id.now (rows_of (found_of matches.now)) }
 {
-    match (sorted.names.as_slice(), sorted.values.as_slice()) {
-        ([file], []) => Some(Command::Check { file }),
-        _ => None,
+    matches.get_str(id)
+}
+
+/// `check`, by what clap found.
+fn read_check<'a>(matches: &ArgMatches<'a>) -> Option<Command<'a>>
+    ensures { option_map command_view result ≡ check_in (rows_of (found_of matches.now)) }
+{
+    match text_of(matches, "file") {
+        Some(file) => Some(Command::Check { file }),
+        None => None,
     }
 }
 
-fn as_run<'a>(sorted: &Sorted<'a>) -> Option<Command<'a>>
-    ensures { option_map command_view result ≡ run_of (Some (sorted_view sorted.now)) }
+/// `run`, by what clap found.
+fn read_run<'a>(matches: &ArgMatches<'a>) -> Option<Command<'a>>
+    ensures { option_map command_view result ≡ run_in (rows_of (found_of matches.now)) }
 {
-    let (file, entry, heap, values) = match (sorted.names.as_slice(), sorted.values.as_slice()) {
-        ([file, entry, heap], values) => (*file, *entry, *heap, values),
-        _ => return None,
+    let names = (
+        text_of(matches, "file"),
+        text_of(matches, "entry"),
+        text_of(matches, "heap"),
+    );
+    let (Some(file), Some(entry), Some(heap)) = names else {
+        return None;
     };
-    let steps = match values {
-        [] => DEFAULT_STEPS,
-        [steps] => steps_in(steps)?,
-        _ => return None,
+    let steps = match text_of(matches, "steps") {
+        Some(text) => steps_in(text.as_bytes())?,
+        None => DEFAULT_STEPS,
     };
     Some(Command::Run {
         file,
@@ -55,18 +72,39 @@ fn as_run<'a>(sorted: &Sorted<'a>) -> Option<Command<'a>>
     })
 }
 
+/// The command with this name, by what clap found.
+fn read<'a>(name: &str, matches: &ArgMatches<'a>) -> Option<Command<'a>>
+    ensures { option_map command_view result ≡ command_in name.now (rows_of (found_of matches.now)) }
+{
+    if name == "check" {
+        read_check(matches)
+    } else {
+        read_run(matches)
+    }
+}
+
+/// What clap's answer to the words calls for.
+fn answer<'a>(alloc: Global, words: &'a [String]) -> Result<Option<Command<'a>>, Memory>
+    ensures { IfOk result (λ c. option_map command_view c ≡ command_from (fault_of cogent_app (texts words.now)) (subcommand_of cogent_app (texts words.now))) }
+{
+    let command = cogent(alloc)?;
+    match command.try_get_matches_from(words) {
+        Ok(matches) => match matches.subcommand() {
+            Some((name, inner)) => Ok(read(name, inner)),
+            None => Ok(None),
+        },
+        Err(error) => match error.kind() {
+            ErrorKind::OutOfMemory => Err(Memory),
+            _ => Ok(None),
+        },
+    }
+}
+
 /// The command that the words behind the program's name call for; None where they are no command, as docs/LANGUAGE.md,
 /// "Commands", says. The one error is want of memory.
 pub fn read_words<'a>(alloc: Global, words: &'a [String]) -> Result<Option<Command<'a>>, Memory>
     ensures asks { IfOk result (λ c. option_map command_view c ≡ command_of (texts words.now)) }
     ensures few { IfOk result (λ c. HasFewSteps (option_map command_view c)) }
 {
-    let [word, rest @ ..] = words else {
-        return Ok(None);
-    };
-    match word.as_str() {
-        "check" => Ok(sort(alloc, false, rest)?.and_then(|sorted| as_check(&sorted))),
-        "run" => Ok(sort(alloc, true, rest)?.and_then(|sorted| as_run(&sorted))),
-        _ => Ok(None),
-    }
+    answer(alloc, words)
 }

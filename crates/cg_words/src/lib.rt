@@ -1,8 +1,8 @@
-//! The words of the command line. docs/LANGUAGE.md, "Commands", says which words call for which command.
+//! The words of the command line, read by `clap`. docs/LANGUAGE.md, "Commands", says which words call for which command.
 #![tactic(auto)]
 
+mod app;
 mod command;
-mod sort;
 mod steps;
 
 pub use command::{Command, read_words};

@@ -1,0 +1,97 @@
+-- The commands: what each expects of its words. A command that joins has its lines here, in `Apps`, `Matches` and `Top`.
+use Rattle.std.proofs.Common.{◌≡◌, ◌∙◌, Bool, true, false, true≢false, refl, sym, ap, ap₂, List, [], ◌∷◌, Option, Some, None, option_map, codes}
+use Rattle.clap.specs.Words.{Row, Rule, Text, first_of}
+use Rattle.clap.specs.Simple.{built_leaf, inherited}
+use Rattle.cg_words.specs.Apps.{bare_app, check_app, run_app}
+use Rattle.cg_words.specs.Matches.{check_in, run_by, run_in}
+use Rattle.cg_words.specs.Words.{Command, check, check_names, run_names}
+use Rattle.cg_words.proofs.Rows.{Known, Slot, value_in}
+use Rattle.cg_words.proofs.Rules.{Allowed, Expects, Given, IsLeaf, as_many, listed}
+
+no_steps : {X : Type 0} → false ≡ true → X
+no_steps e = absurd (true≢false (sym e))
+
+-- ---- `check FILE`
+
+abbrev pub check_rules : List Rule
+check_rules = (built_leaf (inherited bare_app.top check_app.top)).rules
+
+pub check_is_leaf : IsLeaf false check_rules
+check_is_leaf = record { steps_long = λ e. no_steps e; steps_id = λ e. no_steps e; other = λ name e. refl; short = λ x. refl; bare = refl }
+
+check_reads : (rows : List Row) (vs : List Text) (n : Option Text) → Allowed false n → Given rows (codes "file" ∷ []) vs → check_in rows ≡ check_names vs (listed n)
+check_reads rows [] n a g = absurd g
+check_reads rows (file ∷ []) None a g = ap (option_map check) (value_in (codes "file") (Some file) rows g.0)
+check_reads rows (file ∷ []) (Some s) a g = no_steps a
+check_reads rows (file ∷ v ∷ vs) n a g = absurd g.1
+
+check_wrong : (names values : List Text) → as_many (codes "file" ∷ []) names ≡ false → check_names names values ≡ None
+check_wrong [] values e = refl
+check_wrong (file ∷ []) values e = absurd (true≢false e)
+check_wrong (file ∷ v ∷ names) values e = refl
+
+check_twice : (names : List Text) (a b : Text) (values : List Text) → check_names names (a ∷ b ∷ values) ≡ None
+check_twice [] a b values = refl
+check_twice (file ∷ []) a b values = refl
+check_twice (file ∷ v ∷ names) a b values = refl
+
+pub check_expects : Expects false check_rules check_in (codes "file" ∷ []) 1 check_names []
+check_expects = record {
+  numbered = (refl, refl, refl);
+  apart = refl;
+  no_steps = refl;
+  lacks = λ rows k. refl;
+  reads = λ rows vs n a k g e. check_reads rows vs n a g;
+  wrong = check_wrong;
+  twice = check_twice;
+}
+
+-- ---- `run FILE ENTRY HEAPFILE [--steps N]`
+
+abbrev pub run_rules : List Rule
+run_rules = (built_leaf (inherited bare_app.top run_app.top)).rules
+
+pub run_is_leaf : IsLeaf true run_rules
+run_is_leaf = record { steps_long = λ e. refl; steps_id = λ e. refl; other = λ name e. rw e refl; short = λ x. refl; bare = refl }
+
+abbrev run_ids : List Text
+run_ids = codes "file" ∷ codes "entry" ∷ codes "heap" ∷ []
+
+run_given : (rows : List Row) (file entry heap : Text) (n : Option Text) → Given rows run_ids (file ∷ entry ∷ heap ∷ []) → Slot rows (codes "steps") n
+    → run_in rows ≡ run_by (Some file) (Some entry) (Some heap) n
+run_given rows file entry heap n g e =
+    ap₂ (λ x y. run_by x y (first_of (codes "heap") rows) (first_of (codes "steps") rows)) (value_in (codes "file") (Some file) rows g.0) (value_in (codes "entry") (Some entry) rows g.1.0)
+    ∙ ap₂ (λ x y. run_by (Some file) (Some entry) x y) (value_in (codes "heap") (Some heap) rows g.1.1.0) (value_in (codes "steps") n rows e)
+
+run_reads : (rows : List Row) (vs : List Text) (n : Option Text) → Given rows run_ids vs → Slot rows (codes "steps") n → run_in rows ≡ run_names vs (listed n)
+run_reads rows [] n g e = absurd g
+run_reads rows (file ∷ []) n g e = absurd g.1
+run_reads rows (file ∷ entry ∷ []) n g e = absurd g.1.1
+run_reads rows (file ∷ entry ∷ heap ∷ []) None g e = run_given rows file entry heap None g e
+run_reads rows (file ∷ entry ∷ heap ∷ []) (Some s) g e = run_given rows file entry heap (Some s) g e
+run_reads rows (file ∷ entry ∷ heap ∷ v ∷ vs) n g e = absurd g.1.1.1
+
+run_wrong : (names values : List Text) → as_many run_ids names ≡ false → run_names names values ≡ None
+run_wrong [] values e = refl
+run_wrong (file ∷ []) values e = refl
+run_wrong (file ∷ entry ∷ []) values e = refl
+run_wrong (file ∷ entry ∷ heap ∷ []) values e = absurd (true≢false e)
+run_wrong (file ∷ entry ∷ heap ∷ v ∷ names) values e = refl
+
+run_twice : (names : List Text) (a b : Text) (values : List Text) → run_names names (a ∷ b ∷ values) ≡ None
+run_twice [] a b values = refl
+run_twice (file ∷ []) a b values = refl
+run_twice (file ∷ entry ∷ []) a b values = refl
+run_twice (file ∷ entry ∷ heap ∷ []) a b values = refl
+run_twice (file ∷ entry ∷ heap ∷ v ∷ names) a b values = refl
+
+pub run_expects : Expects true run_rules run_in run_ids 1 run_names []
+run_expects = record {
+  numbered = (refl, refl, (refl, refl, (refl, refl, refl)));
+  apart = refl;
+  no_steps = refl;
+  lacks = λ rows k. refl;
+  reads = λ rows vs n a k g e. run_reads rows vs n g e;
+  wrong = run_wrong;
+  twice = run_twice;
+}

@@ -1,0 +1,59 @@
+// The command line as clap is told of it.
+ghost use Rattle.std.specs.Prelude.{◌≡◌, false, IfOk};
+ghost use Rattle.clap.specs.Words.{app_of, rule_of, shape_of};
+ghost use Rattle.clap.specs.declared.builder.command.Command.TheViews.{out-Command as fields_of};
+ghost use Rattle.cg_words.specs.Apps.{bare_app, check_app, cogent_app, name_rule, run_app};
+
+use clap::{Arg, Command};
+use std::alloc::{AllocError, Global};
+
+/// A name that has to be given.
+fn name<'a>(alloc: Global, id: &'a str) -> Arg<'a>
+    ensures rule { rule_of result ≡ name_rule id.now }
+    ensures global { result.global ≡ false }
+{
+    Arg::new(alloc, id).required(true)
+}
+
+/// `check FILE`.
+fn check<'a>(alloc: Global) -> Result<Command<'a>, AllocError>
+    ensures app { IfOk result (λ c. app_of c ≡ check_app) }
+    ensures shape { IfOk result (λ c. shape_of c ≡ check_app.top) }
+    ensures globals { IfOk result (λ c. (fields_of c).has_globals ≡ false) }
+{
+    Command::new(alloc, "check").arg(name(alloc, "file"))
+}
+
+/// `run FILE ENTRY HEAPFILE [--steps N]`.
+fn run<'a>(alloc: Global) -> Result<Command<'a>, AllocError>
+    ensures app { IfOk result (λ c. app_of c ≡ run_app) }
+    ensures shape { IfOk result (λ c. shape_of c ≡ run_app.top) }
+    ensures globals { IfOk result (λ c. (fields_of c).has_globals ≡ false) }
+{
+    Command::new(alloc, "run")
+        .arg(name(alloc, "file"))?
+        .arg(name(alloc, "entry"))?
+        .arg(name(alloc, "heap"))?
+        .arg(Arg::new(alloc, "steps").long("steps"))
+}
+
+/// The whole command line, without its commands: it has no help and no version of clap's.
+fn bare<'a>(alloc: Global) -> Command<'a>
+    ensures { app_of result ≡ bare_app }
+{
+    Command::new(alloc, "cogent")
+        .no_binary_name(true)
+        .disable_help_flag(true)
+        .disable_help_subcommand(true)
+        .disable_version_flag(true)
+        .subcommand_required(true)
+}
+
+/// The whole command line.
+pub(crate) fn cogent<'a>(alloc: Global) -> Result<Command<'a>, AllocError>
+    ensures { IfOk result (λ c. app_of c ≡ cogent_app) }
+{
+    bare(alloc)
+        .subcommand(check(alloc)?)?
+        .subcommand(run(alloc)?)
+}
