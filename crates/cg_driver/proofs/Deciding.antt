@@ -385,6 +385,15 @@ read_fault c h before now old new f f' s a e = go c (subst (Answers (SaysOf c h 
     go (Some (check file)) a = (file, refl, a.1.0)
     go (Some (run file entry heap steps)) a = fails file entry heap steps a.0 a.1
 
+-- the usage text is for words that are no command
+pub usage_only : (c : Option Command) (h : Option Held) (before now : List ℕ → ℕ) (old new : Option (List ℕ)) (f f' : ℕ) (s : Status) → Answers (SaysOf c h before now) old new f f' s → s ≡ Usage → c ≡ None
+usage_only c h before now old new f f' s a e = go c (subst (Answers (SaysOf c h before now) old new f f') e a)
+  where
+    go : (c : Option Command) → Answers (SaysOf c h before now) old new f f' Usage → c ≡ None
+    go None a = refl
+    go (Some (check file)) a = absurd a.1.2
+    go (Some (run file entry heap steps)) a = absurd a.1.2.judged
+
 -- the seven lines
 seven_lines : (c : Option Command) (h : Option Held) (before now : List ℕ → ℕ) (old new : Option (List ℕ)) (f f' : ℕ) (s : Status) → Answers (SaysOf c h before now) old new f f' s
     → (file entry heap : List ℕ) (steps : ℕ) → c ≡ Some (run file entry heap steps) → s ≡ Done

@@ -2,12 +2,15 @@ use Rattle.cg_heaptext.proofs.Reading.{one_argument}
 use Rattle.cg_parser.proofs.One.{one_program}
 use Rattle.cg_parser.proofs.Same.{one_answer as one_reading}
 use Rattle.cg_resolve.proofs.One.{one_answer as one_resolving}
-use Rattle.cg_driver.proofs.Deciding.{checks, runs, read_fault, check_done, run_done}
+use Rattle.cg_driver.proofs.Deciding.{checks, runs, read_fault, usage_only, check_done, run_done}
 use Rattle.cg_driver.proofs.Refusing.{check_refuses, check_exceeds, run_refuses, run_exceeds}
 use Rattle.cg_driver.proofs.call.cogent.Goals as goal
 
 pub returns-clause-read_fault : goal.returns-clause-read_fault
 returns-clause-read_fault g c e = read_fault _ _ _ _ _ _ _ _ _ c.answer.ensures.answer e
+
+pub returns-clause-usage : goal.returns-clause-usage
+returns-clause-usage g c e = usage_only _ _ _ _ _ _ _ _ _ c.answer.ensures.answer e
 
 pub returns-clause-checks : goal.returns-clause-checks
 returns-clause-checks g c held file told asked verdict = checks one_program one_argument _ _ held _ _ _ _ _ _ _ c.answer.ensures.answer file told asked verdict
