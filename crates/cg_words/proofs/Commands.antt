@@ -1,11 +1,11 @@
 -- The commands: what each expects of its words. A command that joins has its lines here, in `Apps`, `Matches` and `Top`.
-use Rattle.std.proofs.Common.{◌≡◌, ◌∙◌, Bool, true, false, true≢false, refl, sym, ap, ap₂, List, [], ◌∷◌, Option, Some, None, option_map, codes}
+use Rattle.std.proofs.Common.{◌≡◌, ◌∙◌, true, false, true≢false, refl, sym, ap, ap₂, List, [], ◌∷◌, Option, Some, None, option_map, codes}
 use Rattle.clap.specs.Words.{Row, Rule, Text, first_of}
 use Rattle.clap.specs.Simple.{built_leaf, inherited}
 use Rattle.cg_words.specs.Apps.{bare_app, check_app, run_app}
 use Rattle.cg_words.specs.Matches.{check_in, run_by, run_in}
-use Rattle.cg_words.specs.Words.{Command, check, check_names, run_names}
-use Rattle.cg_words.proofs.Rows.{Known, Slot, value_in}
+use Rattle.cg_words.specs.Words.{check, check_names, run_names}
+use Rattle.cg_words.proofs.Rows.{Slot, value_in}
 use Rattle.cg_words.proofs.Rules.{Allowed, Expects, Given, IsLeaf, as_many, listed}
 
 no_steps : {X : Type 0} → false ≡ true → X

@@ -1,6 +1,7 @@
 pub mod Bools
 pub mod Commands
 pub mod Few
+pub mod Named
 pub mod Refused
 pub mod Rows
 pub mod Rules

@@ -1,9 +1,9 @@
 -- What the walk over a command's words needs of what clap was told of it.
-use Rattle.std.proofs.Common.{◌≡◌, ◌∙◌, ℕ, Bool, cond, true, false, true≢false, refl, sym, ap, List, [], ◌∷◌, Option, Some, None, fold, min, ◌&&◌, ◌||◌, ◌+◌, not, codes}
+use Rattle.std.proofs.Common.{◌≡◌, ◌∙◌, ℕ, Bool, true, false, true≢false, refl, sym, ap, List, [], ◌∷◌, Option, Some, None, fold, min, ◌&&◌, ◌||◌, ◌+◌, not, codes}
 use Rattle.std.specs.Prelude.{⊤}
 use Rattle.std.specs.List.{list_all, list_any}
 use Rattle.std.specs.Str.{bytes_eq}
-use Rattle.clap.specs.Words.{Kinds, Row, Rule, Shape, Text}
+use Rattle.clap.specs.Words.{Row, Rule, Shape, Text}
 use Rattle.clap.specs.Faults.{defaults_fault}
 use Rattle.clap.specs.Lexer.{usize_max}
 use Rattle.clap.specs.Simple.{built_leaf, filled, inherited, with_index}

@@ -9,7 +9,7 @@ use Rattle.clap.specs.Faults.{entered_fault, walk_fault, defaults_fault, flags_f
 use Rattle.clap.specs.Simple.{entered, names_of}
 use Rattle.cg_words.specs.Apps.{cogent_app}
 use Rattle.cg_words.specs.Matches.{check_in, command_from, run_in}
-use Rattle.cg_words.specs.Words.{Command, command_of, is_option}
+use Rattle.cg_words.specs.Words.{Command, command_of}
 use Rattle.cg_words.proofs.Commands.{check_expects, check_is_leaf, check_rules, run_expects, run_is_leaf, run_rules}
 use Rattle.cg_words.proofs.Sorts.{AllUtf8, Sort, dashes, first_char, other, plain, short, sort_of, steps, steps_is}
 use Rattle.cg_words.proofs.Walking.{leaf_words, out, read_of, state}

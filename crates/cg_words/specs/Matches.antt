@@ -1,5 +1,5 @@
 -- The command that clap's matches give.
-use Rattle.std.specs.Prelude.{List, [], ◌∷◌, Option, Some, None, codes, if◌then◌else◌, option_map}
+use Rattle.std.specs.Prelude.{List, [], Option, Some, None, codes, if◌then◌else◌, option_map}
 use Rattle.std.specs.Str.{bytes_eq}
 use Rattle.clap.specs.Words.{Kinds, Row, Text, first_of}
 use Rattle.cg_words.specs.Words.{Command, check, run, default_steps, steps_in}

@@ -53,7 +53,7 @@ with_name word s = record { names = word ∷ s.names; values = s.values }
 abbrev pub with_value : List ℕ → Sorted → Sorted
 with_value word s = record { names = s.names; values = word ∷ s.values }
 
--- the words behind a command's name, of a command that has steps or not; `awaits` where the word before them was `--steps`
+-- the words behind a command's name: has the command steps, and was the word before them `--steps`? A word `--` ends the options
 abbrev pub sorted : Bool → Bool → List (List ℕ) → Option Sorted
 sorted has_steps true [] = None
 sorted has_steps true (word ∷ rest) = if is_option word then None else option_map (with_value word) (sorted has_steps false rest)

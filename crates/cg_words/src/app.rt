@@ -1,8 +1,8 @@
 // The command line as clap is told of it.
-ghost use Rattle.std.specs.Prelude.{◌≡◌, false, IfOk};
+ghost use Rattle.std.specs.Prelude.{◌≡◌, false, map, IfOk};
 ghost use Rattle.clap.specs.Words.{app_of, rule_of, shape_of};
 ghost use Rattle.clap.specs.declared.builder.command.Command.TheViews.{out-Command as fields_of};
-ghost use Rattle.cg_words.specs.Apps.{bare_app, check_app, cogent_app, name_rule, run_app};
+ghost use Rattle.cg_words.specs.Apps.{bare_app, cogent_app, name_rule, named, run_app};
 
 use clap::{Arg, Command};
 use std::alloc::{AllocError, Global};
@@ -15,13 +15,17 @@ fn name<'a>(alloc: Global, id: &'a str) -> Arg<'a>
     Arg::new(alloc, id).required(true)
 }
 
-/// `check FILE`.
-fn check<'a>(alloc: Global) -> Result<Command<'a>, AllocError>
-    ensures app { IfOk result (λ c. app_of c ≡ check_app) }
-    ensures shape { IfOk result (λ c. shape_of c ≡ check_app.top) }
+/// A command with these names, in their order.
+fn command<'a>(alloc: Global, word: &'a str, names: &[&'a str]) -> Result<Command<'a>, AllocError>
+    ensures app { IfOk result (λ c. app_of c ≡ named word.now (map (λ n. n.now) names.now)) }
+    ensures shape { IfOk result (λ c. shape_of c ≡ (named word.now (map (λ n. n.now) names.now)).top) }
     ensures globals { IfOk result (λ c. (fields_of c).has_globals ≡ false) }
 {
-    Command::new(alloc, "check").arg(name(alloc, "file"))
+    let mut command = Command::new(alloc, word);
+    for id in names {
+        command = command.arg(name(alloc, *id))?;
+    }
+    Ok(command)
 }
 
 /// `run FILE ENTRY HEAPFILE [--steps N]`.
@@ -30,11 +34,7 @@ fn run<'a>(alloc: Global) -> Result<Command<'a>, AllocError>
     ensures shape { IfOk result (λ c. shape_of c ≡ run_app.top) }
     ensures globals { IfOk result (λ c. (fields_of c).has_globals ≡ false) }
 {
-    Command::new(alloc, "run")
-        .arg(name(alloc, "file"))?
-        .arg(name(alloc, "entry"))?
-        .arg(name(alloc, "heap"))?
-        .arg(Arg::new(alloc, "steps").long("steps"))
+    command(alloc, "run", &["file", "entry", "heap"])?.arg(Arg::new(alloc, "steps").long("steps"))
 }
 
 /// The whole command line, without its commands: it has no help and no version of clap's.
@@ -54,6 +54,6 @@ pub(crate) fn cogent<'a>(alloc: Global) -> Result<Command<'a>, AllocError>
     ensures { IfOk result (λ c. app_of c ≡ cogent_app) }
 {
     bare(alloc)
-        .subcommand(check(alloc)?)?
+        .subcommand(command(alloc, "check", &["file"])?)?
         .subcommand(run(alloc)?)
 }
