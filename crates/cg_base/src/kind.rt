@@ -29,7 +29,7 @@ pub struct Kinds {
 }
 
 /// A type variable with its constraint.
-#[derive(Debug, Drop)]
+#[derive(Drop)]
 pub struct Bound {
     pub name: Name,
     pub kinds: Kinds,

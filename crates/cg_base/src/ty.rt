@@ -7,7 +7,7 @@ use std::alloc::Global;
 
 /// A field of a record, or an alternative of a variant.
 #[cycle(ty)]
-#[derive(Debug, Drop)]
+#[derive(Drop)]
 pub struct Part {
     pub name: Name,
     pub ty: Ty,
@@ -18,7 +18,7 @@ pub struct Part {
 /// function, and `Seen` the same one observed. The alternatives of a variant stand in the byte order of
 /// their names, and the fields of a record in the order in which they were written.
 #[cycle(ty)]
-#[derive(Debug, Drop)]
+#[derive(Drop)]
 pub enum Ty {
     Var(u32),
     Seen(u32),

@@ -27,7 +27,7 @@ use cg_kinds::{kinds_of, same};
 use std::alloc::Global;
 
 /// The type of a term, and which variables of the context it uses.
-#[derive(Debug, Drop)]
+#[derive(Drop)]
 pub struct Got {
     pub ty: Ty,
     pub uses: Vec<bool>,

@@ -6,7 +6,7 @@ use cg_base::{Memory, Name, Place, Ty};
 use std::alloc::Global;
 
 /// A name, and where it is written.
-#[derive(Debug, Drop)]
+#[derive(Drop)]
 pub struct At {
     pub place: Place,
     pub name: Name,
@@ -25,7 +25,7 @@ impl At {
 }
 
 /// A written type, as a type argument, and where it is written.
-#[derive(Debug, Drop)]
+#[derive(Drop)]
 pub struct TyArg {
     pub place: Place,
     pub ty: Ty,

@@ -38,7 +38,7 @@ pub enum Node {
 
 /// A derivation: its rule, a list of marks for each of its splits, and the derivations of its parts
 /// (docs/LANGUAGE.md, "Typing").
-#[derive(Debug, Drop)]
+#[derive(Drop)]
 pub struct Deriv {
     pub node: Node,
     pub marks: Items<Items<Mark>>,

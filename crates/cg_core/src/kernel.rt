@@ -3,7 +3,7 @@ use crate::{At, Term, TyArg};
 use cg_base::{Bound, Items, Place};
 
 /// A function of a source: its name, its type variables, its type, and its body, where it has one.
-#[derive(Debug, Drop)]
+#[derive(Drop)]
 pub struct KFun {
     pub at: At,
     pub vars: Items<Bound>,
@@ -12,7 +12,7 @@ pub struct KFun {
 }
 
 /// The body of a function: where its parameter is written, and its term in the context of that one.
-#[derive(Debug, Drop)]
+#[derive(Drop)]
 pub struct KBody {
     pub param: Place,
     pub term: Term<Place>,
@@ -20,7 +20,7 @@ pub struct KBody {
 
 /// A source with its names resolved: its functions in the order of their signatures
 /// (docs/LANGUAGE.md, "Names").
-#[derive(Debug, Drop)]
+#[derive(Drop)]
 pub struct Kernel {
     pub funs: Items<KFun>,
 }

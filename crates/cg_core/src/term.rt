@@ -10,7 +10,7 @@ pub struct Seen {
 }
 
 /// The note of a core's node: where it is written, and its type.
-#[derive(Debug, Drop)]
+#[derive(Drop)]
 pub struct Typed {
     pub place: Place,
     pub ty: Ty,
@@ -19,16 +19,24 @@ pub struct Typed {
 /// A term, with a note at each node: a kernel term's notes are places, and those of a core are places with
 /// types (the paper's core terms, section 3).
 #[cycle(term)]
-#[derive(Debug, Drop)]
 pub struct Term<A> {
     pub note: A,
     pub form: Form<A>,
 }
 
+impl<A: Drop> Drop for Term<A> {
+    #[cycle(term)]
+    fn drop(self) {
+        let Term { note, form } = self;
+        drop(note);
+        drop(form);
+    }
+}
+
 /// The forms of terms (docs/LANGUAGE.md, "Terms"). `Var` is a variable, by its position in the context. A
 /// `Place` inside a form is where a variable is bound, and an `At` a field or an alternative that is named.
 #[cycle(term)]
-#[derive(Debug, Drop)]
+#[derive(Drop)]
 pub enum Form<A> {
     Var(u32),
     Unit,
@@ -53,7 +61,7 @@ pub enum Form<A> {
 
 /// A field of a record that is made, with its value.
 #[cycle(term)]
-#[derive(Debug, Drop)]
+#[derive(Drop)]
 pub struct FieldTerm<A> {
     pub name: Name,
     pub term: Term<A>,

@@ -2,7 +2,7 @@
 use cg_base::{Items, Name, Word};
 
 /// A type: an unsigned word, a struct, or a pointer to a struct.
-#[derive(Debug, Drop)]
+#[derive(Drop)]
 pub enum CTy {
     Word(Word),
     Struct(Name),
@@ -10,21 +10,21 @@ pub enum CTy {
 }
 
 /// A declaration of a member, a parameter or a local.
-#[derive(Debug, Drop)]
+#[derive(Drop)]
 pub struct CDecl {
     pub ty: CTy,
     pub name: Name,
 }
 
 /// A struct. The first of a name counts.
-#[derive(Debug, Drop)]
+#[derive(Drop)]
 pub struct CStruct {
     pub name: Name,
     pub members: Items<CDecl>,
 }
 
 /// A function, with a body where it is defined. The first of a name counts.
-#[derive(Debug, Drop)]
+#[derive(Drop)]
 pub struct CFun {
     pub ty: CTy,
     pub name: Name,
@@ -33,21 +33,21 @@ pub struct CFun {
 }
 
 /// A body: its locals, which begin unset, and its statements.
-#[derive(Debug, Drop)]
+#[derive(Drop)]
 pub struct CBody {
     pub locals: Items<CDecl>,
     pub stmts: Items<CStmt>,
 }
 
 /// A program.
-#[derive(Debug, Drop)]
+#[derive(Drop)]
 pub struct CProgram {
     pub structs: Items<CStruct>,
     pub funs: Items<CFun>,
 }
 
 /// A path: a variable, and members of it. The arrow stands before the first member.
-#[derive(Debug, Drop)]
+#[derive(Drop)]
 pub struct CPath {
     pub base: Name,
     pub arrow: bool,
@@ -55,7 +55,7 @@ pub struct CPath {
 }
 
 /// An operand: a number, or what stands at a path.
-#[derive(Debug, Drop)]
+#[derive(Drop)]
 pub enum COpnd {
     Number(u64),
     Path(CPath),
@@ -84,7 +84,7 @@ pub enum COp {
 
 /// What is assigned: an operand, `(w)o`, `(w)((v)l op (v)r)`, `(w)(~(v)o)`, `(uint8_t)(o == 0)`, a call, or
 /// `cg_new(q, sizeof(struct S))`. In `Binary` and `Flip` the first word is the outer one.
-#[derive(Debug, Drop)]
+#[derive(Drop)]
 pub enum CRhs {
     Opnd(COpnd),
     Conv(Word, COpnd),
@@ -97,7 +97,7 @@ pub enum CRhs {
 
 /// A statement.
 #[cycle(statement)]
-#[derive(Debug, Drop)]
+#[derive(Drop)]
 pub enum CStmt {
     Assign(CPath, CRhs),
     If(COpnd, Items<CStmt>, Items<CStmt>),
@@ -109,7 +109,7 @@ pub enum CStmt {
 
 /// A case of a switch: its number, and its statements.
 #[cycle(statement)]
-#[derive(Debug, Drop)]
+#[derive(Drop)]
 pub struct CCase {
     pub tag: u64,
     pub body: Items<CStmt>,

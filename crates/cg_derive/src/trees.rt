@@ -123,7 +123,7 @@ fn listed(alloc: Global, marks: &Vec<Mark>) -> Result<Items<Mark>, Memory>
 }
 
 // A split: its marks, and which variables are present on either side.
-#[derive(Debug, Drop)]
+#[derive(Drop)]
 struct Sides {
     marks: Items<Mark>,
     first: Vec<bool>,

@@ -7,7 +7,7 @@ use std::marker::Model;
 
 /// The names of the calls of one kind that failed, the first first. Contracts see the list of the names; how often a
 /// name stands in it is the count of its failed calls, as docs/LANGUAGE.md, "The outside", has it.
-#[derive(Debug, Drop)]
+#[derive(Drop)]
 pub struct Failures {
     names: Vec<Name>,
 }

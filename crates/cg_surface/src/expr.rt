@@ -5,16 +5,23 @@ use cg_core::{At, Op};
 
 /// An expression, at the place of its first token; an operator with two operands stands at its sign's place.
 #[cycle(expr)]
-#[derive(Debug, Drop)]
 pub struct SExpr {
     pub place: Place,
     pub form: SForm,
 }
 
+impl Drop for SExpr {
+    #[cycle(expr)]
+    fn drop(self) {
+        let SExpr { place: _, form } = self;
+        drop(form);
+    }
+}
+
 /// The form of an expression: docs/LANGUAGE.md, "Expressions". `Name` has the type arguments that are written; a number is
 /// None where it is above 2^64 - 1; `Sig` is `(e : t)`; the names of `If` and `Match` are those that are observed.
 #[cycle(expr)]
-#[derive(Debug, Drop)]
+#[derive(Drop)]
 pub enum SForm {
     Name(Name, Items<STy>),
     Number(Option<u64>),
@@ -38,7 +45,7 @@ pub enum SForm {
 
 /// What a `let` binds: a pattern, an expression, and the variables that are observed in it.
 #[cycle(expr)]
-#[derive(Debug, Drop)]
+#[derive(Drop)]
 pub struct Bind {
     pub pat: Pat,
     pub value: SExpr,
@@ -47,7 +54,7 @@ pub struct Bind {
 
 /// A field with its value; a field written alone has the variable of its name, at its own place.
 #[cycle(expr)]
-#[derive(Debug, Drop)]
+#[derive(Drop)]
 pub struct FExpr {
     pub at: At,
     pub value: SExpr,
@@ -55,7 +62,7 @@ pub struct FExpr {
 
 /// An alternative of a match, at the place of its constructor, or of its pattern where it has none.
 #[cycle(expr)]
-#[derive(Debug, Drop)]
+#[derive(Drop)]
 pub struct Alt {
     pub place: Place,
     pub con: Option<Name>,

@@ -4,14 +4,14 @@ use cg_base::{Bound, Items, Place};
 use cg_core::At;
 
 /// A program: its items in order.
-#[derive(Debug, Drop)]
+#[derive(Drop)]
 pub struct Program {
     pub items: Items<Item>,
 }
 
 /// An item: docs/LANGUAGE.md, "Items". A synonym is `type Name params = body`, an abstract type the same without a body, a
 /// signature `name : all vars. type`, with the place of each variable, and a definition `name param = body`.
-#[derive(Debug, Drop)]
+#[derive(Drop)]
 pub enum Item {
     Synonym {
         at: At,

@@ -109,15 +109,13 @@ branched p branch other e scope = term p (if_else e (branch scope) (other scope)
 pub branched_uses : (p : Place) (branch other : Scope → Term) → Uses (Some 1) (branched p branch other)
 branched_uses p branch other = λ e scope. omega arith
 
-pub branched_says : (a b : Site) (made : (Term → Scope → Term) → Term) (p : Place) (branch other : Scope → Term) (e y n w t : code.Term Place) → a.frames.items ≡ []
-    → Looked (Some 1) a made (the_term e) b → Says (level b + 1) (branch (scope_in b)) (Ok y) → Says (level b + 1) (other (scope_in b)) (Ok n)
-    → the_term w ≡ term p (if_else (the_term e) (the_term y) (the_term n)) → the_term t ≡ inside b (the_term w) → Says a.above (made (branched p branch other)) (Ok t)
-branched_says a b made p branch other e y n w t none looked first second is closed =
-    looked_says (Some 1) a b made (branched p branch other) none (branched_uses p branch other) (the_term e) (Ok t) looked
-    (closed ∙ ap (inside b) branches, inside_says b (branched p branch other (the_term e) (scope_in b)) looked.fits room)
+pub branches_say : (b : Site) (p : Place) (s branch other : Term) (y n w t : code.Term Place) → Fits b → HasRoom (Some 1) (level b) (depth_of s)
+    → Says (level b + 1) branch (Ok y) → Says (level b + 1) other (Ok n) → the_term w ≡ term p (if_else s (the_term y) (the_term n)) → the_term t ≡ inside b (the_term w)
+    → Says b.above (inside b (term p (if_else s branch other))) (Ok t)
+branches_say b p s branch other y n w t fits room first second is closed = (closed ∙ ap (inside b) same, inside_says b (term p (if_else s branch other)) fits deep)
   where
-    branches : the_term w ≡ branched p branch other (the_term e) (scope_in b)
-    branches = is ∙ ap (λ u. term p (if_else (the_term e) u (the_term n))) first.0 ∙ ap (λ u. term p (if_else (the_term e) (branch (scope_in b)) u)) second.0
+    same : the_term w ≡ term p (if_else s branch other)
+    same = is ∙ ap (λ u. term p (if_else s u (the_term n))) first.0 ∙ ap (λ u. term p (if_else s branch u)) second.0
 
-    room : level b + depth_of (branched p branch other (the_term e) (scope_in b)) ≤ term_limit
-    room = omega (arith, first.1, second.1, depth_pos (branch (scope_in b)), looked.room (omega (arith, first.1, depth_pos (branch (scope_in b)))))
+    deep : level b + depth_of (term p (if_else s branch other)) ≤ term_limit
+    deep = omega (arith, first.1, second.1, depth_pos branch, room (omega (arith, first.1, depth_pos branch)))

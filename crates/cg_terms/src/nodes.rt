@@ -2,7 +2,7 @@
 #![tactic(auto, using(std::proofs::lemmas::Grind::common_steps, crate::proofs::NodeSteps::node_steps), unfolding(cg_core::specs::Terms::to_trees))]
 
 ghost use Rattle.std.specs.Prelude.{◌≡◌, map, IfOk};
-ghost use Rattle.cg_core.specs.Kernels.{the_term};
+ghost use Rattle.cg_core.specs.Kernels.{the_term, the_form};
 ghost use Rattle.cg_core.specs.Terms.{term, unit, fun, op as op_shape, more, none as no_terms, app, if_else, con, esac, member as member_shape, put as put_shape, cast, annot, arg_of};
 
 use cg_base::{Fun, Items, Memory, Name, Place};
@@ -17,6 +17,13 @@ pub fn unit_term(place: Place) -> Term<Place>
         note: place,
         form: Form::Unit,
     }
+}
+
+/// A term at a place, by its form.
+pub fn formed(place: Place, form: Form<Place>) -> Term<Place>
+    ensures { the_term result ≡ term place (the_form form) }
+{
+    Term { note: place, form }
 }
 
 /// A function with the types that it is applied to.

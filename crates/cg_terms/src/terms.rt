@@ -3,10 +3,10 @@
 
 ghost use Rattle.std.specs.Prelude.{◌≡◌, ◌+◌, ◌*◌, ◌<◌, ◌≤◌, [], map, Option, Some, None, MatchOption, length, ⊤, IfOk, OnOk};
 ghost use Rattle.cg_core.specs.Kernels.{the_term};
-ghost use Rattle.cg_core.specs.Terms.{term, unit, op as op_shape, more, none as no_terms, app, if_else, con, member as member_shape, cast, annot, struct, to_named};
+ghost use Rattle.cg_core.specs.Terms.{term, unit, op as op_shape, more, none as no_terms, app, if_else as if_shape, con, member as member_shape, cast, annot, struct, to_named};
 ghost use Rattle.cg_desugar.specs.Desugar.{depth_of};
 ghost use Rattle.cg_desugar.specs.Terms.{its_name, first_place, bind, last_bound, observed, mention, variable};
-ghost use Rattle.cg_surface.specs.Exprs.{expr_of, bind_of, alt_of, field_of, to_exprs, to_fields};
+ghost use Rattle.cg_surface.specs.Exprs.{expr_of, bind_of, alt_of, field_of, to_fields, to_binds, to_alts, lets, if_else, match_of};
 ghost use Rattle.cg_surface.specs.Patterns.{pattern_of};
 ghost use Rattle.cg_surface.specs.Written.{written_of, to_types};
 ghost use Rattle.cg_terms.specs.Answers.{Says, StandingSays, LooksInto};
@@ -21,7 +21,8 @@ use crate::components::component;
 use crate::frames::{Frame, Site};
 use crate::names::{Names, function_term, written_arg};
 use crate::nodes::{
-    annotated, application, binary, condition, constructed, member, put, unary, unit_term, widened,
+    annotated, application, binary, condition, constructed, formed, member, put, unary, unit_term,
+    widened,
 };
 use crate::patterns::{inner_place, its_name, under};
 use crate::scopes::{positions, variable, variable_term};
@@ -66,13 +67,14 @@ fn name_term(
     names: &Names,
     scope: &[Option<&[u8]>],
     place: Place,
-    name: &[u8],
+    name: &Name,
     types: &Items<STy>,
 ) -> Result<Term<Place>, Memory>
     requires names { AreNames names.now }
     requires scope { length scope.now ≤ 2048 }
     ensures { IfOk result (λ t. the_term t ≡ name_in names.now place name.now (to_types (map written_of types.now)) (variable (scope_of scope.now) name.now)) }
 {
+    let name = name.bytes();
     match variable(scope, name) {
         Some(at) => Ok(variable_term(place, at)),
         None => function_term(alloc, names, place, name, types),
@@ -132,34 +134,37 @@ pub fn term<'a>(
     if above >= TERM_LIMIT {
         return Err(TermFault::TooDeep);
     }
+    form_term(alloc, names, scope, above, expr)
+}
+
+// The same, by the form of the expression.
+#[cycle(term)]
+fn form_term<'a>(
+    alloc: Global,
+    names: &Names,
+    scope: &[Option<&'a [u8]>],
+    above: usize,
+    expr: &'a SExpr,
+) -> Result<Term<Place>, TermFault>
+    requires names { AreNames names.now }
+    requires above { above < 512 }
+    requires scope { length scope.now ≤ 2 * above + 1 }
+    ensures { Says above (term_in names.now (scope_of scope.now) (expr_of expr.now)) result }
+{
     let place = expr.place;
     match &expr.form {
-        SForm::Name(name, types) => {
-            Ok(name_term(alloc, names, scope, place, name.bytes(), types)?)
-        }
-        SForm::Number(value) => Ok(Term {
-            note: place,
-            form: Form::Lit(*value),
-        }),
-        SForm::Bool(value) => Ok(Term {
-            note: place,
-            form: Form::Bool(*value),
-        }),
+        SForm::Name(name, types) => Ok(name_term(alloc, names, scope, place, name, types)?),
+        SForm::Number(value) => Ok(formed(place, Form::Lit(*value))),
+        SForm::Bool(value) => Ok(formed(place, Form::Bool(*value))),
         SForm::Unit => Ok(unit_term(place)),
         SForm::Paren(inner) => term(alloc, names, scope, above, inner),
         SForm::Sig(part, ty) => annotation_term(alloc, names, scope, above, place, part, ty),
-        SForm::App(fun, arg) => {
-            let fun = term(alloc, names, scope, above + 1, fun)?;
-            let arg = term(alloc, names, scope, above + 1, arg)?;
-            Ok(application(alloc, place, fun, arg)?)
-        }
+        SForm::App(fun, arg) => app_term(alloc, names, scope, above, place, fun, arg),
         SForm::Member(whole, at) => member_term(alloc, names, scope, above, place, whole, at),
         SForm::Unary(op, operand) => unary_term(alloc, names, scope, above, place, *op, operand),
         SForm::Upcast(operand) => cast_term(alloc, names, scope, above, place, operand),
         SForm::Binary(op, left, right) => {
-            let left = term(alloc, names, scope, above + 1, left)?;
-            let right = term(alloc, names, scope, above + 1, right)?;
-            Ok(binary(alloc, place, *op, left, right)?)
+            binary_term(alloc, names, scope, above, place, *op, left, right)
         }
         SForm::Con(name, None) => constructor_alone(alloc, above, place, name),
         SForm::Con(name, Some(value)) => {
@@ -167,28 +172,13 @@ pub fn term<'a>(
         }
         SForm::Tuple(items) => tuple_term(alloc, names, scope, above, place, items),
         SForm::Fields(fields) => record_term(alloc, names, scope, above, place, fields),
-        SForm::Put(whole, fields) => {
-            let whole = below_puts(alloc, names, scope, above, fields.len(), whole)?;
-            put_all(alloc, names, scope, above, place, fields, whole)
-        }
-        SForm::Let(binds, body) => {
-            let mut site = new_site(alloc, scope, above)?;
-            bind_all(alloc, names, &mut site, place, binds)?;
-            finish(alloc, names, &mut site, body)
-        }
+        SForm::Put(whole, fields) => put_term(alloc, names, scope, above, place, whole, fields),
+        SForm::Let(binds, body) => let_term(alloc, names, scope, above, place, binds, body),
         SForm::If(test, seen, yes, no) => {
-            let mut site = new_site(alloc, scope, above)?;
-            let test = look_into(alloc, names, &mut site, place, Some(1), seen, test)?;
-            let yes = value_at(alloc, names, &site, Some(1), yes)?;
-            let no = value_at(alloc, names, &site, Some(1), no)?;
-            let whole = condition(alloc, place, test, yes, no)?;
-            Ok(site.close(alloc, whole)?)
+            if_term(alloc, names, scope, above, place, test, seen, yes, no)
         }
         SForm::Match(value, seen, choices) => {
-            let mut site = new_site(alloc, scope, above)?;
-            let stands = under_choices(choices);
-            let subject = look_into(alloc, names, &mut site, place, stands, seen, value)?;
-            match_all(alloc, names, &mut site, choices, subject)
+            match_term(alloc, names, scope, above, place, value, seen, choices)
         }
     }
 }
@@ -211,6 +201,26 @@ fn annotation_term<'a>(
     let part = term(alloc, names, scope, above + 1, part)?;
     let ty = written_arg(alloc, names, ty)?;
     Ok(annotated(alloc, place, part, ty)?)
+}
+
+#[cycle(term)]
+fn app_term<'a>(
+    alloc: Global,
+    names: &Names,
+    scope: &[Option<&'a [u8]>],
+    above: usize,
+    place: Place,
+    fun: &'a SExpr,
+    arg: &'a SExpr,
+) -> Result<Term<Place>, TermFault>
+    requires names { AreNames names.now }
+    requires above { above < 512 }
+    requires scope { length scope.now ≤ 2 * above + 1 }
+    ensures { Says above (term place (app (term_in names.now (scope_of scope.now) (expr_of fun.now)) (term_in names.now (scope_of scope.now) (expr_of arg.now)))) result }
+{
+    let fun = term(alloc, names, scope, above + 1, fun)?;
+    let arg = term(alloc, names, scope, above + 1, arg)?;
+    Ok(application(alloc, place, fun, arg)?)
 }
 
 #[cycle(term)]
@@ -267,6 +277,27 @@ fn cast_term<'a>(
 {
     let operand = term(alloc, names, scope, above + 1, operand)?;
     Ok(widened(alloc, place, operand)?)
+}
+
+#[cycle(term)]
+fn binary_term<'a>(
+    alloc: Global,
+    names: &Names,
+    scope: &[Option<&'a [u8]>],
+    above: usize,
+    place: Place,
+    op: Op,
+    left: &'a SExpr,
+    right: &'a SExpr,
+) -> Result<Term<Place>, TermFault>
+    requires names { AreNames names.now }
+    requires above { above < 512 }
+    requires scope { length scope.now ≤ 2 * above + 1 }
+    ensures { Says above (term place (op_shape op (more (term_in names.now (scope_of scope.now) (expr_of left.now)) (more (term_in names.now (scope_of scope.now) (expr_of right.now)) no_terms)))) result }
+{
+    let left = term(alloc, names, scope, above + 1, left)?;
+    let right = term(alloc, names, scope, above + 1, right)?;
+    Ok(binary(alloc, place, op, left, right)?)
 }
 
 #[cycle(term)]
@@ -343,6 +374,26 @@ fn record_term<'a>(
     })
 }
 
+// Puts into a record.
+#[cycle(term)]
+fn put_term<'a>(
+    alloc: Global,
+    names: &Names,
+    scope: &[Option<&'a [u8]>],
+    above: usize,
+    place: Place,
+    whole: &'a SExpr,
+    fields: &'a Items<FExpr>,
+) -> Result<Term<Place>, TermFault>
+    requires names { AreNames names.now }
+    requires above { above < 512 }
+    requires scope { length scope.now ≤ 2 * above + 1 }
+    ensures { Says above (puts_in names.now place (scope_of scope.now) (term_in names.now (scope_of scope.now) (expr_of whole.now)) (to_fields (map field_of fields.now))) result }
+{
+    let whole = below_puts(alloc, names, scope, above, fields.len(), whole)?;
+    put_all(alloc, names, scope, above, place, fields, whole)
+}
+
 // The record that is put into, below as many nodes as there are puts.
 #[cycle(term)]
 fn below_puts<'a>(
@@ -388,6 +439,93 @@ fn put_all<'a>(
         left -= 1;
     }
     Ok(made)
+}
+
+// Bindings, and what they are bound in.
+#[cycle(term)]
+fn let_term<'a>(
+    alloc: Global,
+    names: &Names,
+    scope: &[Option<&'a [u8]>],
+    above: usize,
+    place: Place,
+    binds: &'a Items<Bind>,
+    body: &'a SExpr,
+) -> Result<Term<Place>, TermFault>
+    requires names { AreNames names.now }
+    requires above { above < 512 }
+    requires scope { length scope.now ≤ 2 * above + 1 }
+    ensures { Says above (term_in names.now (scope_of scope.now) (lets place (to_binds (map bind_of binds.now)) (expr_of body.now))) result }
+{
+    let mut site = new_site(alloc, scope, above)?;
+    bind_all(alloc, names, &mut site, place, binds)?;
+    finish(alloc, names, &mut site, body)
+}
+
+#[cycle(term)]
+fn if_term<'a>(
+    alloc: Global,
+    names: &Names,
+    scope: &[Option<&'a [u8]>],
+    above: usize,
+    place: Place,
+    test: &'a SExpr,
+    seen: &Items<At>,
+    yes: &'a SExpr,
+    no: &'a SExpr,
+) -> Result<Term<Place>, TermFault>
+    requires names { AreNames names.now }
+    requires above { above < 512 }
+    requires scope { length scope.now ≤ 2 * above + 1 }
+    ensures { Says above (term_in names.now (scope_of scope.now) (if_else place (expr_of test.now) seen.now (expr_of yes.now) (expr_of no.now))) result }
+{
+    let mut site = new_site(alloc, scope, above)?;
+    let test = look_into(alloc, names, &mut site, place, Some(1), seen, test)?;
+    branches_term(alloc, names, &mut site, place, test, yes, no)
+}
+
+// A condition whose test is done, with its branches.
+#[cycle(term)]
+fn branches_term<'a>(
+    alloc: Global,
+    names: &Names,
+    site: &mut Site<'a>,
+    place: Place,
+    test: Term<Place>,
+    yes: &'a SExpr,
+    no: &'a SExpr,
+) -> Result<Term<Place>, TermFault>
+    requires names { AreNames names.now }
+    requires fits { Fits site.now }
+    requires test { HasRoom (Some 1) (level site.now) (depth_of (the_term test)) }
+    ensures { Says site.old.above (inside site.old (term place (if_shape (the_term test) (term_in names.now (scope_in site.old) (expr_of yes.now)) (term_in names.now (scope_in site.old) (expr_of no.now))))) result }
+{
+    let yes = value_at(alloc, names, site, Some(1), yes)?;
+    let no = value_at(alloc, names, site, Some(1), no)?;
+    let whole = condition(alloc, place, test, yes, no)?;
+    Ok(site.close(alloc, whole)?)
+}
+
+#[cycle(term)]
+fn match_term<'a>(
+    alloc: Global,
+    names: &Names,
+    scope: &[Option<&'a [u8]>],
+    above: usize,
+    place: Place,
+    value: &'a SExpr,
+    seen: &Items<At>,
+    choices: &'a Items<Alt>,
+) -> Result<Term<Place>, TermFault>
+    requires names { AreNames names.now }
+    requires above { above < 512 }
+    requires scope { length scope.now ≤ 2 * above + 1 }
+    ensures { Says above (term_in names.now (scope_of scope.now) (match_of place (expr_of value.now) seen.now (to_alts (map alt_of choices.now)))) result }
+{
+    let mut site = new_site(alloc, scope, above)?;
+    let stands = under_choices(choices);
+    let subject = look_into(alloc, names, &mut site, place, stands, seen, value)?;
+    match_all(alloc, names, &mut site, choices, subject)
 }
 
 // The term of an expression, where what is done at a site goes on.

@@ -8,7 +8,7 @@ use cg_base::Items;
 use cg_core::{Deriv, Kernel, Term, Typed};
 
 /// A kernel that is accepted, with the core and the derivation of each of its bodies (docs/LANGUAGE.md, "Typing").
-#[derive(Debug, Drop)]
+#[derive(Drop)]
 pub struct Checked {
     kernel: Kernel,
     cores: Items<Option<Term<Typed>>>,

@@ -9,7 +9,7 @@ use std::alloc::Global;
 /// word or a Bool, `Fun` a function at its type arguments, `Variant` an alternative with its payload, `Fields` a record
 /// in the order of its fields, `Array` the elements of an array, `Answers` what an allocator will still answer, and
 /// `Gone` stands for a field that is taken.
-#[derive(Debug, Drop)]
+#[derive(Drop)]
 pub enum Value {
     Num(u64),
     Unit,

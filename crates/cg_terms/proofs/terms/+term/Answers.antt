@@ -10,7 +10,7 @@ use Rattle.cg_terms.specs.Names.{term_in, payload_in, components_in, field_in}
 use Rattle.cg_terms.specs.Sites.{entry_of, scope_of, scope_in}
 use Rattle.cg_terms.proofs.ChoiceLaws.{turn_room, turn_more, turn_err, case_err_of}
 use Rattle.cg_terms.proofs.FrameLaws.{depth_pos}
-use Rattle.cg_terms.proofs.LookLaws.{look_plain, look_err_at}
+use Rattle.cg_terms.proofs.LookLaws.{look_plain, look_err_at, branches_say}
 use Rattle.cg_terms.proofs.TermForms.{let_says, let_err, put_err, if_says, test_err, branch_deep, other_deep, match_says, match_err}
 use Rattle.cg_terms.proofs.TermLaws.{finish_ok, finish_err, observe_err, plain_ok, plain_err, observed_ok, observed_err, let_observed, small_more, payload_says, payload_err, payload_scope}
 use Rattle.cg_terms.proofs.TermLists.{fields_start, fields_room, put_deep, put_more, tuple_more, tuple_err, record_more, record_err}
@@ -41,7 +41,7 @@ observe-returns-in_err-value t c =
     c.from_residual.ensures.1 c.in_err-value.ensures
 
 pub bind_plain-value_at-requires : goal.bind_plain-value_at-requires
-bind_plain-value_at-requires t c = (search (rules, the_lemmas), (c.requires.names, (c.requires.fits, small_more _ c.under.ensures.small)))
+bind_plain-value_at-requires t c = (omega (arith, c.decreases), (c.requires.names, (c.requires.fits, small_more _ c.under.ensures.small)))
 
 pub bind_plain-returns : goal.bind_plain-returns
 bind_plain-returns t c =
@@ -129,56 +129,60 @@ record_term-returns-in_err-term t c =
 
 -- ---- forms with parts of their own
 
-pub term-returns-in_err-whole-in-Put : goal.term-returns-in_err-whole-in-Put
-term-returns-in_err-whole-in-Put t c =
-    put_err c.args.names.now c.args.expr.now (scope_of c.args.scope.now) c.in-Put.whole c.deref-in-Put.result.now c.in-Put.fields c.args.above c.len.result c.in_err-whole-in-Put.field-0.0 _ c.in-Put.is c.deref-in-Put.ensures c.len.ensures
-    c.from_residual-in_err-whole-in-Put.ensures.1 c.in_err-whole-in-Put.ensures
+pub put_term-returns-in_err-whole : goal.put_term-returns-in_err-whole
+put_term-returns-in_err-whole t c =
+    put_err c.args.names.now c.args.place (scope_of c.args.scope.now) c.args.whole.now c.args.fields.now c.args.above c.len.result c.in_err-whole.field-0.0 _ c.len.ensures
+    c.from_residual.ensures.1 c.in_err-whole.ensures
 
-pub term-returns-in_ok-bind_all-in-Let : goal.term-returns-in_ok-bind_all-in-Let
-term-returns-in_ok-bind_all-in-Let t c =
-    let_says c.args.names.now c.args.expr.now c.args.scope.now c.args.above c.in_ok-site-in-Let.site c.bind_all.new.site c.in_ok-site-in-Let.ensures.frames c.in_ok-site-in-Let.ensures.above c.in_ok-site-in-Let.ensures.scope
-    c.in-Let.binds c.in-Let.body c.deref-in-Let.result.now c.in-Let.is c.deref-in-Let.ensures _ c.in_ok-bind_all-in-Let.ensures c.finish.ensures
+pub let_term-returns : goal.let_term-returns
+let_term-returns t c =
+    let_says c.args.names.now c.args.place c.args.scope.now c.args.above c.in_ok-site.site c.bind_all.new.site c.in_ok-site.ensures.frames c.in_ok-site.ensures.above c.in_ok-site.ensures.scope
+    c.args.binds.now c.args.body.now _ c.in_ok-bind_all.ensures c.finish.ensures
 
-pub term-returns-in_err-bind_all-in-Let : goal.term-returns-in_err-bind_all-in-Let
-term-returns-in_err-bind_all-in-Let t c =
-    let_err c.args.names.now c.args.expr.now c.args.scope.now c.args.above c.in_ok-site-in-Let.site c.bind_all.new.site c.in_ok-site-in-Let.ensures.frames c.in_ok-site-in-Let.ensures.above c.in_ok-site-in-Let.ensures.scope
-    c.in-Let.binds c.in-Let.body c.in-Let.body.value c.in-Let.is refl c.in_err-bind_all-in-Let.field-0.0 _ c.from_residual-in_err-bind_all-in-Let.ensures.1 c.in_err-bind_all-in-Let.ensures
+pub let_term-returns-in_err-bind_all : goal.let_term-returns-in_err-bind_all
+let_term-returns-in_err-bind_all t c =
+    let_err c.args.names.now c.args.place c.args.scope.now c.args.above c.in_ok-site.site c.bind_all.new.site c.in_ok-site.ensures.frames c.in_ok-site.ensures.above c.in_ok-site.ensures.scope
+    c.args.binds.now c.args.body.now c.in_err-bind_all.field-0.0 _ c.from_residual-in_err-bind_all.ensures.1 c.in_err-bind_all.ensures
 
-pub term-returns-in_ok-close-in-If : goal.term-returns-in_ok-close-in-If
-term-returns-in_ok-close-in-If t c =
-    if_says c.args.names.now c.args.expr.now c.args.scope.now c.args.above c.in_ok-site-in-If.site c.look_into.new.site c.in_ok-site-in-If.ensures.frames c.in_ok-site-in-If.ensures.above c.in_ok-site-in-If.ensures.scope
-    c.in-If.test c.deref-in-If.result.now c.in-If.seen c.in-If.yes c.in-If.no c.deref-in-If-2.result.now c.deref-in-If-3.result.now c.in-If.is c.deref-in-If.ensures c.deref-in-If-2.ensures c.deref-in-If-3.ensures
-    c.in_ok-test-in-If.test c.in_ok-yes-in-If.yes c.in_ok-no-in-If.no c.in_ok-whole-in-If.whole c.in_ok-close-in-If.field-0
-    c.in_ok-test-in-If.ensures c.in_ok-yes-in-If.ensures c.in_ok-no-in-If.ensures c.in_ok-whole-in-If.ensures c.in_ok-close-in-If.ensures
+pub if_term-returns : goal.if_term-returns
+if_term-returns t c =
+    if_says c.args.names.now c.args.place c.args.scope.now c.args.above c.in_ok-site.site c.look_into.new.site c.in_ok-site.ensures.frames c.in_ok-site.ensures.above c.in_ok-site.ensures.scope
+    c.args.test.now c.args.seen.now c.args.yes.now c.args.no.now c.in_ok-test.test _ c.in_ok-test.ensures c.branches_term.ensures
 
-pub term-returns-in_err-test-in-If : goal.term-returns-in_err-test-in-If
-term-returns-in_err-test-in-If t c =
-    test_err c.args.names.now c.args.expr.now c.args.scope.now c.args.above c.in_ok-site-in-If.site c.look_into.new.site c.in_ok-site-in-If.ensures.frames c.in_ok-site-in-If.ensures.above c.in_ok-site-in-If.ensures.scope
-    c.in-If.test c.deref-in-If.result.now c.in-If.seen c.in-If.yes c.in-If.no c.in-If.yes.value c.in-If.no.value c.in-If.is c.deref-in-If.ensures refl refl c.in_err-test-in-If.field-0.0 _ c.from_residual-in_err-test-in-If.ensures.1 c.in_err-test-in-If.ensures
+pub if_term-returns-in_err-test : goal.if_term-returns-in_err-test
+if_term-returns-in_err-test t c =
+    test_err c.args.names.now c.args.place c.args.scope.now c.args.above c.in_ok-site.site c.look_into.new.site c.in_ok-site.ensures.frames c.in_ok-site.ensures.above c.in_ok-site.ensures.scope
+    c.args.test.now c.args.seen.now c.args.yes.now c.args.no.now c.in_err-test.field-0.0 _ c.from_residual-in_err-test.ensures.1 c.in_err-test.ensures
 
-pub term-returns-in_err-yes-in-If : goal.term-returns-in_err-yes-in-If
-term-returns-in_err-yes-in-If t c =
-    branch_deep c.args.names.now c.args.expr.now c.args.scope.now c.args.above c.in_ok-site-in-If.site c.look_into.new.site c.in_ok-site-in-If.ensures.frames c.in_ok-site-in-If.ensures.above c.in_ok-site-in-If.ensures.scope
-    c.in-If.test c.deref-in-If.result.now c.in-If.seen c.in-If.yes c.in-If.no c.deref-in-If-2.result.now c.in-If.no.value c.in-If.is c.deref-in-If.ensures c.deref-in-If-2.ensures refl
-    c.in_ok-test-in-If.test c.in_err-yes-in-If.field-0.0 _ c.in_ok-test-in-If.ensures c.from_residual-in_err-yes-in-If.ensures.1 c.in_err-yes-in-If.ensures
+pub branches_term-returns : goal.branches_term-returns
+branches_term-returns t c =
+    branches_say c.args.site.now c.args.place (the_term c.args.test)
+    (term_in c.args.names.now (scope_in c.args.site.now) (expr_of c.args.yes.now)) (term_in c.args.names.now (scope_in c.args.site.now) (expr_of c.args.no.now))
+    c.in_ok-yes.yes c.in_ok-no.no c.in_ok-whole.whole c.in_ok-close.field-0 c.requires.fits c.requires.test c.in_ok-yes.ensures c.in_ok-no.ensures c.in_ok-whole.ensures c.in_ok-close.ensures
 
-pub term-returns-in_err-no-in-If : goal.term-returns-in_err-no-in-If
-term-returns-in_err-no-in-If t c =
-    other_deep c.args.names.now c.args.expr.now c.args.scope.now c.args.above c.in_ok-site-in-If.site c.look_into.new.site c.in_ok-site-in-If.ensures.frames c.in_ok-site-in-If.ensures.above c.in_ok-site-in-If.ensures.scope
-    c.in-If.test c.deref-in-If.result.now c.in-If.seen c.in-If.yes c.in-If.no c.deref-in-If-2.result.now c.deref-in-If-3.result.now c.in-If.is c.deref-in-If.ensures c.deref-in-If-2.ensures c.deref-in-If-3.ensures
-    c.in_ok-test-in-If.test c.in_err-no-in-If.field-0.0 _ c.in_ok-test-in-If.ensures c.from_residual-in_err-no-in-If.ensures.1 c.in_err-no-in-If.ensures
+pub branches_term-returns-in_err-yes : goal.branches_term-returns-in_err-yes
+branches_term-returns-in_err-yes t c =
+    branch_deep c.args.site.now c.args.place (the_term c.args.test)
+    (term_in c.args.names.now (scope_in c.args.site.now) (expr_of c.args.yes.now)) (term_in c.args.names.now (scope_in c.args.site.now) (expr_of c.args.no.now))
+    c.in_err-yes.field-0.0 _ c.from_residual-in_err-yes.ensures.1 c.in_err-yes.ensures
 
-pub term-returns-in_ok-subject-in-Match : goal.term-returns-in_ok-subject-in-Match
-term-returns-in_ok-subject-in-Match t c =
-    match_says c.args.names.now c.args.expr.now c.args.scope.now c.args.above c.in_ok-site-in-Match.site c.look_into-in-Match.new.site c.in_ok-site-in-Match.ensures.frames c.in_ok-site-in-Match.ensures.above c.in_ok-site-in-Match.ensures.scope
-    c.in-Match.value c.deref-in-Match.result.now c.in-Match.seen c.in-Match.choices c.in-Match.is c.deref-in-Match.ensures c.under_choices-stands.result c.under_choices-stands.ensures.value
-    c.in_ok-subject-in-Match.subject _ c.in_ok-subject-in-Match.ensures c.match_all.ensures
+pub branches_term-returns-in_err-no : goal.branches_term-returns-in_err-no
+branches_term-returns-in_err-no t c =
+    other_deep c.args.site.now c.args.place (the_term c.args.test)
+    (term_in c.args.names.now (scope_in c.args.site.now) (expr_of c.args.yes.now)) (term_in c.args.names.now (scope_in c.args.site.now) (expr_of c.args.no.now))
+    c.in_err-no.field-0.0 _ c.from_residual-in_err-no.ensures.1 c.in_err-no.ensures
 
-pub term-returns-in_err-subject-in-Match : goal.term-returns-in_err-subject-in-Match
-term-returns-in_err-subject-in-Match t c =
-    match_err c.args.names.now c.args.expr.now c.args.scope.now c.args.above c.in_ok-site-in-Match.site c.look_into-in-Match.new.site c.in_ok-site-in-Match.ensures.frames c.in_ok-site-in-Match.ensures.above c.in_ok-site-in-Match.ensures.scope
-    c.in-Match.value c.deref-in-Match.result.now c.in-Match.seen c.in-Match.choices c.in-Match.is c.deref-in-Match.ensures c.under_choices-stands.result c.under_choices-stands.ensures.value
-    c.in_err-subject-in-Match.field-0.0 _ c.from_residual-in_err-subject-in-Match.ensures.1 c.in_err-subject-in-Match.ensures
+pub match_term-returns : goal.match_term-returns
+match_term-returns t c =
+    match_says c.args.names.now c.args.place c.args.scope.now c.args.above c.in_ok-site.site c.look_into.new.site c.in_ok-site.ensures.frames c.in_ok-site.ensures.above c.in_ok-site.ensures.scope
+    c.args.value.now c.args.seen.now c.args.choices.now c.under_choices-stands.result c.under_choices-stands.ensures.value
+    c.in_ok-subject.subject _ c.in_ok-subject.ensures c.match_all.ensures
+
+pub match_term-returns-in_err-subject : goal.match_term-returns-in_err-subject
+match_term-returns-in_err-subject t c =
+    match_err c.args.names.now c.args.place c.args.scope.now c.args.above c.in_ok-site.site c.look_into.new.site c.in_ok-site.ensures.frames c.in_ok-site.ensures.above c.in_ok-site.ensures.scope
+    c.args.value.now c.args.seen.now c.args.choices.now c.under_choices-stands.result c.under_choices-stands.ensures.value
+    c.in_err-subject.field-0.0 _ c.from_residual-in_err-subject.ensures.1 c.in_err-subject.ensures
 
 -- ---- what is looked into
 
