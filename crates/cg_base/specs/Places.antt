@@ -1,11 +1,19 @@
 -- Places in a text: lines and columns count from 1, a column is a byte, and a line ends at its line feed (docs/LANGUAGE.md,
 -- "Tokens").
-use Rattle.std.specs.Prelude.{ℕ, ◌+◌, ◌-◌, ◌^◌, ◌==◌, min, List, [], ◌∷◌, if◌then◌else◌}
+use Rattle.std.specs.Prelude.{◌≡◌, ℕ, ◌+◌, ◌-◌, ◌^◌, ◌<◌, ◌==◌, ◌&&◌, ◌⊎◌, Bool, min, List, [], ◌∷◌, if◌then◌else◌}
 use Rattle.cg_base.specs.declared.place.Place.{Place}
 
 -- the greatest line and column that are told
 abbrev pub most : ℕ
 most = 2 ^ 32 - 1
+
+-- whether two places are one
+abbrev pub is_at : Place → Place → Bool
+is_at p q = (p.line == q.line) && (p.column == q.column)
+
+-- a place stands before another in reading order
+abbrev pub IsBefore : Place → Place → Type 0
+IsBefore p q = (p.line < q.line) ⊎ ((p.line ≡ q.line) × (p.column < q.column))
 
 -- where a text begins
 abbrev pub first_place : Place

@@ -3,6 +3,7 @@
 use Rattle.std.specs.Prelude.{ℕ, ◌==◌, List, [], ◌∷◌, ◌++◌, map, length, codes, Option, Some, None, if◌then◌else◌}
 use Rattle.cg_base.specs.declared.kind.Bound.{Bound}
 use Rattle.cg_base.specs.declared.place.Place.{Place}
+use Rattle.cg_base.specs.Places.{is_at}
 use Rattle.cg_core.specs.declared.at.At.{At}
 use Rattle.cg_surface.specs.Written.{Written, Writtens, WrittenFields, WrittenAlts}
 use Rattle.cg_surface.specs.Written as types
@@ -23,6 +24,14 @@ pub data NameFault : Type 0 where
 -- a name that stands among those before it
 abbrev pub again : List (List ℕ) → Place → List ℕ → List NameFault
 again before p n = if is_among before n then twice p ∷ [] else []
+
+-- the faults of a field: the later of two of one name, and those of its value, in reading order. A field that is written alone
+-- and its value stand at one place, and there an unknown name comes first.
+abbrev pub field_with : List (List ℕ) → At → List NameFault → List NameFault
+field_with before at [] = again before at.place at.name
+field_with before at (unknown p ∷ later) = if is_at p at.place then unknown p ∷ again before at.place at.name ++ later else again before at.place at.name ++ unknown p ∷ later
+field_with before at (twice p ∷ later) = again before at.place at.name ++ twice p ∷ later
+field_with before at (arguments p ∷ later) = again before at.place at.name ++ arguments p ∷ later
 
 -- names that have to be apart, behind those before them
 abbrev pub twins : List (List ℕ) → List At → List NameFault
@@ -201,7 +210,7 @@ module _ (entries : List Entry) where
       -- fields of a record are apart; those that are put needn't be
       pub record_faults : List (List ℕ) → FieldExprs → List NameFault
       record_faults scope exprs.no_fields = []
-      record_faults scope (exprs.and_field fs at e) = record_faults scope fs ++ again (value_names fs) at.place at.name ++ expr_faults scope e
+      record_faults scope (exprs.and_field fs at e) = record_faults scope fs ++ field_with (value_names fs) at (expr_faults scope e)
 
       pub put_faults : List (List ℕ) → FieldExprs → List NameFault
       put_faults scope exprs.no_fields = []

@@ -22,7 +22,7 @@ abbrev pub part_names : Parts → List (List ℕ)
 part_names end = []
 part_names (part n t taken ps) = n ∷ part_names ps
 
--- the places of names that are no fields of a type, and that of `..` where it is no record
+-- the places of names that are no fields of a type, and that of the word `take` before `..` where it is no record
 abbrev pub not_there : List At → List (List ℕ) → List Place
 not_there [] names = []
 not_there (at ∷ ats) names = (if is_among names at.name then [] else at.place ∷ []) ++ not_there ats names

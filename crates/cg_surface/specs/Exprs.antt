@@ -184,7 +184,7 @@ abbrev mutual
   depth_of (sig p a t) = max (depth_of a) (types.depth_of t) + 1
   depth_of (tuple p es) = exprs_depth es + 1
   depth_of (fields p fs) = fields_depth fs + 1
-  depth_of (con p n) = 2
+  depth_of (con p n) = 1
   depth_of (con_of p n a) = depth_of a + 1
   depth_of (app p f a) = max (depth_of f) (depth_of a) + 1
   depth_of (member p a at) = depth_of a + 1

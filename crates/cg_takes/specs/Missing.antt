@@ -19,7 +19,7 @@ has_field (Some test) n = test n
 abbrev pub if_absent : Option (List ℕ → Bool) → At → List Place
 if_absent shape at = if has_field shape at.name then [] else at.place ∷ []
 
--- the place of `..` where it is no record
+-- the place of the word `take` before `..` where it is no record
 abbrev pub if_no_record : Option (List ℕ → Bool) → Place → List Place
 if_no_record shape p = if is_some shape then [] else p ∷ []
 
