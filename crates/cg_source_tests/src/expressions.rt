@@ -389,7 +389,7 @@ fn bars_belong_by_their_columns(rt: HostRuntime) -> Result<(), Fail> {
 }
 
 /// A text so many times.
-fn push_times(text: &mut String, piece: &str, count: usize) -> Result<(), Fail> {
+pub(crate) fn push_times(text: &mut String, piece: &str, count: usize) -> Result<(), Fail> {
     for _ in 0..count {
         text.push_str(piece)?;
     }

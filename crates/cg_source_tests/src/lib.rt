@@ -2,6 +2,8 @@
 #![tactic(auto)]
 
 #[cfg(test)]
+mod depths;
+#[cfg(test)]
 mod expressions;
 #[cfg(test)]
 mod kernel_text;

@@ -58,7 +58,7 @@ const TYPES: [(&str, &str); 40] = [
 ];
 
 /// Names of variables, functions, patterns and observers.
-const VALUES: [(&str, &str); 71] = [
+const VALUES: [(&str, &str); 81] = [
     ("f : U8 -> U8\nf x = y\n", "N1 2:7"),
     ("f : U8 -> U8\nf x = x\nf x = x\n", "N2 3:1"),
     ("f : U8 -> U8\nf x = g x\ng : U8 -> U8\ng x = f x\n", "ok"),
@@ -148,6 +148,16 @@ const VALUES: [(&str, &str); 71] = [
         "f : U8 -> U8\nf x = (x | A y -> y | z -> z) + z\n",
         "N1 2:33",
     ),
+    ("f : U8 -> #{x : U8}\nf y = #{x = y, x}\n", "N1 2:16"),
+    ("f : U8 -> #{x : U8}\nf x = #{x = x, x}\n", "N2 2:16"),
+    ("f : U8 -> #{x : U8}\nf x = #{x = x, x = y}\n", "N2 2:16"),
+    ("f : U8 -> U8\nf y = #{x = y, z = y, x, z}\n", "N1 2:23"),
+    ("f : U8 -> U8\nf y = #{x, x}\n", "N1 2:9"),
+    ("f : U8 -> U8\nf y = #{f = y, f}\n", "N2 2:16"),
+    ("f : U8 -> U8\nf y = #{new = y, new}\n", "N2 2:18"),
+    ("f : U8 -> U8\nf y = y {x = y, x}\n", "N1 2:17"),
+    ("f x = x\nf y = y\n", "N1 1:1"),
+    ("new x = x\nnew y = y\n", "N1 1:1"),
 ];
 
 // What the names of a program answer: `ok`, or their first fault with its place.
