@@ -1,5 +1,5 @@
 -- Words.
-use Rattle.std.specs.Prelude.{ℕ}
+use Rattle.std.specs.Prelude.{ℕ, Bool, true, false}
 use Rattle.cg_base.specs.declared.kind.Word.{Word}
 use Rattle.cg_base.specs.declared.kind.Word.TheVariants.{U8, U16, U32, U64}
 
@@ -9,3 +9,11 @@ bits U8 = 8
 bits U16 = 16
 bits U32 = 32
 bits U64 = 64
+
+-- whether two words are one
+abbrev pub same_word : Word → Word → Bool
+same_word U8 U8 = true
+same_word U16 U16 = true
+same_word U32 U32 = true
+same_word U64 U64 = true
+same_word _ _ = false

@@ -19,7 +19,8 @@ use Rattle.cg_ctree.specs.declared.tree.CStmt.{CStmt}
 use Rattle.cg_ctree.specs.declared.tree.CTy.{CTy}
 use Rattle.cg_ctree.specs.declared.tree.CTy.TheVariants as ty
 use Rattle.cg_ctree.specs.declared.why.Why.TheVariants.{KindsDiffer}
-use Rattle.cg_ctree.specs.Runs.{ok, no, on, Value, literal, typed, Variable, Frame, same_word, look, set, number_of, give, write_found, write_path, write, done, goes, onward, lift, bind, Calls, right, run_stmt, run_block}
+use Rattle.cg_base.proofs.WordLaws.{word_same}
+use Rattle.cg_ctree.specs.Runs.{ok, no, on, Value, literal, typed, Variable, Frame, look, set, number_of, give, write_found, write_path, write, done, goes, onward, lift, bind, Calls, right, run_stmt, run_block}
 use Rattle.cg_ctree.specs.Trees.{stmt_of, assign, to_block}
 use Rattle.cg_cgen.specs.Code.{inner, op_code}
 use Rattle.cg_cgen.specs.Computed.{IsNumber, IsVariable, Gives, Computes, OpCodeComputes}
@@ -36,14 +37,8 @@ number_is word (typed w n) a h = passed _ n a h
 
 -- ---- a variable that is written
 
-same_itself : (word : Word) → same_word word word ≡ true
-same_itself U8 = refl
-same_itself U16 = refl
-same_itself U32 = refl
-same_itself U64 = refl
-
 given_back : (word : Word) (t : CTy) (m : ℕ) → t ≡ ty.Word word → give t (typed word m) ≡ ok m
-given_back word t m e = ap (λ s. give s (typed word m)) e ∙ ap (λ b. cond b (ok m) (no KindsDiffer)) (same_itself word)
+given_back word t m e = ap (λ s. give s (typed word m)) e ∙ ap (λ b. cond b (ok m) (no KindsDiffer)) (word_same word)
 
 found_is : (word : Word) (to : CPath) (m : ℕ) (frame : Frame) (o : Option Variable) (x : Variable) → o ≡ Some x → x.ty ≡ ty.Word word → write_found to (typed word m) frame o ≡ ok (set to.base m frame)
 found_is word to m frame o x e t =

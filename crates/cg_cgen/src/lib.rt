@@ -1,5 +1,5 @@
-//! The C of operators: statements that do on words of C what an operator does on numbers (docs/LANGUAGE.md, "Operators in C").
-//! So far of sums; the other operators, dispatch functions and iterators join here.
+//! The C of operators, by [`op_stmts`]: statements that do on words of C what an operator does on numbers (docs/LANGUAGE.md,
+//! "Operators in C"). So far of sums; the other operators, dispatch functions and iterators join here.
 #![tactic(auto)]
 
 mod law;

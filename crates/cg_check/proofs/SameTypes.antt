@@ -5,7 +5,8 @@ use Rattle.cg_base.specs.declared.kind.Sigil.TheVariants.{R, W, U}
 use Rattle.cg_base.specs.declared.kind.Word.{Word}
 use Rattle.cg_base.specs.declared.kind.Word.TheVariants.{U8, U16, U32, U64}
 use Rattle.cg_base.specs.Types.{Tau, var, seen, unit, word, bool, arrow, abs, variant, fields, Taus, none, more, Parts, end, part}
-use Rattle.cg_faults.specs.Same.{same, same_all, same_parts, same_name, same_word, same_sigil, same_bool}
+use Rattle.cg_base.proofs.WordLaws.{word_is, word_same}
+use Rattle.cg_faults.specs.Same.{same, same_all, same_parts, same_name, same_sigil, same_bool}
 
 and_both : (a b : Bool) → (a && b) ≡ true → (a ≡ true) × (b ≡ true)
 and_both true b e = (refl, e)
@@ -15,13 +16,6 @@ name_is : (xs ys : List ℕ) → same_name xs ys ≡ true → xs ≡ ys
 name_is [] [] h = refl
 name_is (x ∷ xs) (y ∷ ys) h = let p = and_both (nat_eq x y) _ h in let q = eqb-true x y p.0 in let r = name_is xs ys p.1 in cc
 name_is _ _ h = absurd (cc)
-
-word_is : (v w : Word) → same_word v w ≡ true → v ≡ w
-word_is U8 U8 h = refl
-word_is U16 U16 h = refl
-word_is U32 U32 h = refl
-word_is U64 U64 h = refl
-word_is _ _ h = absurd (cc)
 
 sigil_is : (s t : Sigil) → same_sigil s t ≡ true → s ≡ t
 sigil_is R R h = refl
@@ -71,12 +65,6 @@ name_refl : (xs : List ℕ) → same_name xs xs ≡ true
 name_refl [] = refl
 name_refl (x ∷ xs) = and_refl (nat_eq x x) _ (eq-eqb x x refl) (name_refl xs)
 
-word_refl : (w : Word) → same_word w w ≡ true
-word_refl U8 = refl
-word_refl U16 = refl
-word_refl U32 = refl
-word_refl U64 = refl
-
 sigil_refl : (s : Sigil) → same_sigil s s ≡ true
 sigil_refl R = refl
 sigil_refl W = refl
@@ -93,7 +81,7 @@ mutual
   same_refl (var n) = eq-eqb n n refl
   same_refl (seen n) = eq-eqb n n refl
   same_refl unit = refl
-  same_refl (word w) = word_refl w
+  same_refl (word w) = word_same w
   same_refl bool = refl
   same_refl (arrow a b) = and_refl (same a a) _ (same_refl a) (same_refl b)
   same_refl (abs n ts s) = and_refl (same_name n n) _ (name_refl n) (and_refl (same_all ts ts) _ (all_refl ts) (sigil_refl s))

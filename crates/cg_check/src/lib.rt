@@ -1,4 +1,4 @@
-//! The checker. docs/LANGUAGE.md, "Typing", says the rules. This is the small language's part: variables, unit,
+//! The checker, [`check`]. docs/LANGUAGE.md, "Typing", says the rules. This is the small language's part: variables, unit,
 //! literals, functions, sums, calls and `let`.
 #![tactic(auto)]
 

@@ -1,4 +1,4 @@
-//! The tokens of a C text, one by one, as slices of it. docs/LANGUAGE.md, "The C text", says what they are.
+//! The tokens of a C text, one by one, as slices of it, by [`Lexer`]. docs/LANGUAGE.md, "The C text", says what they are.
 #![tactic(auto)]
 
 mod bytes;

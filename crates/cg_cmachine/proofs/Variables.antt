@@ -9,7 +9,8 @@ use Rattle.cg_ctree.specs.declared.tree.CTy.TheVariants.{Word, Struct, Pointer}
 use Rattle.cg_ctree.specs.declared.why.Why.{Why}
 use Rattle.cg_ctree.specs.declared.why.Why.TheVariants.{KindsDiffer}
 use Rattle.cg_ctree.specs.Runs as runs
-use Rattle.cg_ctree.specs.Runs.{Judged, ok, no, on, Value, literal, typed, same_word, Variable, Frame, look, judge, judge_all, number_of, as_value, give, unset, enter, filled}
+use Rattle.cg_base.specs.Words.{same_word}
+use Rattle.cg_ctree.specs.Runs.{Judged, ok, no, on, Value, literal, typed, Variable, Frame, look, judge, judge_all, number_of, as_value, give, unset, enter, filled}
 use Rattle.cg_cmachine.specs.declared.slots.Slot.{Slot}
 use Rattle.cg_cmachine.specs.declared.operands.Scalar.{Scalar}
 use Rattle.cg_cmachine.specs.Views.{First, with_number, variable_of, frame_of, value_of}

@@ -1,5 +1,5 @@
-//! The machine of the C subset: it runs a program on one word, with a stack of frames of its own. docs/LANGUAGE.md, "The C
-//! subset", says in words what a run does. Structs, pointers, the heap and the built-ins join here.
+//! The machine of the C subset, [`run_words`]: it runs a program on one word, with a stack of frames of its own.
+//! docs/LANGUAGE.md, "The C subset", says in words what a run does. Structs, pointers, the heap and the built-ins join here.
 #![tactic(auto)]
 
 mod calls;

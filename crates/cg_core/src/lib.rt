@@ -1,5 +1,5 @@
-//! Kernel terms, cores and derivations: what a checked source is made of. docs/LANGUAGE.md, "Terms", says what
-//! the terms stand for.
+//! Kernel terms, cores and derivations, what a checked source is made of, and the kernel term of a core, by [`erase`].
+//! docs/LANGUAGE.md, "Terms", says what the terms stand for.
 #![tactic(auto)]
 
 mod at;

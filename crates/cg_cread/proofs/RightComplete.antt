@@ -12,7 +12,9 @@ use Rattle.cg_ctree.specs.Tokens.{Lexeme}
 use Rattle.cg_ctree.specs.Trees.{Function}
 use Rattle.cg_cread.specs.Bodies.{Draft, InStatement}
 use Rattle.cg_cread.specs.Machine.{State, InBody, at}
-use Rattle.cg_cread.specs.Rights.{is_inner, same_word, allows, right_end}
+use Rattle.cg_base.specs.Words.{same_word}
+use Rattle.cg_base.proofs.WordLaws.{word_same}
+use Rattle.cg_cread.specs.Rights.{is_inner, allows, right_end}
 use Rattle.cg_cread.specs.Symbols.{named, typed, number, opening, closing, tilde, operation}
 use Rattle.cg_cread.specs.declared.right.Cast.{Cast}
 use Rattle.cg_cread.specs.declared.right.Cast.TheVariants.{OfFlip, OfLeft, OfRight}
@@ -27,12 +29,6 @@ is_inner_word U8 h = absurd h
 is_inner_word U16 h = absurd h
 is_inner_word U32 h = refl
 is_inner_word U64 h = refl
-
-pub is_same : (v : Word) → same_word v v ≡ true
-is_same U8 = refl
-is_same U16 = refl
-is_same U32 = refl
-is_same U64 = refl
 
 module _ (done : List Function) (d : Draft) (target : List ℕ) where
   -- a state of the machine, in the right side of a statement
@@ -73,7 +69,7 @@ module _ (done : List Function) (d : Draft) (target : List ℕ) where
             ∙ move (in_right (right.Outer w)) (in_right (right.Inner w)) opening a.0 b.0 tt b.1 (λ later. refl)
             ∙ cast_read (right.Inner w) w OfLeft (λ later. refl) v (is_inner_word v h.0) l b.0 e.0 e.1
             ∙ move (in_right (right.BehindCast w OfLeft v l)) (in_right (right.InCast w (OfRight v p l) Before)) (operation p) e.0 f.0 tt f.1 (λ later. refl)
-            ∙ cast_read (right.InCast w (OfRight v p l) Before) w (OfRight v p l) (λ later. refl) v (is_same v) r f.0 g.0 g.1
+            ∙ cast_read (right.InCast w (OfRight v p l) Before) w (OfRight v p l) (λ later. refl) v (word_same v) r f.0 g.0 g.1
             ∙ move (in_right (right.BehindCast w (OfRight v p l) v r)) (in_right (right.Whole (Binary w v p l r))) closing g.0 rest tt g.2 (λ later. refl),
       )
 

@@ -8,7 +8,8 @@ use Rattle.cg_ctree.specs.declared.tree.COpnd.{COpnd}
 use Rattle.cg_ctree.specs.declared.tree.CRhs.{CRhs}
 use Rattle.cg_ctree.specs.Spells.{Reading, ◌then◌, token, mark, spelled, op_sign, IsInner, ReadsOpnd, ReadsTo, ReadsCast, ReadsSome, ReadsRight}
 use Rattle.cg_ctree.specs.Tokens.{Token, name, word, Lexeme}
-use Rattle.cg_cread.specs.Rights.{opnd_at, is_inner, same_word, allows, on_wanted, on_named, on_opened, on_typed, conversion, on_outer, on_inner, on_before, on_cast_opened, on_cast_typed, cast_operand, on_cast, on_behind, argument, on_argument, right_step, right_end}
+use Rattle.cg_base.proofs.WordLaws.{word_is}
+use Rattle.cg_cread.specs.Rights.{opnd_at, is_inner, allows, on_wanted, on_named, on_opened, on_typed, conversion, on_outer, on_inner, on_before, on_cast_opened, on_cast_typed, cast_operand, on_cast, on_behind, argument, on_argument, right_step, right_end}
 use Rattle.cg_cread.specs.Symbols.{Symbol, named, typed, number, opening, closing, comma, tilde, operation}
 use Rattle.cg_cread.specs.declared.right.Cast.{Cast}
 use Rattle.cg_cread.specs.declared.right.Cast.TheVariants.{OfFlip, OfLeft, OfRight}
@@ -63,13 +64,6 @@ inner_is U8 e = cc
 inner_is U16 e = cc
 inner_is U32 e = tt
 inner_is U64 e = tt
-
-word_is : (u v : Word) → same_word u v ≡ true → u ≡ v
-word_is U8 U8 e = refl
-word_is U16 U16 e = refl
-word_is U32 U32 e = refl
-word_is U64 U64 e = refl
-word_is u v e = cc
 
 allowed : (c : Cast) (v : Word) → allows c v ≡ true → Allowed c v
 allowed OfFlip v e = inner_is v e

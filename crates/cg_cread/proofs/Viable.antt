@@ -31,7 +31,8 @@ use Rattle.cg_cread.specs.declared.statement.Statement.{Statement}
 use Rattle.cg_cread.specs.declared.statement.Statement.TheVariants as statement
 use Rattle.cg_cread.proofs.Complete.{complete}
 use Rattle.cg_cread.proofs.Known.{Fits, back}
-use Rattle.cg_cread.proofs.RightComplete.{in_right, is_same}
+use Rattle.cg_base.proofs.WordLaws.{word_same}
+use Rattle.cg_cread.proofs.RightComplete.{in_right}
 use Rattle.cg_cread.proofs.Sound.{sound}
 use Rattle.cg_cread.proofs.Steps.{run}
 
@@ -80,12 +81,12 @@ module _ (done : List Function) (d : Draft) (x : List ℕ) where
   behind_right w u p l v o = fed closing tt (in_right done d x (right.BehindCast w (OfRight u p l) v o)) (whole _)
 
   behind_left : (w v : Word) (o : COpnd) → Completable (in_right done d x (right.BehindCast w OfLeft v o))
-  behind_left w v o = fed (operation Add) tt (in_right done d x (right.BehindCast w OfLeft v o)) (in_cast w (OfRight v Add o) v (is_same v) (behind_right w v Add o) Before)
+  behind_left w v o = fed (operation Add) tt (in_right done d x (right.BehindCast w OfLeft v o)) (in_cast w (OfRight v Add o) v (word_same v) (behind_right w v Add o) Before)
 
   cast_completable : (w : Word) (c : Cast) (s : Spot) → Completable (in_right done d x (right.InCast w c s))
   cast_completable w OfFlip s = in_cast w OfFlip U32 refl (behind_flip w) s
   cast_completable w OfLeft s = in_cast w OfLeft U32 refl (behind_left w) s
-  cast_completable w (OfRight u p l) s = in_cast w (OfRight u p l) u (is_same u) (behind_right w u p l) s
+  cast_completable w (OfRight u p l) s = in_cast w (OfRight u p l) u (word_same u) (behind_right w u p l) s
 
   behind_completable : (w : Word) (c : Cast) (v : Word) (o : COpnd) → Completable (in_right done d x (right.BehindCast w c v o))
   behind_completable w OfFlip v o = behind_flip w v o

@@ -2,6 +2,7 @@
 use Rattle.std.specs.Prelude.{ℕ, Bool, true, false, List, [], ◌∷◌, ◌++◌, Option, Some, None, if◌then◌else◌}
 use Rattle.cg_base.specs.declared.kind.Word.{Word}
 use Rattle.cg_base.specs.declared.kind.Word.TheVariants.{U8, U16, U32, U64}
+use Rattle.cg_base.specs.Words.{same_word}
 use Rattle.cg_ctree.specs.declared.tree.COpnd.{COpnd}
 use Rattle.cg_ctree.specs.declared.tree.COpnd.TheVariants.{Number, Path}
 use Rattle.cg_ctree.specs.declared.tree.CPath.{CPath}
@@ -31,14 +32,6 @@ is_inner U8 = false
 is_inner U16 = false
 is_inner U32 = true
 is_inner U64 = true
-
--- whether two words are one ("The C text", `cast`)
-abbrev pub same_word : Word → Word → Bool
-same_word U8 U8 = true
-same_word U16 U16 = true
-same_word U32 U32 = true
-same_word U64 U64 = true
-same_word v w = false
 
 -- whether a cast may be to a word: both casts of an operation are to one ("The C text", `cast`)
 abbrev pub allows : Cast → Word → Bool

@@ -1,4 +1,4 @@
-//! Reads a C text: from its bytes to the program that they spell, or to the first token that no program goes on with.
+//! [`read_c`] reads a C text: from its bytes to the program that they spell, or to the first token that no program goes on with.
 //! docs/LANGUAGE.md, "The C text", says what is spelled.
 #![tactic(auto)]
 

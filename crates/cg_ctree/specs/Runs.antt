@@ -3,8 +3,7 @@
 use Rattle.std.specs.Prelude.{ℕ, zero, suc, ◌+◌, ◌-◌, ◌*◌, ◌/◌, ◌%◌, ◌^◌, Bool, true, false, not, List, [], ◌∷◌, Option, Some, None, nat_lt, nat_le, nat_eq, bytes_eq, cond}
 use Rattle.std.specs.Int.Bits.{bit_and, bit_or, bit_xor}
 use Rattle.cg_base.specs.declared.kind.Word.{Word}
-use Rattle.cg_base.specs.declared.kind.Word.TheVariants.{U8, U16, U32, U64}
-use Rattle.cg_base.specs.Words.{bits}
+use Rattle.cg_base.specs.Words.{bits, same_word}
 use Rattle.cg_ctree.specs.declared.tree.CDecl.{CDecl}
 use Rattle.cg_ctree.specs.declared.tree.COp.{COp}
 use Rattle.cg_ctree.specs.declared.tree.COp.TheVariants as op
@@ -18,13 +17,6 @@ use Rattle.cg_ctree.specs.declared.tree.CTy.TheVariants as ty
 use Rattle.cg_ctree.specs.declared.why.Why.{Why}
 use Rattle.cg_ctree.specs.declared.why.Why.TheVariants.{NoFunction, NoBody, Unset, ByZero, ShiftTooFar, NoCase, NoReturn, KindsDiffer}
 use Rattle.cg_ctree.specs.Trees.{Stmt, assign, branch, while, switch, call, return', Block, stop, also, Cases, end, case, Body, Function, Program}
-
-abbrev pub same_word : Word → Word → Bool
-same_word U8 U8 = true
-same_word U16 U16 = true
-same_word U32 U32 = true
-same_word U64 U64 = true
-same_word _ _ = false
 
 -- what judging gives
 pub data Judged (A : Type 0) : Type 0 where

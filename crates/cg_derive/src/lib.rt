@@ -1,5 +1,5 @@
-//! The core and the derivation that each body of a kernel is kept with: the core of plain typing, and the derivation
-//! with the occurrence marks. docs/LANGUAGE.md, "Typing", says what they are. This is the small language's part:
+//! The core and the derivation that each body of a kernel is kept with, by [`cores_of`] and [`trees_of`]: the core of plain
+//! typing, and the derivation with the occurrence marks. docs/LANGUAGE.md, "Typing", says what they are. This is the small language's part:
 //! variables, unit, literals, functions, sums, calls and `let`. The source with its contexts and flags, by which these
 //! walks and the checker's pass go, is handed out too.
 #![tactic(auto)]

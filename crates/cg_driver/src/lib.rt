@@ -1,4 +1,4 @@
-//! The top call: words, reads, a verdict and one write. docs/LANGUAGE.md says what the commands do and print.
+//! The top call, [`cogent`]: words, reads, a verdict and one write. docs/LANGUAGE.md says what the commands do and print.
 #![tactic(auto)]
 
 mod call;

@@ -1,4 +1,4 @@
-//! Evaluation: what a function gives on a value, without a heap, and at what cost. docs/LANGUAGE.md, "Evaluation", says
+//! Evaluation, [`eval`]: what a function gives on a value, without a heap, and at what cost. docs/LANGUAGE.md, "Evaluation", says
 //! it in words. This is the part for plain sources: variables, unit, literals, functions, sums, calls and `let`.
 #![tactic(auto)]
 

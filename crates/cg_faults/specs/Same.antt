@@ -2,21 +2,13 @@
 use Rattle.std.specs.Prelude.{ℕ, Bool, true, false, ◌&&◌, not, List, [], ◌∷◌, nat_eq}
 use Rattle.cg_base.specs.declared.kind.Sigil.{Sigil}
 use Rattle.cg_base.specs.declared.kind.Sigil.TheVariants.{R, W, U}
-use Rattle.cg_base.specs.declared.kind.Word.{Word}
-use Rattle.cg_base.specs.declared.kind.Word.TheVariants.{U8, U16, U32, U64}
+use Rattle.cg_base.specs.Words.{same_word}
 use Rattle.cg_base.specs.Types.{Tau, var, seen, unit, word, bool, arrow, abs, variant, fields, Taus, none, more, Parts, end, part}
 
 abbrev pub same_name : List ℕ → List ℕ → Bool
 same_name [] [] = true
 same_name (x ∷ xs) (y ∷ ys) = nat_eq x y && same_name xs ys
 same_name _ _ = false
-
-abbrev pub same_word : Word → Word → Bool
-same_word U8 U8 = true
-same_word U16 U16 = true
-same_word U32 U32 = true
-same_word U64 U64 = true
-same_word _ _ = false
 
 abbrev pub same_sigil : Sigil → Sigil → Bool
 same_sigil R R = true

@@ -1,4 +1,4 @@
-//! Heap files: so far one argument, a word of 32 bits, and no cells. docs/LANGUAGE.md, "Heap files", says what they hold.
+//! Heap files, read by [`read_argument`]: so far one argument, a word of 32 bits, and no cells. docs/LANGUAGE.md, "Heap files", says what they hold.
 #![tactic(auto)]
 
 mod fault;

@@ -1,5 +1,5 @@
-//! Kinds, equality, bang and substitution of types, and their laws. docs/LANGUAGE.md, "Kinds and bang", says what
-//! they mean.
+//! Kinds, equality, bang and substitution of types, by [`kinds_of`], [`same`], [`bang`] and [`subst`], and their laws.
+//! docs/LANGUAGE.md, "Kinds and bang", says what they mean.
 #![tactic(auto)]
 
 mod change;

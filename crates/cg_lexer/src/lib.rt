@@ -1,4 +1,4 @@
-//! The tokens of a source, one by one, as slices of it. docs/LANGUAGE.md, "Tokens", says what they are.
+//! The tokens of a source, one by one, as slices of it, by [`Lexer`]. docs/LANGUAGE.md, "Tokens", says what they are.
 #![tactic(auto)]
 
 mod bytes;

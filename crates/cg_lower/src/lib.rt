@@ -1,4 +1,4 @@
-//! Lowering: the C of a plain source, and that it gives what evaluation gives. docs/LANGUAGE.md, "Lowering", says it in words.
+//! Lowering, [`lower`]: the C of a plain source, and that it gives what evaluation gives. docs/LANGUAGE.md, "Lowering", says it in words.
 #![tactic(auto)]
 
 mod calls;

@@ -1,4 +1,4 @@
-//! The kernel term of an expression (docs/LANGUAGE.md, "Desugaring").
+//! The kernel term of an expression, by [`body`] (docs/LANGUAGE.md, "Desugaring").
 #![tactic(auto)]
 
 mod binders;

@@ -67,9 +67,6 @@ module _ (vars : List Kinds) where
   abbrev pub shares : Tau → Bool
   shares t = (kinds vars t).share
 
-  abbrev pub escapes : Tau → Bool
-  escapes t = (kinds vars t).escape
-
   -- a mark fits an entry, which is among the observers or not: a gone entry is gone on both sides, a present one goes to
   -- one side, or to both where it may be shared, or is observed
   abbrev pub Fits : Bool → Mark → Option Tau → Type 0

@@ -1,4 +1,4 @@
-//! Values, as evaluation gives them, and their printed text. docs/LANGUAGE.md, "Values", says what they are; this is
+//! Values, as evaluation gives them, and their printed text, by [`print_value`]. docs/LANGUAGE.md, "Values", says what they are; this is
 //! the part that plain sources need: the text of a word.
 #![tactic(auto)]
 

@@ -1,4 +1,4 @@
-//! The words of the command line, read by `clap`. docs/LANGUAGE.md, "Commands", says which words call for which command.
+//! The words of the command line, read by [`read_words`] with `clap`. docs/LANGUAGE.md, "Commands", says which words call for which command.
 #![tactic(auto)]
 
 mod app;
