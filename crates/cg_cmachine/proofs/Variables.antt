@@ -1,7 +1,7 @@
 -- Variables and frames.
 use Rattle.std.proofs.Common.{◌≡◌, ℕ, zero, suc, ◌≤◌, Bool, true, false, Some, List, [], ◌∷◌, length, get_or, set, map, refl, sym, ap, ◌∙◌, arith, cond, nat_lt, ◌^◌}
 use Rattle.std.proofs.lemmas.List.{length-map}
-use Rattle.cg_base.specs.Words.{bits}
+use Rattle.cg_base.specs.Words.{bits, same_word}
 use Rattle.cg_ctree.specs.declared.tree.CDecl.{CDecl}
 use Rattle.cg_ctree.specs.declared.tree.CPath.{CPath}
 use Rattle.cg_ctree.specs.declared.tree.CTy.{CTy}
@@ -9,7 +9,6 @@ use Rattle.cg_ctree.specs.declared.tree.CTy.TheVariants.{Word, Struct, Pointer}
 use Rattle.cg_ctree.specs.declared.why.Why.{Why}
 use Rattle.cg_ctree.specs.declared.why.Why.TheVariants.{KindsDiffer}
 use Rattle.cg_ctree.specs.Runs as runs
-use Rattle.cg_base.specs.Words.{same_word}
 use Rattle.cg_ctree.specs.Runs.{Judged, ok, no, on, Value, literal, typed, Variable, Frame, look, judge, judge_all, number_of, as_value, give, unset, enter, filled}
 use Rattle.cg_cmachine.specs.declared.slots.Slot.{Slot}
 use Rattle.cg_cmachine.specs.declared.operands.Scalar.{Scalar}

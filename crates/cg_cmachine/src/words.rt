@@ -2,8 +2,7 @@
 #![tactic(auto, using(crate::proofs::Numbers::number_steps))]
 
 ghost use Rattle.std.specs.Prelude.{◌≡◌, ◌<◌, ◌+◌, ◌-◌, ◌%◌, ◌^◌, nat_lt, nat_le, nat_eq, not};
-ghost use Rattle.cg_base.specs.Words.{bits};
-ghost use Rattle.cg_base.specs.Words.{same_word};
+ghost use Rattle.cg_base.specs.Words.{bits, same_word};
 ghost use Rattle.cg_ctree.specs.Runs.{flag as flag_of};
 ghost use Rattle.cg_ctree.specs.declared.tree.COp.TheVariants.{Shl, Shr};
 ghost use Rattle.cg_cmachine.specs.Views.{Gives, reduced};

@@ -12,7 +12,6 @@ use Rattle.cg_ctree.specs.Tokens.{Lexeme}
 use Rattle.cg_ctree.specs.Trees.{Function}
 use Rattle.cg_cread.specs.Bodies.{Draft, InStatement}
 use Rattle.cg_cread.specs.Machine.{State, InBody, at}
-use Rattle.cg_base.specs.Words.{same_word}
 use Rattle.cg_base.proofs.WordLaws.{word_same}
 use Rattle.cg_cread.specs.Rights.{is_inner, allows, right_end}
 use Rattle.cg_cread.specs.Symbols.{named, typed, number, opening, closing, tilde, operation}
