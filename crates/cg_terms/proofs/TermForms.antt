@@ -92,13 +92,13 @@ module _ (names : Names) (place : Place) (entries : List (Option (Bor (List ℕ)
     pub let_says : (r : Result (code.Term Place) TermFault) → Moved a (binds_in names place (map bind_of binds) (scope_in a)) b (λ rest. rest (scope_in b))
         → Says b.above (inside b (term_in names (scope_in b) (expr_of body))) r → Says above (term_in names (scope_of entries) (lets place (to_binds (map bind_of binds)) (expr_of body))) r
     let_says r moved says =
-        at_site _ _ r (let_is names place (scope_in a) binds body)
+        at_site (lets place (to_binds (map bind_of binds)) (expr_of body)) _ r (let_is names place (scope_in a) binds body)
         (made_says a b (binds_in names place (map bind_of binds) (scope_in a)) (λ s. term_in names s (expr_of body)) r none moved says)
 
     pub let_err : (fault : TermFault) (r : Result (code.Term Place) TermFault) → IsErrAnd r (λ e. e ≡ fault)
         → Refuses fault (IsTooDeep a (binds_in names place (map bind_of binds) (scope_in a))) → Says above (term_in names (scope_of entries) (lets place (to_binds (map bind_of binds)) (expr_of body))) r
     let_err fault r err refuses =
-        over_site _ _ fault r (let_is names place (scope_in a) binds body) err
+        over_site (lets place (to_binds (map bind_of binds)) (expr_of body)) _ fault r (let_is names place (scope_in a) binds body) err
         (weaker fault _ _ refuses (λ deep. made_over a (binds_in names place (map bind_of binds) (scope_in a)) (λ s. term_in names s (expr_of body)) none deep))
 
   -- a condition
@@ -114,7 +114,7 @@ module _ (names : Names) (place : Place) (entries : List (Option (Bor (List ℕ)
         → Says b.above (inside b (kernel.term place (kernel.if_else (the_term e) (term_in names (scope_in b) (expr_of branch)) (term_in names (scope_in b) (expr_of other))))) r
         → Says above (term_in names (scope_of entries) (if_else place (expr_of test) seen (expr_of branch) (expr_of other))) r
     if_says e r looked says =
-        at_site _ _ r refl
+        at_site (if_else place (expr_of test) seen (expr_of branch) (expr_of other)) _ r refl
         (looked_says (Some 1) a b (observed place (first_place (expr_of test)) (term_in names (scope_in a) (expr_of test)) seen (scope_in a))
         (branched place (λ s. term_in names s (expr_of branch)) (λ s. term_in names s (expr_of other))) none
         (branched_uses place (λ s. term_in names s (expr_of branch)) (λ s. term_in names s (expr_of other))) (the_term e) r looked says)
@@ -125,7 +125,7 @@ module _ (names : Names) (place : Place) (entries : List (Option (Bor (List ℕ)
         → Says above (term_in names (scope_of entries) (if_else place (expr_of test) seen (expr_of branch) (expr_of other))) r
     unfolding looked_test branches
     test_err fault r err refuses =
-        over_site _ (looked_test branches) fault r refl err
+        over_site (if_else place (expr_of test) seen (expr_of branch) (expr_of other)) (looked_test branches) fault r refl err
         (looked_over (Some 1) a b looked_test branches none (branched_uses place (λ s. term_in names s (expr_of branch)) (λ s. term_in names s (expr_of other))) fault refuses)
 
   -- a match
@@ -141,7 +141,7 @@ module _ (names : Names) (place : Place) (entries : List (Option (Bor (List ℕ)
         → Looked stands a (observed place (first_place (expr_of value)) (term_in names (scope_in a) (expr_of value)) seen (scope_in a)) (the_term e) b
         → Says b.above (inside b (choices_in names (map alt_of choices) (the_term e) (scope_in b))) r → Says above (term_in names (scope_of entries) (match_of place (expr_of value) seen (to_alts (map alt_of choices)))) r
     match_says e r looked says =
-        at_site _ _ r (match_is names place (scope_in a) value seen choices)
+        at_site (match_of place (expr_of value) seen (to_alts (map alt_of choices))) _ r (match_is names place (scope_in a) value seen choices)
         (looked_says stands a b (observed place (first_place (expr_of value)) (term_in names (scope_in a) (expr_of value)) seen (scope_in a)) (choices_in names (map alt_of choices)) none choices_use
         (the_term e) r looked says)
 
@@ -150,5 +150,5 @@ module _ (names : Names) (place : Place) (entries : List (Option (Bor (List ℕ)
         → term_limit < a.above + depth_of (inside a (observed place (first_place (expr_of value)) (term_in names (scope_in a) (expr_of value)) seen (scope_in a) go)))
         → Says above (term_in names (scope_of entries) (match_of place (expr_of value) seen (to_alts (map alt_of choices)))) r
     match_err fault r err refuses =
-        over_site _ _ fault r (match_is names place (scope_in a) value seen choices) err
+        over_site (match_of place (expr_of value) seen (to_alts (map alt_of choices))) _ fault r (match_is names place (scope_in a) value seen choices) err
         (looked_over stands a b (observed place (first_place (expr_of value)) (term_in names (scope_in a) (expr_of value)) seen (scope_in a)) (choices_in names (map alt_of choices)) none choices_use fault refuses)

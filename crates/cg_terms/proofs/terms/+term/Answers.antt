@@ -164,7 +164,7 @@ pub branches_term-returns-in_err-yes : goal.branches_term-returns-in_err-yes
 branches_term-returns-in_err-yes t c =
     branch_deep c.args.site.now c.args.place (the_term c.args.test)
     (term_in c.args.names.now (scope_in c.args.site.now) (expr_of c.args.yes.now)) (term_in c.args.names.now (scope_in c.args.site.now) (expr_of c.args.no.now))
-    c.in_err-yes.field-0.0 _ c.from_residual-in_err-yes.ensures.1 c.in_err-yes.ensures
+    c.in_err-yes.field-0.0 _ c.from_residual.ensures.1 c.in_err-yes.ensures
 
 pub branches_term-returns-in_err-no : goal.branches_term-returns-in_err-no
 branches_term-returns-in_err-no t c =
