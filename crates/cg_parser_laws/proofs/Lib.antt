@@ -1,3 +1,4 @@
+mod Examples
 pub mod ExprFaults
 pub mod ExprParts
 pub mod ExprTakes

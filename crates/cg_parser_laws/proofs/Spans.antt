@@ -23,10 +23,6 @@ earlier_trans k l m (inl a) (inr b) = inl (subst (λ p. IsBefore k.place p) b.0 
 earlier_trans k l m (inr a) (inl b) = inl (subst (λ p. IsBefore p m.place) (sym a.0) b)
 earlier_trans k l m (inr a) (inr b) = inr (a.0 ∙ b.0, omega (arith, a.1, b.1))
 
-pub earlier_before : (k l : Key) (p : Place) → IsEarlier k l → IsBefore l.place p → IsBefore k.place p
-earlier_before k l p (inl a) b = before_trans k.place l.place p a b
-earlier_before k l p (inr a) b = subst (λ q. IsBefore q p) (sym a.0) b
-
 module _ {E : Type 0} (key : E → Key) where
   -- behind one of them stand these, each behind the one before it, and the last at a place at most
   abbrev pub Chain : E → List E → Place → Type 0
