@@ -1,9 +1,22 @@
--- The law of the grammar.
-use Rattle.std.specs.Prelude.{ℕ, List}
+-- The laws of the grammar. Each line and column of a text with fewer bytes than the greatest line and column that are told is told.
+use Rattle.std.specs.Prelude.{ℕ, ◌<◌, List, length}
+use Rattle.cg_base.specs.Places.{most}
 use Rattle.cg_surface.specs.Programs.{Entry}
+use Rattle.cg_desugar.specs.Faults.{program_faults}
+use Rattle.cg_desugar.specs.Order.{AreGrowing, AreOrdered}
+use Rattle.cg_desugar.specs.Takes.{missing_fields}
 use Rattle.cg_lawful_laws.specs.Shaped.{IsShaped}
 use Rattle.cg_parser.specs.Grammar.{Spells}
 
 -- each program that the bytes of a text spell has a shape that the grammar gives
 abbrev pub SpelledIsShaped : Type 0
 SpelledIsShaped = (bytes : List ℕ) (p : List Entry) → Spells bytes p → IsShaped p
+
+-- The faults N1, N2 and N4 of a program that such a text spells stand in order, each before all later ones: by place, and at one place by the
+-- number of the rule. So the first of them is the least.
+abbrev pub SpelledFaultsAreOrdered : Type 0
+SpelledFaultsAreOrdered = (bytes : List ℕ) (p : List Entry) → length bytes < most → Spells bytes p → AreOrdered (program_faults p)
+
+-- the places of N5 of a program that such a text spells grow, each before all later ones
+abbrev pub SpelledTakesGrow : Type 0
+SpelledTakesGrow = (bytes : List ℕ) (p : List Entry) → length bytes < most → Spells bytes p → AreGrowing (missing_fields p)
