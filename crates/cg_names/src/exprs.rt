@@ -5,12 +5,12 @@ ghost use Rattle.std.specs.Prelude.{◌≡◌, ◌++◌, ◌∷◌, [], map, len
 ghost use Rattle.cg_surface.specs.Exprs.{expr_of, field_of, bind_of, alt_of, to_exprs, to_fields, to_binds, to_alts};
 ghost use Rattle.cg_desugar.specs.Faults.{all_bound, bound, mention_faults, seen_faults, expr_faults, list_faults, record_faults, put_faults, binds_faults, match_faults};
 ghost use Rattle.cg_declared.specs.Declarations.{entries_of, IsIndexed};
-ghost use Rattle.cg_names.specs.Parts.{bind_faults, choice_faults, value_faults};
+ghost use Rattle.cg_names.specs.Parts.{bind_faults, choice_faults, value_faults, fault_again};
 ghost use Rattle.cg_names.specs.Says.{Says};
 ghost use Rattle.cg_names.specs.Scopes.{SameNames};
 
 use crate::fault::NamingFault;
-use crate::patterns::{enter_new, pattern_scope};
+use crate::patterns::pattern_scope;
 use crate::scope::Scope;
 use crate::types::{check_count, check_type, check_types};
 use cg_base::Place;
@@ -174,8 +174,23 @@ fn check_value<'a>(
     ensures names { OnOk result (before.new ≡ before.old ++ (field_of field.now).at.name ∷ []) }
     ensures scope { OnOk result (scope.new ≡ scope.old) }
 {
-    enter_new(before, field.at.place, field.at.name.bytes())?;
-    check_expr(alloc, declared, vars, scope, &field.value)
+    if before.enter(field.at.name.bytes())? {
+        return check_expr(alloc, declared, vars, scope, &field.value);
+    }
+    let value = check_expr(alloc, declared, vars, scope, &field.value);
+    Err(fault_again(field.at.place, value))
+}
+
+// The first fault of a field whose name stands before it already, by what its value answers: an unknown name comes first where the
+// field is written alone, so that it and its value stand at one place.
+fn fault_again(place: Place, value: Result<(), NamingFault>) -> NamingFault
+    ensures { result ≡ fault_again place value }
+{
+    match value {
+        Err(NamingFault::N1(unknown)) if unknown == place => NamingFault::N1(unknown),
+        Err(NamingFault::Memory) => NamingFault::Memory,
+        _ => NamingFault::N2(place),
+    }
 }
 
 // The same of fields that are put, which needn't be apart.

@@ -4,7 +4,7 @@ use Rattle.cg_desugar.specs.Faults.{expr_faults}
 use Rattle.cg_declared.specs.Declarations.{entries_of}
 use Rattle.cg_names.specs.Parts.{choice_faults, value_faults}
 use Rattle.cg_names.specs.Says.{IsFirstFault}
-use Rattle.cg_names.proofs.ExprSteps.{expr_fault, expr_turn, put_fault, put_turn, value_fault, value_turn, value_more, bind_fault, bind_turn, bind_more, choice_fault, choice_turn, kept_twice, mention_first, let_none, let_fault, choice_none, choice_first, expr_steps}
+use Rattle.cg_names.proofs.ExprSteps.{expr_fault, expr_turn, put_fault, put_turn, value_fault, value_turn, value_more, bind_fault, bind_turn, bind_more, choice_fault, choice_turn, kept_twice, mention_first, let_none, let_fault, choice_none, choice_first, field_new, field_again, expr_steps}
 use Rattle.cg_names.proofs.SaysSteps.{says_first}
 use Rattle.cg_names.specs.Scopes.{SameNames}
 use Rattle.cg_names.proofs.exprs.+check_expr.Goals as goal
@@ -106,3 +106,9 @@ pub check_expr-returns-in_ok-check_expr-in-Let-clause-says : goal.check_expr-ret
 check_expr-returns-in_ok-check_expr-in-Let-clause-says t c =
     let none = let_none (entries_of c.args.declared.now) c.args.vars.now c.args.scope.now c.check_binds.new.scope (to_binds (map bind_of c.as_slice-in-Let.result.now)) (expr_of c.in-Let.body.value) c.in_ok-check_binds-in-Let.ensures.says c.in_ok-check_binds-in-Let.ensures.names in
     search (rules, none, expr_steps)
+
+pub check_value-returns-then-branch-clause-says : goal.check_value-returns-then-branch-clause-says
+check_value-returns-then-branch-clause-says t c = search (rules, field_new, expr_steps)
+
+pub check_value-returns-clause-says : goal.check_value-returns-clause-says
+check_value-returns-clause-says t c = search (rules, field_again, expr_steps)
