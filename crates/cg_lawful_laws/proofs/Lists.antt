@@ -4,7 +4,9 @@ use Rattle.std.specs.Cmp.Lexicographic.{bytes_decides}
 use Rattle.std.specs.Str.{bytes_eq}
 use Rattle.cg_base.specs.declared.place.Place.{Place}
 use Rattle.cg_desugar.specs.Declared.{is_among}
-use Rattle.cg_desugar.specs.Faults.{again, twice}
+use Rattle.cg_base.specs.Places.{is_at}
+use Rattle.cg_core.specs.declared.at.At.{At}
+use Rattle.cg_desugar.specs.Faults.{NameFault, again, arguments, field_with, twice, unknown}
 
 -- two lists that are nothing together
 pub none_left : {A : Type 0} (xs ys : List A) → xs ++ ys ≡ [] → xs ≡ []
@@ -22,6 +24,17 @@ not_again before p n none = pick (is_among before n) none
     pick : (b : Bool) → cond b (twice p ∷ []) [] ≡ [] → b ≡ false
     pick true e = absurd (cc)
     pick false e = refl
+
+-- a field without a fault is new, and its value has none
+pub field_none : (before : List (List ℕ)) (at : At) (faults : List NameFault) → field_with before at faults ≡ [] → (again before at.place at.name ≡ []) × (faults ≡ [])
+field_none before at [] e = (e, refl)
+field_none before at (unknown p ∷ later) e = absurd (pick (is_at p at.place) e)
+  where
+    pick : (b : Bool) → cond b (unknown p ∷ again before at.place at.name ++ later) (again before at.place at.name ++ unknown p ∷ later) ≡ [] → ⊥
+    pick true h = cc
+    pick false h = let no = none_right (again before at.place at.name) (unknown p ∷ later) h in cc
+field_none before at (twice p ∷ later) e = absurd (let no = none_right (again before at.place at.name) (twice p ∷ later) e in cc)
+field_none before at (arguments p ∷ later) e = absurd (let no = none_right (again before at.place at.name) (arguments p ∷ later) e in cc)
 
 pub or_left : (b c : Bool) → (b || c) ≡ false → b ≡ false
 or_left true c e = absurd (cc)

@@ -19,13 +19,13 @@ use Rattle.cg_surface.specs.Programs.{Entry}
 use Rattle.cg_desugar.specs.Declared.{OfLibrary, OfProgram, function_named, is_among, library, looked_up}
 use Rattle.cg_desugar.specs.Desugar.{parts_limit}
 use Rattle.cg_desugar.specs.Expand.{Bodies, component, expanded, types_length}
-use Rattle.cg_desugar.specs.Faults.{again, all_bound, binds_faults, bound, counted, expr_faults, function_faults, library_faults, list_faults, match_faults, mention_faults, pattern_faults, put_faults, record_faults, seen_faults, type_faults, types_faults, unknown, value_names}
+use Rattle.cg_desugar.specs.Faults.{all_bound, binds_faults, bound, counted, expr_faults, field_with, function_faults, library_faults, list_faults, match_faults, mention_faults, pattern_faults, put_faults, record_faults, seen_faults, type_faults, types_faults, unknown, value_names}
 use Rattle.cg_desugar.specs.Mentions.{binds_mentions, expr_mentions, list_mentions, match_mentions, values_mentions}
 use Rattle.cg_desugar.specs.Takes.{exprs_length, values_length, widest, widest_alts, widest_binds, widest_expr, widest_list, widest_of, widest_values}
 use Rattle.cg_desugar.specs.Terms.{Rest, Scope, Term, all_written, alternatives, bindings, body_term, cases, components_of, fields_of, first_place, function_of, inner_place, its_name, last_bound, let_bound, list_length, mention, observed, or_empty, or_library, or_zero, payload_bound, positions, puts, seen_bound, term_of, variable, written}
 use Rattle.cg_lawful_laws.specs.Shaped.{AreShapedBinds, AreShapedChoices, AreShapedExprs, AreShapedTypes, AreShapedValues, IsBinary, IsShapedExpr, IsShapedPattern, IsShapedType, IsUnary}
 use Rattle.cg_lawful_laws.proofs.Expanded.{AreSound, component_apart, counted_same, looked_up_all, type_lawful, unknown_not}
-use Rattle.cg_lawful_laws.proofs.Lists.{AreNew, new_here, none_left, none_right, not_again, one_new}
+use Rattle.cg_lawful_laws.proofs.Lists.{AreNew, field_none, new_here, none_left, none_right, not_again, one_new}
 use Rattle.cg_lawful_laws.proofs.Patterns.{Binds as Binding, binds_at, binds_both, binds_nothing, binds_to, name_bound}
 use Rattle.cg_lawful_laws.proofs.Proper.{AreProper, IsProper, proper_annot, proper_app, proper_case, proper_cast, proper_con, proper_esac, proper_fun, proper_if, proper_let_bang, proper_member, proper_op_one, proper_op_two, proper_put, proper_struct, proper_unit, proper_var}
 use Rattle.cg_lawful_laws.proofs.Scopes.{Covers, Extends, covers_both, covers_first, covers_later, further, itself, named_entry, variable_there, variable_within, with_entry}
@@ -313,12 +313,13 @@ module _ (entries : List Entry) (known : Bodies) (names : List (List ℕ)) (arit
         → AreNamed M (values_mentions inside es) → AreNew (value_names es) (field_names fs) → AreProper arities (length names) P (length scope) fs → AreProper arities (length names) P (length scope) (fields_of entries known names scope es fs)
     fields_proper inside scope exprs.no_fields fs covers none shaped narrow named new rest = rest
     fields_proper inside scope (exprs.and_field es at e) fs covers none shaped narrow named new rest =
-        let before = none_left (record_faults entries names inside es ++ again (value_names es) at.place at.name) (expr_faults entries names inside e) none in
-        fields_proper inside scope es _ covers (none_left (record_faults entries names inside es) (again (value_names es) at.place at.name) before) shaped.0 (omega (arith, narrow)) (named_left M (values_mentions inside es) (expr_mentions inside e) named)
-        (one_new (value_names es) at.name (field_names fs) (not_again (value_names es) at.place at.name (none_right (record_faults entries names inside es) (again (value_names es) at.place at.name) before)) new)
+        let of_field = field_none (value_names es) at (expr_faults entries names inside e)
+        (none_right (record_faults entries names inside es) (field_with (value_names es) at (expr_faults entries names inside e)) none) in
+        fields_proper inside scope es _ covers (none_left (record_faults entries names inside es) (field_with (value_names es) at (expr_faults entries names inside e)) none) shaped.0 (omega (arith, narrow))
+        (named_left M (values_mentions inside es) (expr_mentions inside e) named)
+        (one_new (value_names es) at.name (field_names fs) (not_again (value_names es) at.place at.name of_field.0) new)
         (one_field arities (length names) P (length scope) at.name (term_of entries known names scope e) fs (new_here (value_names es) at.name (field_names fs) new)
-        (term_proper inside scope e covers (none_right (record_faults entries names inside es ++ again (value_names es) at.place at.name) (expr_faults entries names inside e) none) shaped.1 (omega (arith, narrow))
-        (named_right M (values_mentions inside es) (expr_mentions inside e) named)) rest)
+        (term_proper inside scope e covers of_field.1 shaped.1 (omega (arith, narrow)) (named_right M (values_mentions inside es) (expr_mentions inside e) named)) rest)
 
     puts_proper : (inside : List (List ℕ)) (scope : Scope) (p : Place) (e : Term) (fs : FieldExprs) → Covers scope inside → put_faults entries names inside fs ≡ [] → AreShapedValues fs → widest_values fs ≤ parts_limit
         → AreNamed M (values_mentions inside fs) → Whole (length scope) e → Whole (length scope) (puts entries known names p scope e fs)

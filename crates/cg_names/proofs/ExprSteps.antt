@@ -1,8 +1,10 @@
 -- Steps over expressions.
-use Rattle.std.proofs.Common.{◌≡◌, ℕ, ◌+◌, ◌<◌, true, false, List, [], ◌∷◌, ◌++◌, map, length, get_or, take, drop, sym, ap, ◌∙◌, subst, refl, append_assoc, if◌then◌else◌}
+use Rattle.std.proofs.Common.{◌≡◌, ℕ, ◌+◌, ◌<◌, true, false, List, [], ◌∷◌, ◌++◌, map, length, get_or, take, drop, Result, Ok, Err, Bool, sym, ap, ◌∙◌, subst, refl, append_assoc, if◌then◌else◌}
+use Rattle.std.specs.Prelude.{⊤}
 use Rattle.std.proofs.lemmas.List.{take-append-drop, take_more}
 use Rattle.cg_desugar.specs.Declared.{is_among}
 use Rattle.cg_base.specs.declared.place.Place.{Place}
+use Rattle.cg_base.specs.Places.{is_at}
 use Rattle.cg_core.specs.declared.at.At.{At}
 use Rattle.cg_surface.specs.declared.expr.Alt.{Alt}
 use Rattle.cg_surface.specs.declared.expr.Bind.{Bind}
@@ -16,12 +18,12 @@ use Rattle.cg_surface.specs.Patterns.{pattern_of}
 use Rattle.cg_surface.specs.Programs.{Entry}
 use Rattle.cg_surface.specs.Written.{written_of, to_types}
 use Rattle.cg_desugar.specs.Expand.{types_length}
-use Rattle.cg_desugar.specs.Faults.{NameFault, unknown, again, bound, all_bound, pattern_faults, seen_faults, value_names, types_faults, mention_faults, expr_faults, list_faults, record_faults, put_faults, binds_faults, match_faults}
-use Rattle.cg_names.specs.Parts.{bind_faults, choice_faults, value_faults}
-use Rattle.cg_names.specs.Says.{IsFirstFault}
+use Rattle.cg_desugar.specs.Faults.{NameFault, unknown, twice, arguments, again, field_with, bound, all_bound, pattern_faults, seen_faults, value_names, types_faults, mention_faults, expr_faults, list_faults, record_faults, put_faults, binds_faults, match_faults}
+use Rattle.cg_names.specs.Parts.{bind_faults, choice_faults, value_faults, fault_again}
+use Rattle.cg_names.specs.Says.{IsFirst, IsFirstFault, Says}
 use Rattle.cg_names.specs.Scopes.{SameNames}
 use Rattle.cg_names.specs.declared.fault.NamingFault.{NamingFault}
-use Rattle.cg_names.specs.declared.fault.NamingFault.TheVariants.{N1}
+use Rattle.cg_names.specs.declared.fault.NamingFault.TheVariants.{N1, N2, N4, Memory}
 use Rattle.cg_names.proofs.Loops.{turn, fault, so_far}
 use Rattle.cg_names.proofs.Same.{expr_same, seen_same, more_behind}
 use Rattle.cg_names.proofs.SaysSteps.{says_first}
@@ -111,6 +113,74 @@ module _ (entries : List Entry) (vars names scope : List (List ℕ)) (x : Alt) (
   pub choice_first : (first : NamingFault) → IsFirstFault (expr_faults entries vars scope (expr_of x.body)) first → IsFirstFault (choice_faults entries vars names (alt_of x)) first
   choice_first first h = subst (λ l. IsFirstFault l first) (sym choice_body) h
 
+-- ---- a field of a record
+
+-- behind the same names, in any order
+field_same : (before others : List (List ℕ)) (at : At) (faults : List NameFault) → SameNames before others → field_with before at faults ≡ field_with others at faults
+field_same before others at [] same = again_same before others at.place at.name same
+field_same before others at (unknown p ∷ later) same =
+    ap (λ l. if is_at p at.place then unknown p ∷ l ++ later else l ++ unknown p ∷ later) (again_same before others at.place at.name same)
+field_same before others at (twice p ∷ later) same = ap (λ l. l ++ twice p ∷ later) (again_same before others at.place at.name same)
+field_same before others at (arguments p ∷ later) same = ap (λ l. l ++ arguments p ∷ later) (again_same before others at.place at.name same)
+
+-- one that is new has the faults of its value
+pub field_new : (before : List (List ℕ)) (at : At) (faults : List NameFault) → is_among before at.name ≡ false → field_with before at faults ≡ faults
+field_new before at faults new = at_fault faults (ap (λ b. if b then twice at.place ∷ [] else []) new)
+  where
+    either : (b : Bool) (l : List NameFault) → (if b then l else l) ≡ l
+    either true l = refl
+    either false l = refl
+
+    at_fault : (faults : List NameFault) → again before at.place at.name ≡ [] → field_with before at faults ≡ faults
+    at_fault [] none = none
+    at_fault (unknown p ∷ later) none = ap (λ l. if is_at p at.place then unknown p ∷ l ++ later else l ++ unknown p ∷ later) none ∙ either (is_at p at.place) (unknown p ∷ later)
+    at_fault (twice p ∷ later) none = ap (λ l. l ++ twice p ∷ later) none
+    at_fault (arguments p ∷ later) none = ap (λ l. l ++ arguments p ∷ later) none
+
+-- one that isn't has a fault, by what a search in its value answers
+pub field_again : (before : List (List ℕ)) (at : At) (faults : List NameFault) (value : Result ⊤ NamingFault) → is_among before at.name ≡ true → Says faults value
+    → IsFirstFault (field_with before at faults) (fault_again at.place value)
+field_again before at faults value old says = first faults value says
+  where
+    second : (later : List NameFault) → IsFirst (twice at.place) (again before at.place at.name ++ later)
+    second later = subst (λ b. IsFirst (twice at.place) ((if b then twice at.place ∷ [] else []) ++ later)) (sym old) refl
+
+    alone : IsFirst (twice at.place) (again before at.place at.name)
+    alone = subst (λ b. IsFirst (twice at.place) (if b then twice at.place ∷ [] else [])) (sym old) refl
+
+    unknown_first : (p : Place) (later : List NameFault) (b : Bool) → is_at p at.place ≡ b → IsFirstFault (field_with before at (unknown p ∷ later)) (if b then N1 p else N2 at.place)
+    unknown_first p later true is = subst (λ b. IsFirst (unknown p) (if b then unknown p ∷ again before at.place at.name ++ later else again before at.place at.name ++ unknown p ∷ later)) (sym is) refl
+    unknown_first p later false is =
+        subst (λ b. IsFirst (twice at.place) (if b then unknown p ∷ again before at.place at.name ++ later else again before at.place at.name ++ unknown p ∷ later)) (sym is) (second (unknown p ∷ later))
+
+    place_in : NameFault → Place
+    place_in (unknown p) = p
+    place_in (twice p) = p
+    place_in (arguments p) = p
+
+    first : (faults : List NameFault) (value : Result ⊤ NamingFault) → Says faults value → IsFirstFault (field_with before at faults) (fault_again at.place value)
+    first [] (Ok done) says = alone
+    first [] (Err (N1 p)) says = absurd says
+    first [] (Err (N2 p)) says = alone
+    first [] (Err (N4 p)) says = alone
+    first [] (Err Memory) says = tt
+    first (unknown p ∷ later) (Ok done) says = absurd (cc)
+    first (unknown p ∷ later) (Err (N1 q)) says =
+        subst (λ r. IsFirstFault (field_with before at (unknown p ∷ later)) (if is_at r at.place then N1 r else N2 at.place)) (ap place_in says) (unknown_first p later (is_at p at.place) refl)
+    first (unknown p ∷ later) (Err (N2 q)) says = absurd (cc)
+    first (unknown p ∷ later) (Err (N4 q)) says = absurd (cc)
+    first (unknown p ∷ later) (Err Memory) says = tt
+    first (twice p ∷ later) (Ok done) says = absurd (cc)
+    first (twice p ∷ later) (Err (N1 q)) says = absurd (cc)
+    first (twice p ∷ later) (Err (N2 q)) says = second (twice p ∷ later)
+    first (twice p ∷ later) (Err (N4 q)) says = second (twice p ∷ later)
+    first (twice p ∷ later) (Err Memory) says = tt
+    first (arguments p ∷ later) (Ok done) says = absurd (cc)
+    first (arguments p ∷ later) (Err (N1 q)) says = absurd (cc)
+    first (arguments p ∷ later) (Err (N2 q)) says = second (arguments p ∷ later)
+    first (arguments p ∷ later) (Err (N4 q)) says = second (arguments p ∷ later)
+    first (arguments p ∷ later) (Err Memory) says = tt
+
 module _ (entries : List Entry) (vars names : List (List ℕ)) where
   -- a turn of the loop over expressions
   module _ (items : List SExpr) (i : ℕ) (x : SExpr) (within : i < length items) (is : x ≡ get_or items i x) (none : list_faults entries vars names (to_exprs (map expr_of (take i items))) ≡ []) where
@@ -143,10 +213,10 @@ module _ (entries : List Entry) (vars names : List (List ℕ)) where
     of_value fs f = value_faults entries vars names (value_names fs) f
 
     value_step : (fs : FieldExprs) (f : OneField) → record_faults entries vars names (one_value fs f) ≡ record_faults entries vars names fs ++ of_value fs f
-    value_step fs f = append_assoc (record_faults entries vars names fs) (again (value_names fs) f.at.place f.at.name) (expr_faults entries vars names f.value)
+    value_step fs f = refl
 
     value_same : value_faults entries vars names before (field_of x) ≡ of_value (to_fields (map field_of (take i items))) (field_of x)
-    value_same = ap (λ l. l ++ expr_faults entries vars names (field_of x).value) (again_same before (value_names (to_fields (map field_of (take i items)))) (field_of x).at.place (field_of x).at.name same)
+    value_same = field_same before (value_names (to_fields (map field_of (take i items)))) (field_of x).at (expr_faults entries vars names (field_of x).value) same
 
     pub value_fault : (first : NamingFault) → IsFirstFault (value_faults entries vars names before (field_of x)) first → IsFirstFault (record_faults entries vars names (to_fields (map field_of items))) first
     value_fault first h = fault to_fields one_value fields_push (record_faults entries vars names) of_value value_step field_of items i x within is none first (subst (λ l. IsFirstFault l first) value_same h)

@@ -9,7 +9,7 @@ use Rattle.cg_surface.specs.Exprs as exprs
 use Rattle.cg_surface.specs.Programs.{Entry}
 use Rattle.cg_desugar.specs.Declared.{is_among, is_variable, type_arity, function_named}
 use Rattle.cg_desugar.specs.Expand.{types_length}
-use Rattle.cg_desugar.specs.Faults.{NameFault, unknown, twice, again, twins, counted, field_names, alt_names, bound, all_bound, pattern_faults, function_faults, seen_faults, value_names, type_name_faults, type_faults, types_faults, fields_faults, alts_faults, name_faults, mention_faults, expr_faults, list_faults, record_faults, put_faults, binds_faults, match_faults}
+use Rattle.cg_desugar.specs.Faults.{NameFault, unknown, twice, again, field_with, twins, counted, field_names, alt_names, bound, all_bound, pattern_faults, function_faults, seen_faults, value_names, type_name_faults, type_faults, types_faults, fields_faults, alts_faults, name_faults, mention_faults, expr_faults, list_faults, record_faults, put_faults, binds_faults, match_faults}
 use Rattle.cg_names.specs.Scopes.{SameNames}
 use Rattle.cg_names.proofs.ScopeSteps.{among_append}
 
@@ -95,7 +95,7 @@ module _ (entries : List Entry) (vars vars' : List (List ℕ)) (alike : SameName
 
     record_same : (names others : List (List ℕ)) → SameNames names others → (fs : FieldExprs) → record_faults entries vars names fs ≡ record_faults entries vars' others fs
     record_same names others same exprs.no_fields = refl
-    record_same names others same (exprs.and_field fs at e) = three _ _ (again (value_names fs) at.place at.name) (again (value_names fs) at.place at.name) _ _ (record_same names others same fs) refl (expr_same names others same e)
+    record_same names others same (exprs.and_field fs at e) = both _ _ _ _ (record_same names others same fs) (ap (field_with (value_names fs) at) (expr_same names others same e))
 
     put_same : (names others : List (List ℕ)) → SameNames names others → (fs : FieldExprs) → put_faults entries vars names fs ≡ put_faults entries vars' others fs
     put_same names others same exprs.no_fields = refl

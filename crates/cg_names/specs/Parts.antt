@@ -1,10 +1,14 @@
 -- The faults of a field and of an alternative, behind the names of those before it.
-use Rattle.std.specs.Prelude.{ℕ, List, [], ◌++◌, Option, Some, None}
+use Rattle.std.specs.Prelude.{ℕ, List, [], ◌++◌, Option, Some, None, Result, Ok, Err, ⊤, if◌then◌else◌}
+use Rattle.cg_base.specs.declared.place.Place.{Place}
+use Rattle.cg_base.specs.Places.{is_at}
 use Rattle.cg_surface.specs.Programs.{Entry}
 use Rattle.cg_surface.specs.Written.{Written, OneField, OneAlt}
 use Rattle.cg_surface.specs.Exprs.{OneBind}
 use Rattle.cg_surface.specs.Exprs as exprs
-use Rattle.cg_desugar.specs.Faults.{NameFault, again, bound, pattern_faults, seen_faults, type_faults, expr_faults}
+use Rattle.cg_desugar.specs.Faults.{NameFault, again, field_with, bound, pattern_faults, seen_faults, type_faults, expr_faults}
+use Rattle.cg_names.specs.declared.fault.NamingFault.{NamingFault}
+use Rattle.cg_names.specs.declared.fault.NamingFault.TheVariants.{N1, N2, N4, Memory}
 
 abbrev pub field_faults : List Entry → List (List ℕ) → List (List ℕ) → OneField → List NameFault
 field_faults entries vars before f = again before f.at.place f.at.name ++ type_faults entries vars f.ty
@@ -26,4 +30,13 @@ choice_faults entries vars names a = pattern_faults a.pattern ++ expr_faults ent
 
 -- of a field of a record, behind the names of those before it
 abbrev pub value_faults : List Entry → List (List ℕ) → List (List ℕ) → List (List ℕ) → exprs.OneField → List NameFault
-value_faults entries vars names before f = again before f.at.place f.at.name ++ expr_faults entries vars names f.value
+value_faults entries vars names before f = field_with before f.at (expr_faults entries vars names f.value)
+
+-- the first fault of a field whose name stands among those before it, by what a search in its value answers: at the field's own place
+-- an unknown name comes first
+abbrev pub fault_again : Place → Result ⊤ NamingFault → NamingFault
+fault_again place (Ok done) = N2 place
+fault_again place (Err (N1 p)) = if is_at p place then N1 p else N2 place
+fault_again place (Err (N2 p)) = N2 place
+fault_again place (Err (N4 p)) = N2 place
+fault_again place (Err Memory) = Memory

@@ -2,21 +2,23 @@
 #![tactic(auto, using(std::proofs::lemmas::Grind::common_steps, crate::proofs::ExprSteps::expr_steps))]
 
 ghost use Rattle.std.specs.Prelude.{◌≡◌, ◌++◌, ◌∷◌, [], map, length, take, OnOk};
+ghost use Rattle.cg_surface.specs.Written.{written_of, to_types};
+ghost use Rattle.cg_desugar.specs.Expand.{types_length};
 ghost use Rattle.cg_surface.specs.Exprs.{expr_of, field_of, bind_of, alt_of, to_exprs, to_fields, to_binds, to_alts};
-ghost use Rattle.cg_desugar.specs.Faults.{all_bound, bound, mention_faults, seen_faults, expr_faults, list_faults, record_faults, put_faults, binds_faults, match_faults};
+ghost use Rattle.cg_desugar.specs.Faults.{all_bound, bound, mention_faults, type_faults, types_faults, seen_faults, expr_faults, list_faults, record_faults, put_faults, binds_faults, match_faults};
 ghost use Rattle.cg_declared.specs.Declarations.{entries_of, IsIndexed};
-ghost use Rattle.cg_names.specs.Parts.{bind_faults, choice_faults, value_faults};
+ghost use Rattle.cg_names.specs.Parts.{bind_faults, choice_faults, value_faults, fault_again};
 ghost use Rattle.cg_names.specs.Says.{Says};
 ghost use Rattle.cg_names.specs.Scopes.{SameNames};
 
 use crate::fault::NamingFault;
-use crate::patterns::{enter_new, pattern_scope};
+use crate::patterns::pattern_scope;
 use crate::scope::Scope;
 use crate::types::{check_count, check_type, check_types};
 use cg_base::Place;
 use cg_core::At;
 use cg_declared::{Declarations, library_function};
-use cg_surface::{Alt, Bind, FExpr, SExpr, SForm};
+use cg_surface::{Alt, Bind, FExpr, SExpr, SForm, STy};
 use std::alloc::Global;
 
 /// The first fault of names in an expression, among these type variables and variables. The scope is as before.
@@ -34,55 +36,192 @@ pub fn check_expr<'a>(
 {
     match &expr.form {
         SForm::Name(name, types) => {
-            check_mention(declared, scope, expr.place, name.bytes(), types.len())?;
-            check_types(alloc, declared, vars, types.as_slice())
+            check_name(
+                alloc,
+                declared,
+                vars,
+                scope,
+                expr.place,
+                name.bytes(),
+                types.as_slice(),
+            )
         }
-        SForm::Number(_) => Ok(()),
-        SForm::Bool(_) => Ok(()),
-        SForm::Unit => Ok(()),
-        SForm::Paren(inner) => check_expr(alloc, declared, vars, scope, inner),
-        SForm::Sig(inner, ty) => {
-            check_expr(alloc, declared, vars, scope, inner)?;
-            check_type(alloc, declared, vars, ty)
-        }
+        SForm::Number(_) | SForm::Bool(_) | SForm::Unit | SForm::Con(_, None) => Ok(()),
+        SForm::Paren(inner) | SForm::Upcast(inner) => check_expr(
+            alloc, declared, vars, scope, inner,
+        ),
+        SForm::Sig(inner, ty) => check_annotated(alloc, declared, vars, scope, inner, ty),
         SForm::Tuple(parts) => check_exprs(alloc, declared, vars, scope, parts.as_slice()),
         SForm::Fields(fields) => check_record(alloc, declared, vars, scope, fields.as_slice()),
-        SForm::Con(_, None) => Ok(()),
         SForm::Con(_, Some(payload)) => check_expr(alloc, declared, vars, scope, payload),
-        SForm::App(fun, arg) => {
-            check_expr(alloc, declared, vars, scope, fun)?;
-            check_expr(alloc, declared, vars, scope, arg)
+        SForm::App(fun, arg) => check_two(alloc, declared, vars, scope, fun, arg),
+        SForm::Binary(_, left, right) => check_two(alloc, declared, vars, scope, left, right),
+        SForm::Member(inner, _) | SForm::Unary(_, inner) => {
+            check_expr(alloc, declared, vars, scope, inner)
         }
-        SForm::Member(record, _) => check_expr(alloc, declared, vars, scope, record),
         SForm::Put(record, fields) => {
-            check_expr(alloc, declared, vars, scope, record)?;
-            check_puts(alloc, declared, vars, scope, fields.as_slice())
-        }
-        SForm::Unary(_, operand) => check_expr(alloc, declared, vars, scope, operand),
-        SForm::Upcast(operand) => check_expr(alloc, declared, vars, scope, operand),
-        SForm::Binary(_, left, right) => {
-            check_expr(alloc, declared, vars, scope, left)?;
-            check_expr(alloc, declared, vars, scope, right)
+            check_put(alloc, declared, vars, scope, record, fields.as_slice())
         }
         SForm::Let(binds, body) => {
-            let kept = scope.len();
-            check_binds(alloc, declared, vars, scope, binds.as_slice())?;
-            check_expr(alloc, declared, vars, scope, body)?;
-            scope.leave(kept);
-            Ok(())
+            check_let(alloc, declared, vars, scope, binds.as_slice(), body)
         }
         SForm::If(condition, seen, yes, no) => {
-            check_expr(alloc, declared, vars, scope, condition)?;
-            check_seen(scope, seen.as_slice())?;
-            check_expr(alloc, declared, vars, scope, yes)?;
-            check_expr(alloc, declared, vars, scope, no)
+            check_if(
+                alloc,
+                declared,
+                vars,
+                scope,
+                condition,
+                seen.as_slice(),
+                yes,
+                no,
+            )
         }
         SForm::Match(subject, seen, choices) => {
-            check_expr(alloc, declared, vars, scope, subject)?;
-            check_seen(scope, seen.as_slice())?;
-            check_choices(alloc, declared, vars, scope, choices.as_slice())
+            check_match(
+                alloc,
+                declared,
+                vars,
+                scope,
+                subject,
+                seen.as_slice(),
+                choices.as_slice(),
+            )
         }
     }
+}
+
+// The fault of a name, or else the first in its type arguments.
+fn check_name(
+    alloc: Global,
+    declared: &Declarations<'_>,
+    vars: &Scope<'_>,
+    scope: &Scope<'_>,
+    place: Place,
+    name: &[u8],
+    types: &[STy],
+) -> Result<(), NamingFault>
+    requires { IsIndexed declared.now }
+    ensures { Says (mention_faults (entries_of declared.now) scope.now place name.now (types_length (to_types (map written_of types.now))) ++ types_faults (entries_of declared.now) vars.now (to_types (map written_of types.now))) result }
+{
+    check_mention(declared, scope, place, name, types.len())?;
+    check_types(alloc, declared, vars, types)
+}
+
+// The first fault of an expression with its type.
+#[cycle(check_expr)]
+fn check_annotated<'a>(
+    alloc: Global,
+    declared: &Declarations<'_>,
+    vars: &Scope<'_>,
+    scope: &mut Scope<'a>,
+    expr: &'a SExpr,
+    ty: &STy,
+) -> Result<(), NamingFault>
+    requires { IsIndexed declared.now }
+    ensures says { Says (expr_faults (entries_of declared.now) vars.now scope.old (expr_of expr.now) ++ type_faults (entries_of declared.now) vars.now (written_of ty.now)) result }
+    ensures scope { OnOk result (scope.new ≡ scope.old) }
+{
+    check_expr(alloc, declared, vars, scope, expr)?;
+    check_type(alloc, declared, vars, ty)
+}
+
+// The same of two expressions, from left to right.
+#[cycle(check_expr)]
+fn check_two<'a>(
+    alloc: Global,
+    declared: &Declarations<'_>,
+    vars: &Scope<'_>,
+    scope: &mut Scope<'a>,
+    first: &'a SExpr,
+    second: &'a SExpr,
+) -> Result<(), NamingFault>
+    requires { IsIndexed declared.now }
+    ensures says { Says (expr_faults (entries_of declared.now) vars.now scope.old (expr_of first.now) ++ expr_faults (entries_of declared.now) vars.now scope.old (expr_of second.now)) result }
+    ensures scope { OnOk result (scope.new ≡ scope.old) }
+{
+    check_expr(alloc, declared, vars, scope, first)?;
+    check_expr(alloc, declared, vars, scope, second)
+}
+
+// The same of a record and the fields that are put into it.
+#[cycle(check_expr)]
+fn check_put<'a>(
+    alloc: Global,
+    declared: &Declarations<'_>,
+    vars: &Scope<'_>,
+    scope: &mut Scope<'a>,
+    expr: &'a SExpr,
+    fields: &'a [FExpr],
+) -> Result<(), NamingFault>
+    requires { IsIndexed declared.now }
+    ensures says { Says (expr_faults (entries_of declared.now) vars.now scope.old (expr_of expr.now) ++ put_faults (entries_of declared.now) vars.now scope.old (to_fields (map field_of fields.now))) result }
+    ensures scope { OnOk result (scope.new ≡ scope.old) }
+{
+    check_expr(alloc, declared, vars, scope, expr)?;
+    check_puts(alloc, declared, vars, scope, fields)
+}
+
+// The same of bindings, and of their body among their variables.
+#[cycle(check_expr)]
+fn check_let<'a>(
+    alloc: Global,
+    declared: &Declarations<'_>,
+    vars: &Scope<'_>,
+    scope: &mut Scope<'a>,
+    binds: &'a [Bind],
+    body: &'a SExpr,
+) -> Result<(), NamingFault>
+    requires { IsIndexed declared.now }
+    ensures says { Says (binds_faults (entries_of declared.now) vars.now scope.old (to_binds (map bind_of binds.now)) ++ expr_faults (entries_of declared.now) vars.now (all_bound (to_binds (map bind_of binds.now)) ++ scope.old) (expr_of body.now)) result }
+    ensures scope { OnOk result (scope.new ≡ scope.old) }
+{
+    let kept = scope.len();
+    check_binds(alloc, declared, vars, scope, binds)?;
+    check_expr(alloc, declared, vars, scope, body)?;
+    scope.leave(kept);
+    Ok(())
+}
+
+// The same of an `if` with what is observed in its condition.
+#[cycle(check_expr)]
+fn check_if<'a>(
+    alloc: Global,
+    declared: &Declarations<'_>,
+    vars: &Scope<'_>,
+    scope: &mut Scope<'a>,
+    condition: &'a SExpr,
+    seen: &[At],
+    yes: &'a SExpr,
+    no: &'a SExpr,
+) -> Result<(), NamingFault>
+    requires { IsIndexed declared.now }
+    ensures says { Says (expr_faults (entries_of declared.now) vars.now scope.old (expr_of condition.now) ++ seen_faults scope.old seen.now ++ expr_faults (entries_of declared.now) vars.now scope.old (expr_of yes.now) ++ expr_faults (entries_of declared.now) vars.now scope.old (expr_of no.now)) result }
+    ensures scope { OnOk result (scope.new ≡ scope.old) }
+{
+    check_expr(alloc, declared, vars, scope, condition)?;
+    check_seen(scope, seen)?;
+    check_two(alloc, declared, vars, scope, yes, no)
+}
+
+// The same of a match with what is observed in its subject.
+#[cycle(check_expr)]
+fn check_match<'a>(
+    alloc: Global,
+    declared: &Declarations<'_>,
+    vars: &Scope<'_>,
+    scope: &mut Scope<'a>,
+    subject: &'a SExpr,
+    seen: &[At],
+    choices: &'a [Alt],
+) -> Result<(), NamingFault>
+    requires { IsIndexed declared.now }
+    ensures says { Says (expr_faults (entries_of declared.now) vars.now scope.old (expr_of subject.now) ++ seen_faults scope.old seen.now ++ match_faults (entries_of declared.now) vars.now scope.old (to_alts (map alt_of choices.now))) result }
+    ensures scope { OnOk result (scope.new ≡ scope.old) }
+{
+    check_expr(alloc, declared, vars, scope, subject)?;
+    check_seen(scope, seen)?;
+    check_choices(alloc, declared, vars, scope, choices)
 }
 
 // The fault of a name with so many type arguments: a variable has none, and hides a function.
@@ -174,8 +313,23 @@ fn check_value<'a>(
     ensures names { OnOk result (before.new ≡ before.old ++ (field_of field.now).at.name ∷ []) }
     ensures scope { OnOk result (scope.new ≡ scope.old) }
 {
-    enter_new(before, field.at.place, field.at.name.bytes())?;
-    check_expr(alloc, declared, vars, scope, &field.value)
+    if before.enter(field.at.name.bytes())? {
+        return check_expr(alloc, declared, vars, scope, &field.value);
+    }
+    let value = check_expr(alloc, declared, vars, scope, &field.value);
+    Err(fault_again(field.at.place, value))
+}
+
+// The first fault of a field whose name stands before it already, by what its value answers: an unknown name comes first where the
+// field is written alone, so that it and its value stand at one place.
+fn fault_again(place: Place, value: Result<(), NamingFault>) -> NamingFault
+    ensures { result ≡ fault_again place value }
+{
+    match value {
+        Err(NamingFault::N1(unknown)) if unknown == place => NamingFault::N1(unknown),
+        Err(NamingFault::Memory) => NamingFault::Memory,
+        _ => NamingFault::N2(place),
+    }
 }
 
 // The same of fields that are put, which needn't be apart.

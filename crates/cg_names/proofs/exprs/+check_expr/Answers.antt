@@ -4,8 +4,7 @@ use Rattle.cg_desugar.specs.Faults.{expr_faults}
 use Rattle.cg_declared.specs.Declarations.{entries_of}
 use Rattle.cg_names.specs.Parts.{choice_faults, value_faults}
 use Rattle.cg_names.specs.Says.{IsFirstFault}
-use Rattle.cg_names.proofs.ExprSteps.{expr_fault, expr_turn, put_fault, put_turn, value_fault, value_turn, value_more, bind_fault, bind_turn, bind_more, choice_fault, choice_turn, kept_twice, mention_first, let_none, let_fault, choice_none, choice_first, expr_steps}
-use Rattle.cg_names.proofs.SaysSteps.{says_first}
+use Rattle.cg_names.proofs.ExprSteps.{expr_fault, expr_turn, put_fault, put_turn, value_fault, value_turn, value_more, bind_fault, bind_turn, bind_more, choice_fault, choice_turn, kept_twice, let_none, let_fault, choice_none, choice_first, field_new, field_again, expr_steps}
 use Rattle.cg_names.specs.Scopes.{SameNames}
 use Rattle.cg_names.proofs.exprs.+check_expr.Goals as goal
 
@@ -71,11 +70,6 @@ check_binds-loop-bind-preserved t c = (
   kept_twice c.args.scope.now c.loop-bind.scope c.check_bind.new.scope c.loop-bind.invariant.2 c.in_ok-check_bind.ensures.kept,
 )
 
-pub check_expr-returns-in_err-check_mention-in-Name-clause-says : goal.check_expr-returns-in_err-check_mention-in-Name-clause-says
-check_expr-returns-in_err-check_mention-in-Name-clause-says t c =
-    let first = mention_first (entries_of c.args.declared.now) c.args.vars.now c.args.scope.now c.args.expr.now.place c.in-Name.name c.in-Name.types c.in_err-check_mention-in-Name.field-0.0 in
-    search (rules, first, expr_steps)
-
 pub check_choice-returns-clause-says : goal.check_choice-returns-clause-says
 check_choice-returns-clause-says t c = search (rules, choice_none, expr_steps)
 
@@ -85,24 +79,18 @@ check_choice-returns-in_err-check_expr-clause-says t c =
     (subst (λ l. SameNames c.enter_all.new.self (l ++ c.args.scope.now)) (c.names.ensures ∙ c.in_ok-bound.ensures.names) c.in_ok-enter_all.ensures.names) c.in_err-check_expr.field-0.0 c.in_err-check_expr.ensures.says in
     search (rules, first)
 
-pub check_expr-returns-in_err-check_expr-in-App-clause-says : goal.check_expr-returns-in_err-check_expr-in-App-clause-says
-check_expr-returns-in_err-check_expr-in-App-clause-says t c = search (rules, says_first, expr_steps)
+pub check_value-returns-then-branch-clause-says : goal.check_value-returns-then-branch-clause-says
+check_value-returns-then-branch-clause-says t c = search (rules, field_new, expr_steps)
 
-pub check_expr-returns-in_err-check_expr-in-Binary-clause-says : goal.check_expr-returns-in_err-check_expr-in-Binary-clause-says
-check_expr-returns-in_err-check_expr-in-Binary-clause-says t c = search (rules, says_first, expr_steps)
+pub check_value-returns-clause-says : goal.check_value-returns-clause-says
+check_value-returns-clause-says t c = search (rules, field_again, expr_steps)
 
-pub check_expr-returns-in_err-check_expr-in-If-clause-says : goal.check_expr-returns-in_err-check_expr-in-If-clause-says
-check_expr-returns-in_err-check_expr-in-If-clause-says t c = search (rules, says_first, expr_steps)
+pub check_let-returns-in_err-check_expr-clause-says : goal.check_let-returns-in_err-check_expr-clause-says
+check_let-returns-in_err-check_expr-clause-says t c =
+    let first = let_fault (entries_of c.args.declared.now) c.args.vars.now c.args.scope.now c.check_binds.new.scope (to_binds (map bind_of c.args.binds.now)) (expr_of c.args.body.now) c.in_ok-check_binds.ensures.says c.in_ok-check_binds.ensures.names c.in_err-check_expr.field-0.0 in
+    search (rules, first)
 
-pub check_expr-returns-in_err-check_expr-in-If-2-clause-says : goal.check_expr-returns-in_err-check_expr-in-If-2-clause-says
-check_expr-returns-in_err-check_expr-in-If-2-clause-says t c = search (rules, says_first, expr_steps)
-
-pub check_expr-returns-in_err-check_expr-in-Let-clause-says : goal.check_expr-returns-in_err-check_expr-in-Let-clause-says
-check_expr-returns-in_err-check_expr-in-Let-clause-says t c =
-    let first = let_fault (entries_of c.args.declared.now) c.args.vars.now c.args.scope.now c.check_binds.new.scope (to_binds (map bind_of c.as_slice-in-Let.result.now)) (expr_of c.in-Let.body.value) c.in_ok-check_binds-in-Let.ensures.says c.in_ok-check_binds-in-Let.ensures.names c.in_err-check_expr-in-Let.field-0.0 in
-    search (rules, first, expr_steps)
-
-pub check_expr-returns-in_ok-check_expr-in-Let-clause-says : goal.check_expr-returns-in_ok-check_expr-in-Let-clause-says
-check_expr-returns-in_ok-check_expr-in-Let-clause-says t c =
-    let none = let_none (entries_of c.args.declared.now) c.args.vars.now c.args.scope.now c.check_binds.new.scope (to_binds (map bind_of c.as_slice-in-Let.result.now)) (expr_of c.in-Let.body.value) c.in_ok-check_binds-in-Let.ensures.says c.in_ok-check_binds-in-Let.ensures.names in
-    search (rules, none, expr_steps)
+pub check_let-returns-clause-says : goal.check_let-returns-clause-says
+check_let-returns-clause-says t c =
+    let none = let_none (entries_of c.args.declared.now) c.args.vars.now c.args.scope.now c.check_binds.new.scope (to_binds (map bind_of c.args.binds.now)) (expr_of c.args.body.now) c.in_ok-check_binds.ensures.says c.in_ok-check_binds.ensures.names in
+    search (rules, none)
