@@ -7,8 +7,8 @@ use Rattle.cg_parse_types.specs.Machine as machine
 use Rattle.cg_parse_types.specs.Views.{view_of, types_view, fields_view, alts_view}
 use Rattle.cg_parse_types.specs.declared.frame.Frame.{Frame}
 use Rattle.cg_parse_types.specs.declared.frame.Frame.TheVariants.{InParen, InTuple, InField, InAlt, InArgs, InArrow}
-use Rattle.cg_parse_types.specs.declared.frame.Mode.{Mode}
-use Rattle.cg_parse_types.specs.declared.frame.Mode.TheVariants.{Want, Alone, Head, Taken, WantField, AfterField, WantAlt, AfterAlt, AfterTake, TakeOpen, TakeDots, TakeName, TakeMore, Stuck}
+use Rattle.cg_parse_types.specs.declared.mode.Mode.{Mode}
+use Rattle.cg_parse_types.specs.declared.mode.Mode.TheVariants.{Want, Alone, Head, Taken, WantField, AfterField, WantAlt, AfterAlt, AfterTake, TakeOpen, TakeDots, TakeName, TakeMore, Stuck}
 
 -- a frame of the machine over bounded trees
 abbrev pub Open : Type 0

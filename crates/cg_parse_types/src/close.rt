@@ -51,20 +51,6 @@ pub(crate) fn room(stack: &mut SmallVec<Frame, 16>) -> Result<u32, Memory>
     }
 }
 
-/// The type of a frame that needs no token to be closed, with its hole filled.
-fn fill(alloc: Global, frame: Frame, tree: Option<BuiltType>) -> Result<Option<BuiltType>, Memory>
-    ensures { IfOk result (λ t. view_of t ≡ machine.fill bounded (frame_of frame) (view_of tree)) }
-{
-    match frame {
-        Frame::InArgs(place, name, args) => {
-            let args = lists::and_type(args, tree)?;
-            Ok(build::named(place, name, args))
-        }
-        Frame::InArrow(from) => build::arrow(alloc, from, tree),
-        _ => Ok(tree),
-    }
-}
-
 /// Closes the frames that bind at most so loosely.
 pub(crate) fn close(
     alloc: Global,
@@ -83,7 +69,7 @@ pub(crate) fn close(
                     push(stack, frame)?;
                     return Ok(tree);
                 }
-                tree = fill(alloc, frame, tree)?;
+                tree = frame.fill(alloc, tree)?;
             }
         }
     }

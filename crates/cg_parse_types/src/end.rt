@@ -1,14 +1,15 @@
 // Behind a type, at a symbol that ends it.
-ghost use Rattle.std.specs.Prelude.{◌≡◌, IfOk};
+ghost use Rattle.std.specs.Prelude.{◌≡◌, List, ◌∷◌, IfOk};
 ghost use Rattle.cg_symbols.specs.Views.{symbol_view};
 ghost use Rattle.cg_parse_types.specs.Bounded.{bounded};
 ghost use Rattle.cg_parse_types.specs.Machine as machine;
-ghost use Rattle.cg_parse_types.specs.Stack.{stack_of, mode_of};
+ghost use Rattle.cg_parse_types.specs.Stack.{Open, frame_of, stack_of, mode_of};
 ghost use Rattle.cg_parse_types.specs.Views.{view_of};
 
 use crate::built::BuiltType;
 use crate::close::{close, room};
-use crate::frame::{Frame, Mode};
+use crate::frame::Frame;
+use crate::mode::Mode;
 use crate::stack::{pop, push};
 use crate::{build, lists};
 use cg_base::{Memory, Place};
@@ -25,12 +26,8 @@ fn on_close(
     ensures { IfOk result (λ m. mode_of m (stack_of stack.new.items) ≡ machine.on_close bounded (view_of tree) (stack_of stack.old.items)) }
 {
     match pop(stack) {
-        Some(Frame::InParen(place)) => Ok(Mode::Alone(build::paren(alloc, place, tree)?)),
-        Some(Frame::InTuple(place, types)) => {
-            let types = lists::and_type(types, tree)?;
-            Ok(Mode::Alone(build::tuple(place, types)))
-        }
-        _ => Ok(Mode::Stuck),
+        Some(frame) => frame.on_close(alloc, tree),
+        None => Ok(Mode::Stuck),
     }
 }
 
@@ -43,21 +40,8 @@ fn on_comma(
     ensures { IfOk result (λ m. mode_of m (stack_of stack.new.items) ≡ machine.on_comma bounded (view_of tree) (stack_of stack.old.items)) }
 {
     match pop(stack) {
-        Some(Frame::InParen(place)) => {
-            let types = lists::and_type(lists::no_types(alloc), tree)?;
-            push(stack, Frame::InTuple(place, types))?;
-            Ok(Mode::Want)
-        }
-        Some(Frame::InTuple(place, types)) => {
-            let types = lists::and_type(types, tree)?;
-            push(stack, Frame::InTuple(place, types))?;
-            Ok(Mode::Want)
-        }
-        Some(Frame::InField(place, boxed, fields, at)) => {
-            let fields = lists::and_field(fields, at, tree)?;
-            Ok(Mode::WantField(place, boxed, fields))
-        }
-        _ => Ok(Mode::Stuck),
+        Some(frame) => frame.on_comma(alloc, stack, tree),
+        None => Ok(Mode::Stuck),
     }
 }
 
@@ -69,11 +53,8 @@ fn on_closing_brace(
     ensures { IfOk result (λ m. mode_of m (stack_of stack.new.items) ≡ machine.on_closing_brace bounded (view_of tree) (stack_of stack.old.items)) }
 {
     match pop(stack) {
-        Some(Frame::InField(place, boxed, fields, at)) => {
-            let fields = lists::and_field(fields, at, tree)?;
-            Ok(Mode::Alone(build::fields(place, boxed, fields)))
-        }
-        _ => Ok(Mode::Stuck),
+        Some(frame) => frame.on_closing_brace(tree),
+        None => Ok(Mode::Stuck),
     }
 }
 
@@ -82,11 +63,8 @@ fn on_bar(stack: &mut SmallVec<Frame, 16>, tree: Option<BuiltType>) -> Result<Mo
     ensures { IfOk result (λ m. mode_of m (stack_of stack.new.items) ≡ machine.on_bar bounded (view_of tree) (stack_of stack.old.items)) }
 {
     match pop(stack) {
-        Some(Frame::InAlt(place, alts, at)) => {
-            let alts = lists::and_alt(alts, at, tree)?;
-            Ok(Mode::WantAlt(place, alts))
-        }
-        _ => Ok(Mode::Stuck),
+        Some(frame) => frame.on_bar(tree),
+        None => Ok(Mode::Stuck),
     }
 }
 
@@ -95,11 +73,8 @@ fn on_greater(stack: &mut SmallVec<Frame, 16>, tree: Option<BuiltType>) -> Resul
     ensures { IfOk result (λ m. mode_of m (stack_of stack.new.items) ≡ machine.on_greater bounded (view_of tree) (stack_of stack.old.items)) }
 {
     match pop(stack) {
-        Some(Frame::InAlt(place, alts, at)) => {
-            let alts = lists::and_alt(alts, at, tree)?;
-            Ok(Mode::Alone(build::variant(place, alts)))
-        }
-        _ => Ok(Mode::Stuck),
+        Some(frame) => frame.on_greater(tree),
+        None => Ok(Mode::Stuck),
     }
 }
 

@@ -8,6 +8,7 @@ mod close;
 mod end;
 mod frame;
 mod lists;
+mod mode;
 mod reader;
 mod stack;
 mod start;

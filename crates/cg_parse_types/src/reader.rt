@@ -12,9 +12,9 @@ ghost use Rattle.cg_parse_types.specs.Views.{view_of};
 use crate::build;
 use crate::built::BuiltType;
 use crate::close::{all_close, close};
-use crate::frame::{Frame, Mode};
+use crate::frame::Frame;
+use crate::mode::Mode;
 use crate::stack::pop;
-use crate::step::mode_step;
 use cg_base::{Memory, Place};
 use cg_symbols::Symbol;
 use smallvec::SmallVec;
@@ -46,7 +46,7 @@ fn mode_is_open(mode: &Mode) -> bool
 }
 
 /// The type, with all frames closed that need no token; no frame may be left.
-fn end_whole(
+pub(crate) fn end_whole(
     alloc: Global,
     stack: &mut SmallVec<Frame, 16>,
     tree: Option<BuiltType>,
@@ -60,21 +60,6 @@ fn end_whole(
     match tree {
         None => Ok(TypeEnd::TooDeep),
         Some(whole) => Ok(TypeEnd::Whole(whole)),
-    }
-}
-
-/// The type that ends there, if one can.
-fn mode_end(alloc: Global, stack: &mut SmallVec<Frame, 16>, mode: Mode) -> Result<TypeEnd, Memory>
-    ensures { IfOk result (λ e. end_of e ≡ machine.mode_end bounded (mode_of mode (stack_of stack.old.items))) }
-{
-    match mode {
-        Mode::Alone(tree) => end_whole(alloc, stack, tree),
-        Mode::Head(place, name) => {
-            let tree = build::bare(alloc, place, name);
-            end_whole(alloc, stack, tree)
-        }
-        Mode::Taken(tree) => end_whole(alloc, stack, tree),
-        _ => Ok(TypeEnd::Unfinished),
     }
 }
 
@@ -93,8 +78,8 @@ impl TypeReader {
     pub fn begin(&mut self, alloc: Global)
         ensures { reader_state self.new ≡ bounded_reader.begin }
     {
-        self.stack = SmallVec::new(alloc);
-        self.mode = Mode::Want;
+        drop(std::mem::replace(&mut self.stack, SmallVec::new(alloc)));
+        drop(std::mem::replace(&mut self.mode, Mode::Want));
     }
 
     /// One symbol more, at its place: docs/LANGUAGE.md, "Types". Want of memory is its one refusal; a symbol with which no
@@ -108,7 +93,8 @@ impl TypeReader {
         ensures { OnOk result (reader_state self.new ≡ bounded_reader.step (reader_state self.old) (record { symbol = symbol_view symbol.entry; place = place })) }
     {
         let mode = std::mem::replace(&mut self.mode, Mode::Stuck);
-        self.mode = mode_step(alloc, &mut self.stack, mode, symbol, place)?;
+        let next = mode.step(alloc, &mut self.stack, symbol, place)?;
+        drop(std::mem::replace(&mut self.mode, next));
         Ok(())
     }
 
@@ -136,6 +122,6 @@ impl TypeReader {
         ensures { IfOk result (λ e. end_of e ≡ bounded_reader.finish (reader_state self.old)) }
     {
         let mode = std::mem::replace(&mut self.mode, Mode::Stuck);
-        mode_end(alloc, &mut self.stack, mode)
+        mode.end(alloc, &mut self.stack)
     }
 }

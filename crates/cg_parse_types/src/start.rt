@@ -1,12 +1,13 @@
 // Where a type begins.
-ghost use Rattle.std.specs.Prelude.{◌≡◌, List, IfOk};
+ghost use Rattle.std.specs.Prelude.{◌≡◌, List, ◌∷◌, IfOk};
 ghost use Rattle.cg_symbols.specs.Views.{symbol_view};
 ghost use Rattle.cg_parse_types.specs.Bounded.{bounded};
 ghost use Rattle.cg_parse_types.specs.Machine as machine;
-ghost use Rattle.cg_parse_types.specs.Stack.{Open, stack_of, mode_of};
+ghost use Rattle.cg_parse_types.specs.Stack.{Open, frame_of, stack_of, mode_of};
 
 use crate::close::room;
-use crate::frame::{Frame, Mode};
+use crate::frame::Frame;
+use crate::mode::Mode;
 use crate::stack::{pop, push};
 use crate::{build, lists};
 use cg_base::{Memory, Name, Place};
@@ -34,8 +35,8 @@ fn on_empty(stack: &mut SmallVec<Frame, 16>) -> Mode
     ensures { mode_of result (stack_of stack.new.items) ≡ machine.on_empty bounded (stack_of stack.old.items) }
 {
     match pop(stack) {
-        Some(Frame::InParen(place)) => Mode::Alone(build::unit(place)),
-        _ => Mode::Stuck,
+        Some(frame) => frame.on_empty(),
+        None => Mode::Stuck,
     }
 }
 

@@ -1,14 +1,15 @@
 // One symbol more of a type.
-ghost use Rattle.std.specs.Prelude.{◌≡◌, List, IfOk};
+ghost use Rattle.std.specs.Prelude.{◌≡◌, List, ◌∷◌, IfOk};
 ghost use Rattle.cg_symbols.specs.Views.{symbol_view};
 ghost use Rattle.cg_parse_types.specs.Bounded.{bounded};
 ghost use Rattle.cg_parse_types.specs.Machine as machine;
-ghost use Rattle.cg_parse_types.specs.Stack.{Open, stack_of, mode_of};
+ghost use Rattle.cg_parse_types.specs.Stack.{Open, frame_of, stack_of, mode_of};
 ghost use Rattle.cg_parse_types.specs.Views.{view_of, fields_view, alts_view};
 
 use crate::built::{BuiltAlts, BuiltFields, BuiltType};
 use crate::end::go_past;
-use crate::frame::{Frame, Mode};
+use crate::frame::Frame;
+use crate::mode::Mode;
 use crate::stack::{pop, push};
 use crate::start::{start, starts};
 use crate::taking::{after_take, take_dots, take_more, take_name, take_open};
@@ -30,12 +31,8 @@ fn next_argument<'a>(
     ensures { IfOk result (λ m. mode_of m (stack_of stack.new.items) ≡ machine.next_argument bounded (symbol_view symbol.entry) place (view_of tree) (stack_of stack.old.items)) }
 {
     match pop(stack) {
-        Some(Frame::InArgs(head, name, args)) => {
-            let args = lists::and_type(args, tree)?;
-            push(stack, Frame::InArgs(head, name, args))?;
-            start(alloc, stack, symbol, place)
-        }
-        _ => Ok(Mode::Stuck),
+        Some(frame) => frame.next_argument(alloc, stack, symbol, place, tree),
+        None => Ok(Mode::Stuck),
     }
 }
 
@@ -56,7 +53,7 @@ fn behind_alone<'a>(
 }
 
 /// Behind a type that stands alone.
-fn go_on<'a>(
+pub(crate) fn go_on<'a>(
     alloc: Global,
     stack: &mut SmallVec<Frame, 16>,
     symbol: Symbol<'a>,
@@ -73,7 +70,7 @@ fn go_on<'a>(
 }
 
 /// Behind a name that may have arguments.
-fn after_head<'a>(
+pub(crate) fn after_head<'a>(
     alloc: Global,
     stack: &mut SmallVec<Frame, 16>,
     symbol: Symbol<'a>,
@@ -93,7 +90,7 @@ fn after_head<'a>(
 }
 
 /// Where a field is wanted.
-fn field_name<'a>(
+pub(crate) fn field_name<'a>(
     alloc: Global,
     symbol: Symbol<'a>,
     place: Place,
@@ -113,7 +110,7 @@ fn field_name<'a>(
 }
 
 /// Behind a field's name.
-fn field_type<'a>(
+pub(crate) fn field_type<'a>(
     stack: &mut SmallVec<Frame, 16>,
     symbol: Symbol<'a>,
     head: Place,
@@ -133,7 +130,7 @@ fn field_type<'a>(
 }
 
 /// Where an alternative is wanted.
-fn alt_name<'a>(
+pub(crate) fn alt_name<'a>(
     alloc: Global,
     symbol: Symbol<'a>,
     place: Place,
@@ -152,7 +149,7 @@ fn alt_name<'a>(
 }
 
 /// Behind an alternative's name.
-fn after_alt<'a>(
+pub(crate) fn after_alt<'a>(
     alloc: Global,
     stack: &mut SmallVec<Frame, 16>,
     symbol: Symbol<'a>,
@@ -173,35 +170,5 @@ fn after_alt<'a>(
             push(stack, Frame::InAlt(variant, alts, at))?;
             start(alloc, stack, symbol, place)
         }
-    }
-}
-
-/// One symbol more.
-pub(crate) fn mode_step<'a>(
-    alloc: Global,
-    stack: &mut SmallVec<Frame, 16>,
-    mode: Mode,
-    symbol: Symbol<'a>,
-    place: Place,
-) -> Result<Mode, Memory>
-    ensures { IfOk result (λ m. mode_of m (stack_of stack.new.items) ≡ machine.mode_step bounded (mode_of mode (stack_of stack.old.items)) (symbol_view symbol.entry) place) }
-{
-    match mode {
-        Mode::Want => start(alloc, stack, symbol, place),
-        Mode::Alone(tree) => go_on(alloc, stack, symbol, place, tree),
-        Mode::Head(head, name) => after_head(alloc, stack, symbol, place, head, name),
-        Mode::Taken(tree) => go_past(alloc, stack, symbol, place, tree),
-        Mode::WantField(at, boxed, fields) => field_name(alloc, symbol, place, at, boxed, fields),
-        Mode::AfterField(at, boxed, fields, name) => field_type(
-            stack, symbol, at, boxed, fields, name,
-        ),
-        Mode::WantAlt(at, alts) => alt_name(alloc, symbol, place, at, alts),
-        Mode::AfterAlt(at, alts, name) => after_alt(alloc, stack, symbol, place, at, alts, name),
-        Mode::AfterTake(word, tree) => Ok(after_take(symbol, word, tree)),
-        Mode::TakeOpen(word, tree) => take_open(alloc, symbol, place, word, tree),
-        Mode::TakeDots(word, tree) => take_dots(alloc, symbol, word, tree),
-        Mode::TakeName(tree, names) => take_name(alloc, symbol, tree, names),
-        Mode::TakeMore(tree, names) => take_more(alloc, symbol, place, tree, names),
-        Mode::Stuck => Ok(Mode::Stuck),
     }
 }
