@@ -4,12 +4,12 @@ use Rattle.cg_surface.specs.Patterns.{Patterns, FieldPatterns}
 use Rattle.cg_parse_patterns.specs.Machine as machine
 use Rattle.cg_parse_patterns.specs.Bounded.{Held}
 use Rattle.cg_parse_patterns.specs.Views.{view_of, patterns_of, fields_of}
-use Rattle.cg_parse_patterns.specs.declared.frame.Opener.{Opener}
-use Rattle.cg_parse_patterns.specs.declared.frame.Opener.TheVariants.{Unboxed, Taken}
+use Rattle.cg_parse_patterns.specs.declared.opener.Opener.{Opener}
+use Rattle.cg_parse_patterns.specs.declared.opener.Opener.TheVariants.{Unboxed, Taken}
 use Rattle.cg_parse_patterns.specs.declared.frame.Frame.{Frame}
 use Rattle.cg_parse_patterns.specs.declared.frame.Frame.TheVariants.{InParen, InTuple, InField}
-use Rattle.cg_parse_patterns.specs.declared.frame.Mode.{Mode}
-use Rattle.cg_parse_patterns.specs.declared.frame.Mode.TheVariants.{Want, Have, Head, WantField, AfterField, Stuck}
+use Rattle.cg_parse_patterns.specs.declared.mode.Mode.{Mode}
+use Rattle.cg_parse_patterns.specs.declared.mode.Mode.TheVariants.{Want, Have, Head, WantField, AfterField, Stuck}
 
 -- a frame of the machine over bounded trees
 abbrev pub Open : Type 0

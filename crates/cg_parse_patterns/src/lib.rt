@@ -5,6 +5,8 @@
 mod build;
 mod built;
 mod frame;
+mod mode;
+mod opener;
 mod reader;
 mod stack;
 mod step;
