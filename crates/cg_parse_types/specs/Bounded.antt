@@ -1,5 +1,5 @@
 -- The machine over trees up to the depth of the language, past which there is none.
-use Rattle.std.specs.Prelude.{ℕ, List, Option, Some, None, nat_le, if◌then◌else◌}
+use Rattle.std.specs.Prelude.{List, Option, Some, None, nat_le, if◌then◌else◌}
 use Rattle.cg_base.specs.declared.place.Place.{Place}
 use Rattle.cg_base.specs.Reader.{Reader}
 use Rattle.cg_core.specs.declared.at.At.{At}

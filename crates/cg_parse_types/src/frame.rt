@@ -8,13 +8,12 @@ ghost use Rattle.cg_parse_types.specs.Views.{view_of};
 
 use crate::built::{BuiltAlts, BuiltFields, BuiltType, BuiltTypes};
 use crate::mode::Mode;
-use crate::stack::push;
 use crate::start::start;
 use crate::{build, lists};
 use cg_base::{Memory, Name, Place};
 use cg_core::At;
+use cg_stack::Stack;
 use cg_symbols::Symbol;
-use smallvec::SmallVec;
 use std::alloc::Global;
 
 /// What is open in a type: a parenthesis, one with types before a comma, a field, the payload of an alternative, an argument
@@ -103,20 +102,20 @@ impl Frame {
     pub(crate) fn on_comma(
         self,
         alloc: Global,
-        stack: &mut SmallVec<Frame, 16>,
+        stack: &mut Stack<Frame>,
         tree: Option<BuiltType>,
     ) -> Result<Mode, Memory>
-        ensures { IfOk result (λ m. mode_of m (stack_of stack.new.items) ≡ machine.on_comma bounded (view_of tree) (frame_of self ∷ stack_of stack.old.items)) }
+        ensures { IfOk result (λ m. mode_of m (stack_of stack.new) ≡ machine.on_comma bounded (view_of tree) (frame_of self ∷ stack_of stack.old)) }
     {
         match self {
             Frame::InParen(place) => {
                 let types = lists::and_type(lists::no_types(alloc), tree)?;
-                push(stack, Frame::InTuple(place, types))?;
+                stack.push(Frame::InTuple(place, types))?;
                 Ok(Mode::Want)
             }
             Frame::InTuple(place, types) => {
                 let types = lists::and_type(types, tree)?;
-                push(stack, Frame::InTuple(place, types))?;
+                stack.push(Frame::InTuple(place, types))?;
                 Ok(Mode::Want)
             }
             Frame::InField(place, boxed, fields, at) => {
@@ -170,17 +169,17 @@ impl Frame {
     pub(crate) fn next_argument<'a>(
         self,
         alloc: Global,
-        stack: &mut SmallVec<Frame, 16>,
+        stack: &mut Stack<Frame>,
         symbol: Symbol<'a>,
         place: Place,
         tree: Option<BuiltType>,
     ) -> Result<Mode, Memory>
-        ensures { IfOk result (λ m. mode_of m (stack_of stack.new.items) ≡ machine.next_argument bounded (symbol_view symbol.entry) place (view_of tree) (frame_of self ∷ stack_of stack.old.items)) }
+        ensures { IfOk result (λ m. mode_of m (stack_of stack.new) ≡ machine.next_argument bounded (symbol_view symbol.entry) place (view_of tree) (frame_of self ∷ stack_of stack.old)) }
     {
         match self {
             Frame::InArgs(head, name, args) => {
                 let args = lists::and_type(args, tree)?;
-                push(stack, Frame::InArgs(head, name, args))?;
+                stack.push(Frame::InArgs(head, name, args))?;
                 start(alloc, stack, symbol, place)
             }
             _ => Ok(Mode::Stuck),

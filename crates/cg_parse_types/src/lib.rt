@@ -12,7 +12,6 @@ mod law;
 mod lists;
 mod mode;
 mod reader;
-mod stack;
 mod start;
 mod step;
 mod taking;

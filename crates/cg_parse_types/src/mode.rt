@@ -16,8 +16,8 @@ use crate::step::{after_alt, after_head, alt_name, field_name, field_type, go_on
 use crate::taking::{after_take, take_dots, take_more, take_name, take_open};
 use cg_base::{Items, Memory, Name, Place};
 use cg_core::At;
+use cg_stack::Stack;
 use cg_symbols::Symbol;
-use smallvec::SmallVec;
 use std::alloc::Global;
 
 /// Where in a type the reader stands: before a type, behind one that stands alone, behind a name that may have arguments,
@@ -78,11 +78,11 @@ impl Mode {
     pub(crate) fn step<'a>(
         self,
         alloc: Global,
-        stack: &mut SmallVec<Frame, 16>,
+        stack: &mut Stack<Frame>,
         symbol: Symbol<'a>,
         place: Place,
     ) -> Result<Mode, Memory>
-        ensures { IfOk result (λ m. mode_of m (stack_of stack.new.items) ≡ machine.mode_step bounded (mode_of self (stack_of stack.old.items)) (symbol_view symbol.entry) place) }
+        ensures { IfOk result (λ m. mode_of m (stack_of stack.new) ≡ machine.mode_step bounded (mode_of self (stack_of stack.old)) (symbol_view symbol.entry) place) }
     {
         match self {
             Mode::Want => start(alloc, stack, symbol, place),
@@ -109,12 +109,8 @@ impl Mode {
     }
 
     /// The type that ends there, if one can.
-    pub(crate) fn end(
-        self,
-        alloc: Global,
-        stack: &mut SmallVec<Frame, 16>,
-    ) -> Result<TypeEnd, Memory>
-        ensures { IfOk result (λ e. end_of e ≡ machine.mode_end bounded (mode_of self (stack_of stack.old.items))) }
+    pub(crate) fn end(self, alloc: Global, stack: &mut Stack<Frame>) -> Result<TypeEnd, Memory>
+        ensures { IfOk result (λ e. end_of e ≡ machine.mode_end bounded (mode_of self (stack_of stack.old))) }
     {
         match self {
             Mode::Alone(tree) => end_whole(alloc, stack, tree),

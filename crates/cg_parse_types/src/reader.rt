@@ -1,5 +1,5 @@
 // The reader of types.
-#![tactic(auto, using(crate::specs::Stack::stack_none), unfolding(crate::specs::States::reader_state))]
+#![tactic(auto, unfolding(crate::specs::States::reader_state))]
 
 ghost use Rattle.std.specs.Prelude.{◌≡◌, List, IfOk, OnOk, is_some};
 ghost use Rattle.cg_symbols.specs.Views.{symbol_view};
@@ -14,10 +14,9 @@ use crate::built::BuiltType;
 use crate::close::{all_close, close};
 use crate::frame::Frame;
 use crate::mode::Mode;
-use crate::stack::pop;
 use cg_base::{Memory, Place};
+use cg_stack::Stack;
 use cg_symbols::Symbol;
-use smallvec::SmallVec;
 use std::alloc::Global;
 
 /// What ends where the reader stands: no type, one that is too deep, or a type. docs/LANGUAGE.md, "Types" and "Limits".
@@ -31,7 +30,7 @@ pub enum TypeEnd {
 /// A reader of a type: docs/LANGUAGE.md, "Types". It takes one symbol at a time and keeps the types that it has read.
 #[derive(Drop)]
 pub struct TypeReader {
-    stack: SmallVec<Frame, 16>,
+    stack: Stack<Frame>,
     mode: Mode,
 }
 
@@ -48,13 +47,13 @@ fn mode_is_open(mode: &Mode) -> bool
 /// The type, with all frames closed that need no token; no frame may be left.
 pub(crate) fn end_whole(
     alloc: Global,
-    stack: &mut SmallVec<Frame, 16>,
+    stack: &mut Stack<Frame>,
     tree: Option<BuiltType>,
 ) -> Result<TypeEnd, Memory>
-    ensures { IfOk result (λ e. end_of e ≡ machine.end_whole bounded (view_of tree) (stack_of stack.old.items)) }
+    ensures { IfOk result (λ e. end_of e ≡ machine.end_whole bounded (view_of tree) (stack_of stack.old)) }
 {
     let tree = close(alloc, stack, 3, tree)?;
-    if let Some(_) = pop(stack) {
+    if let Some(_) = stack.pop() {
         return Ok(TypeEnd::Unfinished);
     }
     match tree {
@@ -69,7 +68,7 @@ impl TypeReader {
         ensures { reader_state result ≡ bounded_reader.begin }
     {
         TypeReader {
-            stack: SmallVec::new(alloc),
+            stack: Stack::new(alloc),
             mode: Mode::Want,
         }
     }
@@ -78,7 +77,7 @@ impl TypeReader {
     pub fn begin(&mut self, alloc: Global)
         ensures { reader_state self.new ≡ bounded_reader.begin }
     {
-        drop(std::mem::replace(&mut self.stack, SmallVec::new(alloc)));
+        drop(std::mem::replace(&mut self.stack, Stack::new(alloc)));
         drop(std::mem::replace(&mut self.mode, Mode::Want));
     }
 

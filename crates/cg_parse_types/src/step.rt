@@ -10,27 +10,26 @@ use crate::built::{BuiltAlts, BuiltFields, BuiltType};
 use crate::end::go_past;
 use crate::frame::Frame;
 use crate::mode::Mode;
-use crate::stack::{pop, push};
 use crate::start::{start, starts};
 use crate::taking::{after_take, take_dots, take_more, take_name, take_open};
 use crate::{build, lists};
 use cg_base::{Memory, Name, Place};
 use cg_core::At;
+use cg_stack::Stack;
 use cg_symbols::Symbol;
-use smallvec::SmallVec;
 use std::alloc::Global;
 
 /// At a symbol that begins an argument, behind one.
 fn next_argument<'a>(
     alloc: Global,
-    stack: &mut SmallVec<Frame, 16>,
+    stack: &mut Stack<Frame>,
     symbol: Symbol<'a>,
     place: Place,
     tree: Option<BuiltType>,
 ) -> Result<Mode, Memory>
-    ensures { IfOk result (λ m. mode_of m (stack_of stack.new.items) ≡ machine.next_argument bounded (symbol_view symbol.entry) place (view_of tree) (stack_of stack.old.items)) }
+    ensures { IfOk result (λ m. mode_of m (stack_of stack.new) ≡ machine.next_argument bounded (symbol_view symbol.entry) place (view_of tree) (stack_of stack.old)) }
 {
-    match pop(stack) {
+    match stack.pop() {
         Some(frame) => frame.next_argument(alloc, stack, symbol, place, tree),
         None => Ok(Mode::Stuck),
     }
@@ -39,12 +38,12 @@ fn next_argument<'a>(
 /// Behind a type that stands alone, at a symbol that begins none.
 fn behind_alone<'a>(
     alloc: Global,
-    stack: &mut SmallVec<Frame, 16>,
+    stack: &mut Stack<Frame>,
     symbol: Symbol<'a>,
     place: Place,
     tree: Option<BuiltType>,
 ) -> Result<Mode, Memory>
-    ensures { IfOk result (λ m. mode_of m (stack_of stack.new.items) ≡ machine.behind_alone bounded (symbol_view symbol.entry) place (view_of tree) (stack_of stack.old.items)) }
+    ensures { IfOk result (λ m. mode_of m (stack_of stack.new) ≡ machine.behind_alone bounded (symbol_view symbol.entry) place (view_of tree) (stack_of stack.old)) }
 {
     match symbol {
         Symbol::Bang => Ok(Mode::Alone(build::bang(alloc, tree)?)),
@@ -55,12 +54,12 @@ fn behind_alone<'a>(
 /// Behind a type that stands alone.
 pub(crate) fn go_on<'a>(
     alloc: Global,
-    stack: &mut SmallVec<Frame, 16>,
+    stack: &mut Stack<Frame>,
     symbol: Symbol<'a>,
     place: Place,
     tree: Option<BuiltType>,
 ) -> Result<Mode, Memory>
-    ensures { IfOk result (λ m. mode_of m (stack_of stack.new.items) ≡ machine.go_on bounded (symbol_view symbol.entry) place (view_of tree) (stack_of stack.old.items)) }
+    ensures { IfOk result (λ m. mode_of m (stack_of stack.new) ≡ machine.go_on bounded (symbol_view symbol.entry) place (view_of tree) (stack_of stack.old)) }
 {
     if starts(symbol) {
         next_argument(alloc, stack, symbol, place, tree)
@@ -72,16 +71,16 @@ pub(crate) fn go_on<'a>(
 /// Behind a name that may have arguments.
 pub(crate) fn after_head<'a>(
     alloc: Global,
-    stack: &mut SmallVec<Frame, 16>,
+    stack: &mut Stack<Frame>,
     symbol: Symbol<'a>,
     place: Place,
     head: Place,
     name: Name,
 ) -> Result<Mode, Memory>
-    ensures { IfOk result (λ m. mode_of m (stack_of stack.new.items) ≡ machine.after_head bounded (symbol_view symbol.entry) place head name (stack_of stack.old.items)) }
+    ensures { IfOk result (λ m. mode_of m (stack_of stack.new) ≡ machine.after_head bounded (symbol_view symbol.entry) place head name (stack_of stack.old)) }
 {
     if starts(symbol) {
-        push(stack, Frame::InArgs(head, name, lists::no_types(alloc)))?;
+        stack.push(Frame::InArgs(head, name, lists::no_types(alloc)))?;
         start(alloc, stack, symbol, place)
     } else {
         let tree = build::bare(alloc, head, name);
@@ -111,18 +110,18 @@ pub(crate) fn field_name<'a>(
 
 /// Behind a field's name.
 pub(crate) fn field_type<'a>(
-    stack: &mut SmallVec<Frame, 16>,
+    stack: &mut Stack<Frame>,
     symbol: Symbol<'a>,
     head: Place,
     boxed: bool,
     fields: Option<BuiltFields>,
     at: At,
 ) -> Result<Mode, Memory>
-    ensures { IfOk result (λ m. mode_of m (stack_of stack.new.items) ≡ machine.field_type bounded (symbol_view symbol.entry) head boxed (fields_view fields) at (stack_of stack.old.items)) }
+    ensures { IfOk result (λ m. mode_of m (stack_of stack.new) ≡ machine.field_type bounded (symbol_view symbol.entry) head boxed (fields_view fields) at (stack_of stack.old)) }
 {
     match symbol {
         Symbol::Colon => {
-            push(stack, Frame::InField(head, boxed, fields, at))?;
+            stack.push(Frame::InField(head, boxed, fields, at))?;
             Ok(Mode::Want)
         }
         _ => Ok(Mode::Stuck),
@@ -151,14 +150,14 @@ pub(crate) fn alt_name<'a>(
 /// Behind an alternative's name.
 pub(crate) fn after_alt<'a>(
     alloc: Global,
-    stack: &mut SmallVec<Frame, 16>,
+    stack: &mut Stack<Frame>,
     symbol: Symbol<'a>,
     place: Place,
     variant: Place,
     alts: Option<BuiltAlts>,
     at: At,
 ) -> Result<Mode, Memory>
-    ensures { IfOk result (λ m. mode_of m (stack_of stack.new.items) ≡ machine.after_alt bounded (symbol_view symbol.entry) place variant (alts_view alts) at (stack_of stack.old.items)) }
+    ensures { IfOk result (λ m. mode_of m (stack_of stack.new) ≡ machine.after_alt bounded (symbol_view symbol.entry) place variant (alts_view alts) at (stack_of stack.old)) }
 {
     match symbol {
         Symbol::Bar(_) => Ok(Mode::WantAlt(variant, lists::and_plain(alts, at)?)),
@@ -167,7 +166,7 @@ pub(crate) fn after_alt<'a>(
             Ok(Mode::Alone(build::variant(variant, alts)))
         }
         _ => {
-            push(stack, Frame::InAlt(variant, alts, at))?;
+            stack.push(Frame::InAlt(variant, alts, at))?;
             start(alloc, stack, symbol, place)
         }
     }
