@@ -9,10 +9,9 @@ use crate::build;
 use crate::built::{BuiltFields, BuiltPattern, BuiltPatterns};
 use crate::mode::Mode;
 use crate::opener::{Opener, opened};
-use crate::stack::push;
 use cg_base::{Memory, Place};
 use cg_core::At;
-use smallvec::SmallVec;
+use cg_stack::Stack;
 use std::alloc::Global;
 
 /// What is open in a pattern: a parenthesis before its first comma, one behind a comma, with the patterns before, and a
@@ -76,20 +75,20 @@ impl Frame {
     pub(crate) fn on_comma(
         self,
         alloc: Global,
-        stack: &mut SmallVec<Frame, 16>,
+        stack: &mut Stack<Frame>,
         pattern: Option<BuiltPattern>,
     ) -> Result<Mode, Memory>
-        ensures { IfOk result (λ m. mode_of m (stack_of stack.new.items) ≡ machine.on_comma bounded (view_of pattern) (frame_of self ∷ stack_of stack.old.items)) }
+        ensures { IfOk result (λ m. mode_of m (stack_of stack.new) ≡ machine.on_comma bounded (view_of pattern) (frame_of self ∷ stack_of stack.old)) }
     {
         match self {
             Frame::InParen(place) => {
                 let patterns = build::and_pattern(build::no_patterns(alloc), pattern)?;
-                push(stack, Frame::InTuple(place, patterns))?;
+                stack.push(Frame::InTuple(place, patterns))?;
                 Ok(Mode::Want)
             }
             Frame::InTuple(place, before) => {
                 let patterns = build::and_pattern(before, pattern)?;
-                push(stack, Frame::InTuple(place, patterns))?;
+                stack.push(Frame::InTuple(place, patterns))?;
                 Ok(Mode::Want)
             }
             Frame::InField(opener, before, at) => {

@@ -10,7 +10,6 @@ mod law;
 mod mode;
 mod opener;
 mod reader;
-mod stack;
 mod step;
 
 pub use built::{BuiltPattern, PatternEnd};

@@ -14,8 +14,8 @@ use crate::reader::end_whole;
 use crate::step::{field, field_on, go_on, name_on, start};
 use cg_base::{Memory, Name, Place};
 use cg_core::At;
+use cg_stack::Stack;
 use cg_symbols::Symbol;
-use smallvec::SmallVec;
 use std::alloc::Global;
 
 /// Where in a pattern the reader stands: before a pattern, behind one, behind a name, before a field, behind a field's name,
@@ -54,11 +54,11 @@ impl Mode {
     pub(crate) fn step<'a>(
         self,
         alloc: Global,
-        stack: &mut SmallVec<Frame, 16>,
+        stack: &mut Stack<Frame>,
         symbol: Symbol<'a>,
         place: Place,
     ) -> Result<Mode, Memory>
-        ensures { IfOk result (λ m. mode_of m (stack_of stack.new.items) ≡ machine.mode_step bounded (mode_of self (stack_of stack.old.items)) (symbol_view symbol.entry) place) }
+        ensures { IfOk result (λ m. mode_of m (stack_of stack.new) ≡ machine.mode_step bounded (mode_of self (stack_of stack.old)) (symbol_view symbol.entry) place) }
     {
         match self {
             Mode::Want => start(alloc, stack, symbol, place),
@@ -73,8 +73,8 @@ impl Mode {
     }
 
     /// The pattern that ends there, if one can.
-    pub(crate) fn end(self, stack: &mut SmallVec<Frame, 16>) -> PatternEnd
-        ensures { end_of result ≡ machine.finish bounded (mode_of self (stack_of stack.old.items)) }
+    pub(crate) fn end(self, stack: &mut Stack<Frame>) -> PatternEnd
+        ensures { end_of result ≡ machine.finish bounded (mode_of self (stack_of stack.old)) }
     {
         match self {
             Mode::Have(pattern) => end_whole(stack, pattern),

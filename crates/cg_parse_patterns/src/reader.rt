@@ -10,27 +10,23 @@ ghost use Rattle.cg_parse_patterns.specs.State.{reader_state};
 use crate::built::{BuiltPattern, PatternEnd};
 use crate::frame::Frame;
 use crate::mode::Mode;
-use crate::stack::{is_empty, pop};
 use cg_base::{Memory, Place};
+use cg_stack::Stack;
 use cg_symbols::Symbol;
-use smallvec::SmallVec;
 use std::alloc::Global;
 
 /// Where in a pattern a reader stands: docs/LANGUAGE.md, "Patterns".
 #[derive(Drop)]
 pub struct PatternReader {
-    stack: SmallVec<Frame, 16>,
+    stack: Stack<Frame>,
     mode: Mode,
 }
 
 /// The pattern that ends there; no frame may be left.
-pub(crate) fn end_whole(
-    stack: &mut SmallVec<Frame, 16>,
-    pattern: Option<BuiltPattern>,
-) -> PatternEnd
-    ensures { end_of result ≡ machine.whole bounded (view_of pattern) (stack_of stack.old.items) }
+pub(crate) fn end_whole(stack: &mut Stack<Frame>, pattern: Option<BuiltPattern>) -> PatternEnd
+    ensures { end_of result ≡ machine.whole bounded (view_of pattern) (stack_of stack.old) }
 {
-    if let Some(_) = pop(stack) {
+    if let Some(_) = stack.pop() {
         return PatternEnd::Unfinished;
     }
     match pattern {
@@ -41,22 +37,20 @@ pub(crate) fn end_whole(
 
 impl PatternReader {
     /// A reader before the first token of a pattern (docs/LANGUAGE.md, "Patterns"). It takes no memory.
-    #[tactic(auto, using(crate::specs::Stack::stack_none))]
     pub fn new(alloc: Global) -> PatternReader
         ensures { reader_state result ≡ bounded_reader.begin }
     {
         PatternReader {
-            stack: SmallVec::new(alloc),
+            stack: Stack::new(alloc),
             mode: Mode::Want,
         }
     }
 
     /// Starts over, before the first token of a pattern (docs/LANGUAGE.md, "Patterns"). It takes no memory.
-    #[tactic(auto, using(crate::specs::Stack::stack_none))]
     pub fn begin(&mut self, alloc: Global)
         ensures { reader_state self.new ≡ bounded_reader.begin }
     {
-        drop(std::mem::replace(&mut self.stack, SmallVec::new(alloc)));
+        drop(std::mem::replace(&mut self.stack, Stack::new(alloc)));
         drop(std::mem::replace(&mut self.mode, Mode::Want));
     }
 
@@ -92,7 +86,7 @@ impl PatternReader {
         ensures { result ≡ is_some (bounded_reader.finish (reader_state self.now)) }
     {
         match self.mode {
-            Mode::Have(_) | Mode::Head(_, _) => is_empty(&self.stack),
+            Mode::Have(_) | Mode::Head(_, _) => self.stack.is_empty(),
             _ => false,
         }
     }

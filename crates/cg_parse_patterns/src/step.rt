@@ -11,22 +11,21 @@ use crate::built::{BuiltFields, BuiltPattern};
 use crate::frame::Frame;
 use crate::mode::Mode;
 use crate::opener::{Opener, opened};
-use crate::stack::{pop, push};
 use cg_base::{Memory, Name, Place};
 use cg_core::At;
+use cg_stack::Stack;
 use cg_symbols::Symbol;
-use smallvec::SmallVec;
 use std::alloc::Global;
 
 /// At a closing parenthesis.
 fn on_close(
     alloc: Global,
-    stack: &mut SmallVec<Frame, 16>,
+    stack: &mut Stack<Frame>,
     pattern: Option<BuiltPattern>,
 ) -> Result<Mode, Memory>
-    ensures { IfOk result (λ m. mode_of m (stack_of stack.new.items) ≡ machine.on_close bounded (view_of pattern) (stack_of stack.old.items)) }
+    ensures { IfOk result (λ m. mode_of m (stack_of stack.new) ≡ machine.on_close bounded (view_of pattern) (stack_of stack.old)) }
 {
-    match pop(stack) {
+    match stack.pop() {
         Some(frame) => frame.on_close(alloc, pattern),
         None => Ok(Mode::Stuck),
     }
@@ -35,22 +34,22 @@ fn on_close(
 /// At a comma.
 fn on_comma(
     alloc: Global,
-    stack: &mut SmallVec<Frame, 16>,
+    stack: &mut Stack<Frame>,
     pattern: Option<BuiltPattern>,
 ) -> Result<Mode, Memory>
-    ensures { IfOk result (λ m. mode_of m (stack_of stack.new.items) ≡ machine.on_comma bounded (view_of pattern) (stack_of stack.old.items)) }
+    ensures { IfOk result (λ m. mode_of m (stack_of stack.new) ≡ machine.on_comma bounded (view_of pattern) (stack_of stack.old)) }
 {
-    match pop(stack) {
+    match stack.pop() {
         Some(frame) => frame.on_comma(alloc, stack, pattern),
         None => Ok(Mode::Stuck),
     }
 }
 
 /// At a closing brace.
-fn on_brace(stack: &mut SmallVec<Frame, 16>, pattern: Option<BuiltPattern>) -> Result<Mode, Memory>
-    ensures { IfOk result (λ m. mode_of m (stack_of stack.new.items) ≡ machine.on_brace bounded (view_of pattern) (stack_of stack.old.items)) }
+fn on_brace(stack: &mut Stack<Frame>, pattern: Option<BuiltPattern>) -> Result<Mode, Memory>
+    ensures { IfOk result (λ m. mode_of m (stack_of stack.new) ≡ machine.on_brace bounded (view_of pattern) (stack_of stack.old)) }
 {
-    match pop(stack) {
+    match stack.pop() {
         Some(frame) => frame.on_brace(pattern),
         None => Ok(Mode::Stuck),
     }
@@ -59,11 +58,11 @@ fn on_brace(stack: &mut SmallVec<Frame, 16>, pattern: Option<BuiltPattern>) -> R
 /// Behind a pattern.
 pub(crate) fn go_on<'a>(
     alloc: Global,
-    stack: &mut SmallVec<Frame, 16>,
+    stack: &mut Stack<Frame>,
     symbol: Symbol<'a>,
     pattern: Option<BuiltPattern>,
 ) -> Result<Mode, Memory>
-    ensures { IfOk result (λ m. mode_of m (stack_of stack.new.items) ≡ machine.go_on bounded (symbol_view symbol.entry) (view_of pattern) (stack_of stack.old.items)) }
+    ensures { IfOk result (λ m. mode_of m (stack_of stack.new) ≡ machine.go_on bounded (symbol_view symbol.entry) (view_of pattern) (stack_of stack.old)) }
 {
     match symbol {
         Symbol::Closing => on_close(alloc, stack, pattern),
@@ -76,12 +75,12 @@ pub(crate) fn go_on<'a>(
 /// Behind a name, which `{` makes that of a record.
 pub(crate) fn name_on<'a>(
     alloc: Global,
-    stack: &mut SmallVec<Frame, 16>,
+    stack: &mut Stack<Frame>,
     symbol: Symbol<'a>,
     place: Place,
     name: Name,
 ) -> Result<Mode, Memory>
-    ensures { IfOk result (λ m. mode_of m (stack_of stack.new.items) ≡ machine.name_on bounded (symbol_view symbol.entry) place name (stack_of stack.old.items)) }
+    ensures { IfOk result (λ m. mode_of m (stack_of stack.new) ≡ machine.name_on bounded (symbol_view symbol.entry) place name (stack_of stack.old)) }
 {
     match symbol {
         Symbol::Brace => Ok(Mode::WantField(Opener::Taken(place, name), build::no_fields(alloc))),
@@ -90,10 +89,10 @@ pub(crate) fn name_on<'a>(
 }
 
 /// At the closing parenthesis of `()`.
-fn on_empty(stack: &mut SmallVec<Frame, 16>) -> Mode
-    ensures { mode_of result (stack_of stack.new.items) ≡ machine.on_empty bounded (stack_of stack.old.items) }
+fn on_empty(stack: &mut Stack<Frame>) -> Mode
+    ensures { mode_of result (stack_of stack.new) ≡ machine.on_empty bounded (stack_of stack.old) }
 {
-    match pop(stack) {
+    match stack.pop() {
         Some(frame) => frame.on_empty(),
         None => Mode::Stuck,
     }
@@ -102,17 +101,17 @@ fn on_empty(stack: &mut SmallVec<Frame, 16>) -> Mode
 /// Where a pattern is wanted.
 pub(crate) fn start<'a>(
     alloc: Global,
-    stack: &mut SmallVec<Frame, 16>,
+    stack: &mut Stack<Frame>,
     symbol: Symbol<'a>,
     place: Place,
 ) -> Result<Mode, Memory>
-    ensures { IfOk result (λ m. mode_of m (stack_of stack.new.items) ≡ machine.start bounded (symbol_view symbol.entry) place (stack_of stack.old.items)) }
+    ensures { IfOk result (λ m. mode_of m (stack_of stack.new) ≡ machine.start bounded (symbol_view symbol.entry) place (stack_of stack.old)) }
 {
     match symbol {
         Symbol::Lower(name) => Ok(Mode::Head(place, Name::new(alloc, name)?)),
         Symbol::Wildcard => Ok(Mode::Have(build::any(place))),
         Symbol::Opening => {
-            push(stack, Frame::InParen(place))?;
+            stack.push(Frame::InParen(place))?;
             Ok(Mode::Want)
         }
         Symbol::Closing => Ok(on_empty(stack)),
@@ -151,17 +150,17 @@ fn alone(alloc: Global, before: Option<BuiltFields>, at: At) -> Result<Option<Bu
 /// Behind a field's name.
 pub(crate) fn field_on<'a>(
     alloc: Global,
-    stack: &mut SmallVec<Frame, 16>,
+    stack: &mut Stack<Frame>,
     symbol: Symbol<'a>,
     opener: Opener,
     before: Option<BuiltFields>,
     at: At,
 ) -> Result<Mode, Memory>
-    ensures { IfOk result (λ m. mode_of m (stack_of stack.new.items) ≡ machine.field_on bounded (symbol_view symbol.entry) (opener_of opener) (fields_of before) at (stack_of stack.old.items)) }
+    ensures { IfOk result (λ m. mode_of m (stack_of stack.new) ≡ machine.field_on bounded (symbol_view symbol.entry) (opener_of opener) (fields_of before) at (stack_of stack.old)) }
 {
     match symbol {
         Symbol::Equals => {
-            push(stack, Frame::InField(opener, before, at))?;
+            stack.push(Frame::InField(opener, before, at))?;
             Ok(Mode::Want)
         }
         Symbol::Comma => Ok(Mode::WantField(opener, alone(alloc, before, at)?)),
