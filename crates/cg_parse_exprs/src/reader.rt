@@ -3,20 +3,19 @@
 
 ghost use Rattle.std.specs.Prelude.{◌≡◌, List, IfOk, OnOk};
 ghost use Rattle.cg_symbols.specs.Views.{symbol_view};
-ghost use Rattle.cg_parse_exprs.specs.Bounded.{bounded};
+ghost use Rattle.cg_build_exprs.specs.Bounded.{bounded};
 ghost use Rattle.cg_parse_exprs.specs.Machine as machine;
 ghost use Rattle.cg_parse_exprs.specs.Stack.{types, patterns, Types, Patterns, Within, stack_of, mode_of, stage_of};
 ghost use Rattle.cg_parse_exprs.specs.State.{bounded_exprs, end_of, end_whole, reader_state, is_wrong_bar};
-ghost use Rattle.cg_parse_exprs.specs.Views.{view_of};
+ghost use Rattle.cg_build_exprs.specs.Views.{view_of};
 
-use crate::built::BuiltExpr;
 use crate::close::close;
 use crate::frame::{Frame, Mode};
 use crate::readers::Parts;
 use crate::stack::is_empty;
 use crate::step::mode_step;
-use crate::{build, lists};
 use cg_base::{Memory, Place};
+use cg_build_exprs::{BuiltExpr, build, lists};
 use cg_symbols::Symbol;
 use smallvec::SmallVec;
 use std::alloc::Global;
