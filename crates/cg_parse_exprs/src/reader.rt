@@ -82,7 +82,10 @@ fn mode_end(alloc: Global, stack: &mut SmallVec<Frame, 16>, mode: Mode) -> Resul
             end_whole(alloc, stack, tree)
         }
         Mode::AfterUpper(place, name) => end_whole(alloc, stack, build::con(place, name)),
-        _ => Ok(ExprEnd::Unfinished),
+        mode => {
+            drop(mode);
+            Ok(ExprEnd::Unfinished)
+        }
     }
 }
 
@@ -102,8 +105,8 @@ impl ExprReader {
     pub fn begin(&mut self, alloc: Global)
         ensures { reader_state self.new ≡ bounded_exprs.begin }
     {
-        self.stack = SmallVec::new(alloc);
-        self.mode = Mode::Want;
+        drop(std::mem::replace(&mut self.stack, SmallVec::new(alloc)));
+        drop(std::mem::replace(&mut self.mode, Mode::Want));
     }
 
     /// One symbol more, at its place: docs/LANGUAGE.md, "Expressions" and "Bars". Want of memory is its one refusal; a symbol
@@ -117,7 +120,8 @@ impl ExprReader {
         ensures { OnOk result (reader_state self.new ≡ bounded_exprs.step (reader_state self.old) (record { symbol = symbol_view symbol.entry; place = place })) }
     {
         let mode = std::mem::replace(&mut self.mode, Mode::Stuck);
-        self.mode = mode_step(alloc, &mut self.stack, &mut self.parts, mode, symbol, place)?;
+        let next = mode_step(alloc, &mut self.stack, &mut self.parts, mode, symbol, place)?;
+        drop(std::mem::replace(&mut self.mode, next));
         Ok(())
     }
 
