@@ -5,12 +5,12 @@ use Rattle.cg_surface.specs.Patterns.{Pattern, pattern_of}
 use Rattle.cg_surface.specs.Exprs.{Expr, Exprs, FieldExprs, Binds, Alts, expr_of, field_of, bind_of, alt_of, to_exprs, to_fields, to_binds, to_alts}
 use Rattle.cg_parse_types.specs.declared.built.BuiltType.{BuiltType}
 use Rattle.cg_parse_patterns.specs.declared.built.BuiltPattern.{BuiltPattern}
-use Rattle.cg_parse_exprs.specs.declared.built.BuiltExpr.{BuiltExpr}
-use Rattle.cg_parse_exprs.specs.declared.built.BuiltExprs.{BuiltExprs}
-use Rattle.cg_parse_exprs.specs.declared.built.BuiltFields.{BuiltFields}
-use Rattle.cg_parse_exprs.specs.declared.built.BuiltBinds.{BuiltBinds}
-use Rattle.cg_parse_exprs.specs.declared.built.BuiltAlts.{BuiltAlts}
-use Rattle.cg_parse_exprs.specs.declared.built.BuiltArgs.{BuiltArgs}
+use Rattle.cg_build_exprs.specs.declared.built.BuiltExpr.{BuiltExpr}
+use Rattle.cg_build_exprs.specs.declared.built.BuiltExprs.{BuiltExprs}
+use Rattle.cg_build_exprs.specs.declared.built.BuiltFields.{BuiltFields}
+use Rattle.cg_build_exprs.specs.declared.built.BuiltBinds.{BuiltBinds}
+use Rattle.cg_build_exprs.specs.declared.built.BuiltAlts.{BuiltAlts}
+use Rattle.cg_build_exprs.specs.declared.built.BuiltArgs.{BuiltArgs}
 
 -- an expression, where there is one
 abbrev pub view_of : Option BuiltExpr → Option Expr

@@ -1,18 +1,18 @@
 // How a `let`, an `if` and a match are built.
 ghost use Rattle.std.specs.Prelude.{◌≡◌, IfOk};
 ghost use Rattle.cg_surface.specs.Exprs.{expr_of};
-ghost use Rattle.cg_parse_exprs.specs.Bounded.{bounded};
-ghost use Rattle.cg_parse_exprs.specs.Grammar.{first_place as first_of};
-ghost use Rattle.cg_parse_exprs.specs.Views.{view_of, binds_view, alts_view};
+ghost use Rattle.cg_build_exprs.specs.Bounded.{bounded};
+ghost use Rattle.cg_build_exprs.specs.Plain.{first_place as first_of};
+ghost use Rattle.cg_build_exprs.specs.Views.{view_of, binds_view, alts_view};
 
-use crate::built::{BuiltAlts, BuiltBinds, BuiltExpr, MOST};
+use crate::built::{BuiltAlts, BuiltBinds, BuiltExpr, DEPTH_LIMIT};
 use cg_base::{Items, Memory, Place};
 use cg_core::At;
 use cg_surface::{SExpr, SForm};
 use std::alloc::Global;
 
-/// A `let`, at its word's place.
-pub(crate) fn lets(
+/// A `let`, at its word's place: docs/LANGUAGE.md, "Expressions".
+pub fn lets(
     alloc: Global,
     place: Place,
     binds: Option<BuiltBinds>,
@@ -27,7 +27,7 @@ pub(crate) fn lets(
         return Ok(None);
     };
     let most = m.max(n);
-    if most >= MOST {
+    if most >= DEPTH_LIMIT {
         return Ok(None);
     }
     let form = SForm::Let(items, Box::new(alloc, tree)?);
@@ -37,8 +37,8 @@ pub(crate) fn lets(
     }))
 }
 
-/// An `if`, at its word's place, with the variables that are observed in its condition.
-pub(crate) fn if_else(
+/// An `if`, at its word's place, with the variables that are observed in its condition: docs/LANGUAGE.md, "Expressions".
+pub fn if_else(
     alloc: Global,
     place: Place,
     condition: Option<BuiltExpr>,
@@ -58,7 +58,7 @@ pub(crate) fn if_else(
         return Ok(None);
     };
     let most = l.max(m.max(n));
-    if most >= MOST {
+    if most >= DEPTH_LIMIT {
         return Ok(None);
     }
     let c = Box::new(alloc, c)?;
@@ -80,8 +80,8 @@ fn first_place(tree: &SExpr) -> Place
     first.place
 }
 
-/// A match, at the place of its subject's first token, with the variables that are observed in it.
-pub(crate) fn match_of(
+/// A match, at the place of its subject's first token, with the variables that are observed in it: docs/LANGUAGE.md, "Expressions" and "Bars".
+pub fn match_of(
     alloc: Global,
     subject: Option<BuiltExpr>,
     seen: Items<At>,
@@ -96,7 +96,7 @@ pub(crate) fn match_of(
         return Ok(None);
     };
     let most = m.max(n);
-    if most >= MOST {
+    if most >= DEPTH_LIMIT {
         return Ok(None);
     }
     let place = first_place(&tree);

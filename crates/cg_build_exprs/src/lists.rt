@@ -2,8 +2,8 @@
 #![tactic(auto, using(crate::proofs::Added::added))]
 
 ghost use Rattle.std.specs.Prelude.{◌≡◌, IfOk};
-ghost use Rattle.cg_parse_exprs.specs.Bounded.{bounded};
-ghost use Rattle.cg_parse_exprs.specs.Views.{view_of, type_view, pattern_view, args_view, exprs_view, fields_view, binds_view, alts_view};
+ghost use Rattle.cg_build_exprs.specs.Bounded.{bounded};
+ghost use Rattle.cg_build_exprs.specs.Views.{view_of, type_view, pattern_view, args_view, exprs_view, fields_view, binds_view, alts_view};
 
 use crate::built::{BuiltAlts, BuiltArgs, BuiltBinds, BuiltExpr, BuiltExprs, BuiltFields};
 use cg_base::{Items, Memory, Name, Place};
@@ -13,8 +13,8 @@ use cg_parse_types::BuiltType;
 use cg_surface::{Alt, Bind, FExpr};
 use std::alloc::Global;
 
-/// No type arguments.
-pub(crate) fn no_args(alloc: Global) -> Option<BuiltArgs>
+/// No type arguments: docs/LANGUAGE.md, "Expressions".
+pub fn no_args(alloc: Global) -> Option<BuiltArgs>
     ensures { args_view result ≡ bounded.no_args }
 {
     Some(BuiltArgs {
@@ -23,11 +23,8 @@ pub(crate) fn no_args(alloc: Global) -> Option<BuiltArgs>
     })
 }
 
-/// A type argument more.
-pub(crate) fn and_arg(
-    args: Option<BuiltArgs>,
-    ty: Option<BuiltType>,
-) -> Result<Option<BuiltArgs>, Memory>
+/// A type argument more: docs/LANGUAGE.md, "Expressions".
+pub fn and_arg(args: Option<BuiltArgs>, ty: Option<BuiltType>) -> Result<Option<BuiltArgs>, Memory>
     ensures { IfOk result (λ ts. args_view ts ≡ bounded.and_arg (args_view args) (type_view ty)) }
 {
     let Some(BuiltArgs { items, depth: m }) = args else {
@@ -44,8 +41,8 @@ pub(crate) fn and_arg(
     }))
 }
 
-/// No expressions.
-pub(crate) fn no_exprs(alloc: Global) -> Option<BuiltExprs>
+/// No expressions: docs/LANGUAGE.md, "Expressions".
+pub fn no_exprs(alloc: Global) -> Option<BuiltExprs>
     ensures { exprs_view result ≡ bounded.no_exprs }
 {
     Some(BuiltExprs {
@@ -54,8 +51,8 @@ pub(crate) fn no_exprs(alloc: Global) -> Option<BuiltExprs>
     })
 }
 
-/// An expression more.
-pub(crate) fn and_expr(
+/// An expression more: docs/LANGUAGE.md, "Expressions".
+pub fn and_expr(
     exprs: Option<BuiltExprs>,
     tree: Option<BuiltExpr>,
 ) -> Result<Option<BuiltExprs>, Memory>
@@ -75,8 +72,8 @@ pub(crate) fn and_expr(
     }))
 }
 
-/// No fields.
-pub(crate) fn no_fields(alloc: Global) -> Option<BuiltFields>
+/// No fields: docs/LANGUAGE.md, "Expressions".
+pub fn no_fields(alloc: Global) -> Option<BuiltFields>
     ensures { fields_view result ≡ bounded.no_fields }
 {
     Some(BuiltFields {
@@ -85,8 +82,8 @@ pub(crate) fn no_fields(alloc: Global) -> Option<BuiltFields>
     })
 }
 
-/// A field more.
-pub(crate) fn and_field(
+/// A field more: docs/LANGUAGE.md, "Expressions".
+pub fn and_field(
     fields: Option<BuiltFields>,
     at: At,
     tree: Option<BuiltExpr>,
@@ -107,8 +104,8 @@ pub(crate) fn and_field(
     }))
 }
 
-/// No bindings.
-pub(crate) fn no_binds(alloc: Global) -> Option<BuiltBinds>
+/// No bindings: docs/LANGUAGE.md, "Expressions".
+pub fn no_binds(alloc: Global) -> Option<BuiltBinds>
     ensures { binds_view result ≡ bounded.no_binds }
 {
     Some(BuiltBinds {
@@ -117,8 +114,8 @@ pub(crate) fn no_binds(alloc: Global) -> Option<BuiltBinds>
     })
 }
 
-/// A binding more, with the variables that are observed in it.
-pub(crate) fn and_bind(
+/// A binding more, with the variables that are observed in it: docs/LANGUAGE.md, "Expressions".
+pub fn and_bind(
     binds: Option<BuiltBinds>,
     pattern: Option<BuiltPattern>,
     value: Option<BuiltExpr>,
@@ -147,8 +144,8 @@ pub(crate) fn and_bind(
     }))
 }
 
-/// No alternatives.
-pub(crate) fn no_alts(alloc: Global) -> Option<BuiltAlts>
+/// No alternatives: docs/LANGUAGE.md, "Expressions".
+pub fn no_alts(alloc: Global) -> Option<BuiltAlts>
     ensures { alts_view result ≡ bounded.no_alts }
 {
     Some(BuiltAlts {
@@ -157,8 +154,8 @@ pub(crate) fn no_alts(alloc: Global) -> Option<BuiltAlts>
     })
 }
 
-/// An alternative more.
-pub(crate) fn and_alt(
+/// An alternative more: docs/LANGUAGE.md, "Expressions".
+pub fn and_alt(
     alts: Option<BuiltAlts>,
     place: Place,
     con: Option<Name>,

@@ -1,14 +1,14 @@
 // How the patterns are built that the reader of expressions reads by itself.
 ghost use Rattle.std.specs.Prelude.{◌≡◌};
-ghost use Rattle.cg_parse_exprs.specs.Bounded.{bounded};
-ghost use Rattle.cg_parse_exprs.specs.Views.{pattern_view};
+ghost use Rattle.cg_build_exprs.specs.Bounded.{bounded};
+ghost use Rattle.cg_build_exprs.specs.Views.{pattern_view};
 
 use cg_base::{Name, Place};
 use cg_parse_patterns::BuiltPattern;
 use cg_surface::{Pat, PatForm};
 
-/// `()`, the pattern of a constructor alone.
-pub(crate) fn pattern_unit(place: Place) -> Option<BuiltPattern>
+/// `()`, the pattern of a constructor alone: docs/LANGUAGE.md, "Patterns".
+pub fn pattern_unit(place: Place) -> Option<BuiltPattern>
     ensures { pattern_view result ≡ bounded.pattern_unit place }
 {
     let form = PatForm::Unit;
@@ -18,8 +18,8 @@ pub(crate) fn pattern_unit(place: Place) -> Option<BuiltPattern>
     })
 }
 
-/// A name.
-pub(crate) fn pattern_name(place: Place, name: Name) -> Option<BuiltPattern>
+/// A name: docs/LANGUAGE.md, "Patterns".
+pub fn pattern_name(place: Place, name: Name) -> Option<BuiltPattern>
     ensures { pattern_view result ≡ bounded.pattern_name place name }
 {
     let form = PatForm::Name(name);
@@ -29,8 +29,8 @@ pub(crate) fn pattern_name(place: Place, name: Name) -> Option<BuiltPattern>
     })
 }
 
-/// `_`.
-pub(crate) fn pattern_any(place: Place) -> Option<BuiltPattern>
+/// `_`: docs/LANGUAGE.md, "Patterns".
+pub fn pattern_any(place: Place) -> Option<BuiltPattern>
     ensures { pattern_view result ≡ bounded.pattern_any place }
 {
     let form = PatForm::Any;

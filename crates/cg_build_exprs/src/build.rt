@@ -2,24 +2,24 @@
 #![tactic(auto, using(crate::proofs::Added::place_at))]
 
 ghost use Rattle.std.specs.Prelude.{◌≡◌, IfOk};
-ghost use Rattle.cg_parse_exprs.specs.Bounded.{bounded};
-ghost use Rattle.cg_parse_exprs.specs.Views.{view_of, type_view, args_view, exprs_view, fields_view};
+ghost use Rattle.cg_build_exprs.specs.Bounded.{bounded};
+ghost use Rattle.cg_build_exprs.specs.Views.{view_of, type_view, args_view, exprs_view, fields_view};
 
-use crate::built::{BuiltArgs, BuiltExpr, BuiltExprs, BuiltFields, MOST};
+use crate::built::{BuiltArgs, BuiltExpr, BuiltExprs, BuiltFields, DEPTH_LIMIT};
 use cg_base::{Memory, Name, Place};
 use cg_core::{At, Op};
 use cg_parse_types::BuiltType;
 use cg_surface::{SExpr, SForm};
 use std::alloc::Global;
 
-/// A name with its type arguments.
-pub(crate) fn name(place: Place, name: Name, args: Option<BuiltArgs>) -> Option<BuiltExpr>
+/// A name with its type arguments: docs/LANGUAGE.md, "Expressions".
+pub fn name(place: Place, name: Name, args: Option<BuiltArgs>) -> Option<BuiltExpr>
     ensures { view_of result ≡ bounded.name place name (args_view args) }
 {
     let Some(BuiltArgs { items, depth }) = args else {
         return None;
     };
-    if depth >= MOST {
+    if depth >= DEPTH_LIMIT {
         return None;
     }
     let form = SForm::Name(name, items);
@@ -29,8 +29,8 @@ pub(crate) fn name(place: Place, name: Name, args: Option<BuiltArgs>) -> Option<
     })
 }
 
-/// A number, where it is no more than 2^64 - 1.
-pub(crate) fn number(place: Place, value: Option<u64>) -> Option<BuiltExpr>
+/// A number, where it is no more than 2^64 - 1: docs/LANGUAGE.md, "Expressions".
+pub fn number(place: Place, value: Option<u64>) -> Option<BuiltExpr>
     ensures { view_of result ≡ bounded.number place value }
 {
     let form = SForm::Number(value);
@@ -40,8 +40,8 @@ pub(crate) fn number(place: Place, value: Option<u64>) -> Option<BuiltExpr>
     })
 }
 
-/// `True` or `False`.
-pub(crate) fn boolean(place: Place, value: bool) -> Option<BuiltExpr>
+/// `True` or `False`: docs/LANGUAGE.md, "Expressions".
+pub fn boolean(place: Place, value: bool) -> Option<BuiltExpr>
     ensures { view_of result ≡ bounded.bool place value }
 {
     let form = SForm::Bool(value);
@@ -51,8 +51,8 @@ pub(crate) fn boolean(place: Place, value: bool) -> Option<BuiltExpr>
     })
 }
 
-/// `()`.
-pub(crate) fn unit(place: Place) -> Option<BuiltExpr>
+/// `()`: docs/LANGUAGE.md, "Expressions".
+pub fn unit(place: Place) -> Option<BuiltExpr>
     ensures { view_of result ≡ bounded.unit place }
 {
     let form = SForm::Unit;
@@ -62,8 +62,8 @@ pub(crate) fn unit(place: Place) -> Option<BuiltExpr>
     })
 }
 
-/// An expression in parentheses.
-pub(crate) fn paren(
+/// An expression in parentheses: docs/LANGUAGE.md, "Expressions".
+pub fn paren(
     alloc: Global,
     place: Place,
     inner: Option<BuiltExpr>,
@@ -73,7 +73,7 @@ pub(crate) fn paren(
     let Some(BuiltExpr { tree, depth }) = inner else {
         return Ok(None);
     };
-    if depth >= MOST {
+    if depth >= DEPTH_LIMIT {
         return Ok(None);
     }
     let form = SForm::Paren(Box::new(alloc, tree)?);
@@ -83,8 +83,8 @@ pub(crate) fn paren(
     }))
 }
 
-/// An expression with its type, in parentheses.
-pub(crate) fn sig(
+/// An expression with its type, in parentheses: docs/LANGUAGE.md, "Expressions".
+pub fn sig(
     alloc: Global,
     place: Place,
     inner: Option<BuiltExpr>,
@@ -99,7 +99,7 @@ pub(crate) fn sig(
         return Ok(None);
     };
     let most = m.max(n);
-    if most >= MOST {
+    if most >= DEPTH_LIMIT {
         return Ok(None);
     }
     let form = SForm::Sig(Box::new(alloc, tree)?, ty);
@@ -109,14 +109,14 @@ pub(crate) fn sig(
     }))
 }
 
-/// A tuple.
-pub(crate) fn tuple(place: Place, exprs: Option<BuiltExprs>) -> Option<BuiltExpr>
+/// A tuple: docs/LANGUAGE.md, "Expressions".
+pub fn tuple(place: Place, exprs: Option<BuiltExprs>) -> Option<BuiltExpr>
     ensures { view_of result ≡ bounded.tuple place (exprs_view exprs) }
 {
     let Some(BuiltExprs { items, depth }) = exprs else {
         return None;
     };
-    if depth >= MOST {
+    if depth >= DEPTH_LIMIT {
         return None;
     }
     let form = SForm::Tuple(items);
@@ -126,14 +126,14 @@ pub(crate) fn tuple(place: Place, exprs: Option<BuiltExprs>) -> Option<BuiltExpr
     })
 }
 
-/// An unboxed record.
-pub(crate) fn fields(place: Place, fields: Option<BuiltFields>) -> Option<BuiltExpr>
+/// An unboxed record: docs/LANGUAGE.md, "Expressions".
+pub fn fields(place: Place, fields: Option<BuiltFields>) -> Option<BuiltExpr>
     ensures { view_of result ≡ bounded.fields place (fields_view fields) }
 {
     let Some(BuiltFields { items, depth }) = fields else {
         return None;
     };
-    if depth >= MOST {
+    if depth >= DEPTH_LIMIT {
         return None;
     }
     let form = SForm::Fields(items);
@@ -143,20 +143,21 @@ pub(crate) fn fields(place: Place, fields: Option<BuiltFields>) -> Option<BuiltE
     })
 }
 
-/// A constructor alone; the `()` that it holds is a node.
-pub(crate) fn con(place: Place, name: Name) -> Option<BuiltExpr>
+/// A constructor alone: docs/LANGUAGE.md, "Expressions".
+pub fn con(place: Place, name: Name) -> Option<BuiltExpr>
     ensures { view_of result ≡ bounded.con place name }
 {
     let form = SForm::Con(name, None);
+    let depth = 1;
     Some(BuiltExpr {
         tree: SExpr { place, form },
-        depth: 2,
+        depth,
     })
 }
 
-/// A constructor with what it holds.
+/// A constructor with what it holds: docs/LANGUAGE.md, "Expressions".
 #[tactic(auto, using(crate::proofs::Added::con_with))]
-pub(crate) fn con_of(
+pub fn con_of(
     alloc: Global,
     place: Place,
     name: Name,
@@ -167,7 +168,7 @@ pub(crate) fn con_of(
     let Some(BuiltExpr { tree, depth }) = inner else {
         return Ok(None);
     };
-    if depth >= MOST {
+    if depth >= DEPTH_LIMIT {
         return Ok(None);
     }
     let form = SForm::Con(name, Some(Box::new(alloc, tree)?));
@@ -177,8 +178,8 @@ pub(crate) fn con_of(
     }))
 }
 
-/// A call, at its function's place.
-pub(crate) fn app(
+/// A call, at its function's place: docs/LANGUAGE.md, "Expressions".
+pub fn app(
     alloc: Global,
     function: Option<BuiltExpr>,
     argument: Option<BuiltExpr>,
@@ -192,7 +193,7 @@ pub(crate) fn app(
         return Ok(None);
     };
     let most = m.max(n);
-    if most >= MOST {
+    if most >= DEPTH_LIMIT {
         return Ok(None);
     }
     let place = f.place;
@@ -203,18 +204,14 @@ pub(crate) fn app(
     }))
 }
 
-/// A field of an expression, at its place.
-pub(crate) fn member(
-    alloc: Global,
-    inner: Option<BuiltExpr>,
-    at: At,
-) -> Result<Option<BuiltExpr>, Memory>
+/// A field of an expression, at its place: docs/LANGUAGE.md, "Expressions".
+pub fn member(alloc: Global, inner: Option<BuiltExpr>, at: At) -> Result<Option<BuiltExpr>, Memory>
     ensures { IfOk result (λ e. view_of e ≡ bounded.member (view_of inner) at) }
 {
     let Some(BuiltExpr { tree, depth }) = inner else {
         return Ok(None);
     };
-    if depth >= MOST {
+    if depth >= DEPTH_LIMIT {
         return Ok(None);
     }
     let place = tree.place;
@@ -225,8 +222,8 @@ pub(crate) fn member(
     }))
 }
 
-/// Fields that are put into an expression, at its place.
-pub(crate) fn put(
+/// Fields that are put into an expression, at its place: docs/LANGUAGE.md, "Expressions".
+pub fn put(
     alloc: Global,
     inner: Option<BuiltExpr>,
     fields: Option<BuiltFields>,
@@ -240,7 +237,7 @@ pub(crate) fn put(
         return Ok(None);
     };
     let most = m.max(n);
-    if most >= MOST {
+    if most >= DEPTH_LIMIT {
         return Ok(None);
     }
     let place = tree.place;
@@ -251,8 +248,8 @@ pub(crate) fn put(
     }))
 }
 
-/// An operator with its one operand.
-pub(crate) fn unary(
+/// An operator with its one operand: docs/LANGUAGE.md, "Expressions".
+pub fn unary(
     alloc: Global,
     place: Place,
     op: Op,
@@ -263,7 +260,7 @@ pub(crate) fn unary(
     let Some(BuiltExpr { tree, depth }) = operand else {
         return Ok(None);
     };
-    if depth >= MOST {
+    if depth >= DEPTH_LIMIT {
         return Ok(None);
     }
     let form = SForm::Unary(op, Box::new(alloc, tree)?);
@@ -273,8 +270,8 @@ pub(crate) fn unary(
     }))
 }
 
-/// `upcast` with its operand.
-pub(crate) fn upcast(
+/// `upcast` with its operand: docs/LANGUAGE.md, "Expressions".
+pub fn upcast(
     alloc: Global,
     place: Place,
     operand: Option<BuiltExpr>,
@@ -284,7 +281,7 @@ pub(crate) fn upcast(
     let Some(BuiltExpr { tree, depth }) = operand else {
         return Ok(None);
     };
-    if depth >= MOST {
+    if depth >= DEPTH_LIMIT {
         return Ok(None);
     }
     let form = SForm::Upcast(Box::new(alloc, tree)?);
@@ -294,8 +291,8 @@ pub(crate) fn upcast(
     }))
 }
 
-/// An operator with its two operands, at its sign's place.
-pub(crate) fn binary(
+/// An operator with its two operands, at its sign's place: docs/LANGUAGE.md, "Expressions".
+pub fn binary(
     alloc: Global,
     place: Place,
     op: Op,
@@ -311,7 +308,7 @@ pub(crate) fn binary(
         return Ok(None);
     };
     let most = m.max(n);
-    if most >= MOST {
+    if most >= DEPTH_LIMIT {
         return Ok(None);
     }
     let form = SForm::Binary(op, Box::new(alloc, a)?, Box::new(alloc, b)?);
