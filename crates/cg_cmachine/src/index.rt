@@ -1,5 +1,6 @@
 // Where the functions of a program, and the variables of each, are found by their names.
 ghost use Rattle.std.specs.Prelude.{◌≡◌, ◌++◌, map, None, IfOk, IfSome, MatchOption, OnOk, option_map};
+ghost use Rattle.std.specs.List.{AllZip};
 ghost use Rattle.cg_ctree.specs.Runs.{find};
 ghost use Rattle.cg_ctree.specs.Trees.{function_of};
 ghost use Rattle.cg_cmachine.specs.Indexes.{FirstFunction, Indexes, declared, texts, variables_of};
@@ -47,12 +48,9 @@ impl<'a> Indexed<'a> {
     pub fn new(alloc: Global, program: &'a CProgram) -> Result<Indexed<'a>, AllocError>
         ensures { IfOk result (λ indexed. indexed ≡ program.now) }
     {
-        let mut names = Vec::new(alloc);
-        let mut variables = Vec::new(alloc);
-        for function in program.funs.as_slice() {
-            names.push(function.name.bytes())?;
-            variables.push(index_variables(alloc, function)?)?;
-        }
+        let functions = program.funs.as_slice();
+        let variables = index_all(alloc, functions)?;
+        let names = function_names(alloc, functions)?;
         let functions = index(alloc, names.as_slice())?;
         Ok(Indexed {
             program,
@@ -79,6 +77,28 @@ impl<'a> Indexed<'a> {
     {
         self.functions.get(name.bytes()).copied()
     }
+}
+
+/// The name of each function.
+fn function_names<'a>(alloc: Global, functions: &'a [CFun]) -> Result<Vec<&'a [u8]>, AllocError>
+    ensures { IfOk result (λ names. texts names.items ≡ map (λ function. function.name) functions.now) }
+{
+    let mut names = Vec::new(alloc);
+    for function in functions {
+        names.push(function.name.bytes())?;
+    }
+    Ok(names)
+}
+
+/// The places of the variables of each function.
+fn index_all<'a>(alloc: Global, functions: &'a [CFun]) -> Result<Vec<Names<'a>>, AllocError>
+    ensures { IfOk result (λ tables. AllZip (λ function table. Indexes (variables_of function) table) functions.now tables.items) }
+{
+    let mut tables = Vec::new(alloc);
+    for function in functions {
+        tables.push(index_variables(alloc, function)?)?;
+    }
+    Ok(tables)
 }
 
 /// The place of the first of each name.

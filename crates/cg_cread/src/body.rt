@@ -14,16 +14,27 @@ use cg_ctree::{CBody, CDecl, CFun, CStmt, CTy};
 use std::alloc::Global;
 
 /// A function so far: its head, and the locals and statements that are read.
-#[derive(Drop)]
 pub(crate) struct Draft {
     pub(crate) head: Signature,
     pub(crate) locals: Items<CDecl>,
     pub(crate) stmts: Items<CStmt>,
 }
 
+impl Drop for Draft {
+    fn drop(self) {
+        let Draft {
+            head,
+            locals,
+            stmts,
+        } = self;
+        drop(head);
+        drop(locals);
+        drop(stmts);
+    }
+}
+
 /// Where in a function's body the reader stands: before a local or the first statement; behind a local's type or behind its
 /// name; before a statement that isn't the first; in a statement; or where nothing goes on.
-#[derive(Drop)]
 pub(crate) enum Body {
     Locals(Draft),
     LocalTyped(Draft, Word),
@@ -31,6 +42,25 @@ pub(crate) enum Body {
     Statements(Draft),
     InStatement(Draft, Statement),
     Stuck,
+}
+
+impl Drop for Body {
+    fn drop(self) {
+        match self {
+            Body::Locals(draft) | Body::LocalTyped(draft, _) | Body::Statements(draft) => {
+                drop(draft);
+            }
+            Body::LocalNamed(draft, _, name) => {
+                drop(draft);
+                drop(name);
+            }
+            Body::InStatement(draft, statement) => {
+                drop(draft);
+                drop(statement);
+            }
+            Body::Stuck => (),
+        }
+    }
 }
 
 /// A function of which only the head is read.
@@ -132,54 +162,58 @@ fn in_statement<'a>(
     }
 }
 
-/// One symbol more of a body, without the `}` that ends it.
-pub(crate) fn body_step<'a>(alloc: Global, body: Body, symbol: Symbol<'a>) -> Result<Body, Memory>
-    ensures { IfOk result (λ m. body_of m ≡ machine.body_step (body_of body) (symbol_view symbol.entry)) }
-{
-    match body {
-        Body::Locals(draft) => before_local(alloc, draft, symbol),
-        Body::LocalTyped(draft, word) => local_typed(alloc, draft, word, symbol),
-        Body::LocalNamed(draft, word, name) => local_named(draft, word, name, symbol),
-        Body::Statements(draft) => before_statement(alloc, draft, symbol),
-        Body::InStatement(draft, statement) => in_statement(alloc, draft, statement, symbol),
-        Body::Stuck => Ok(Body::Stuck),
+impl Draft {
+    // The function that is read.
+    fn function(self) -> CFun
+        ensures { function_of result ≡ machine.function_at (draft_of self) }
+    {
+        let Draft {
+            head,
+            locals,
+            stmts,
+        } = self;
+        CFun {
+            ty: CTy::Word(head.word),
+            name: head.name,
+            params: head.params,
+            body: Some(CBody { locals, stmts }),
+        }
     }
 }
 
-// The function that is read.
-fn function(draft: Draft) -> CFun
-    ensures { function_of result ≡ machine.function_at (draft_of draft) }
-{
-    let Draft {
-        head,
-        locals,
-        stmts,
-    } = draft;
-    CFun {
-        ty: CTy::Word(head.word),
-        name: head.name,
-        params: head.params,
-        body: Some(CBody { locals, stmts }),
+impl Body {
+    /// One symbol more of a body, without the `}` that ends it.
+    pub(crate) fn step<'a>(self, alloc: Global, symbol: Symbol<'a>) -> Result<Body, Memory>
+        ensures { IfOk result (λ m. body_of m ≡ machine.body_step (body_of self) (symbol_view symbol.entry)) }
+    {
+        match self {
+            Body::Locals(draft) => before_local(alloc, draft, symbol),
+            Body::LocalTyped(draft, word) => local_typed(alloc, draft, word, symbol),
+            Body::LocalNamed(draft, word, name) => local_named(draft, word, name, symbol),
+            Body::Statements(draft) => before_statement(alloc, draft, symbol),
+            Body::InStatement(draft, statement) => in_statement(alloc, draft, statement, symbol),
+            Body::Stuck => Ok(Body::Stuck),
+        }
     }
-}
 
-/// The function that a `}` ends there, where it ends one.
-pub(crate) fn body_end(body: Body) -> Option<CFun>
-    ensures { option_map function_of result ≡ machine.body_end (body_of body) }
-{
-    match body {
-        Body::Locals(draft) | Body::Statements(draft) => Some(function(draft)),
-        _ => None,
+    /// The function that a `}` ends there, where it ends one.
+    pub(crate) fn end(self) -> Option<CFun>
+        ensures { option_map function_of result ≡ machine.body_end (body_of self) }
+    {
+        match self {
+            Body::Locals(draft) | Body::Statements(draft) => Some(draft.function()),
+            _ => None,
+        }
     }
-}
 
-/// Whether a body may still come of it.
-pub(crate) fn body_is_open(body: &Body) -> bool
-    ensures { result ≡ machine.body_is_open (body_of body.now) }
-{
-    match body {
-        Body::InStatement(_, statement) => statement_is_open(statement),
-        Body::Stuck => false,
-        _ => true,
+    /// Whether a body may still come of it.
+    pub(crate) fn is_open(&self) -> bool
+        ensures { result ≡ machine.body_is_open (body_of self.now) }
+    {
+        match self {
+            Body::InStatement(_, statement) => statement_is_open(statement),
+            Body::Stuck => false,
+            _ => true,
+        }
     }
 }

@@ -7,7 +7,7 @@ ghost use Rattle.cg_cread.specs.Machine as machine;
 ghost use Rattle.cg_cread.specs.Views.{symbol_view, body_of, state_of, Concludes};
 
 use crate::CFault;
-use crate::body::{Body, begun, body_end, body_is_open, body_step};
+use crate::body::{Body, begun};
 use crate::head::{Head, head_is_open, head_step};
 use crate::symbol::{Symbol, symbol_at};
 use cg_base::{Items, Memory, Place};
@@ -51,7 +51,10 @@ fn in_head<'a>(
     match symbol {
         Symbol::Begin => match head {
             Head::Closed(head) => Ok(Phase::InBody(done, Body::Locals(begun(alloc, head)))),
-            _ => Ok(Phase::Failed),
+            other => {
+                drop(other);
+                Ok(Phase::Failed)
+            }
         },
         _ => {
             let head = head_step(alloc, head, symbol)?;
@@ -83,9 +86,9 @@ fn in_body<'a>(
     ensures { IfOk result (λ s. state_of s ≡ machine.on_body (map function_of done) (body_of body) (symbol_view symbol.entry)) }
 {
     match symbol {
-        Symbol::End => closed(done, body_end(body)),
+        Symbol::End => closed(done, body.end()),
         _ => {
-            let body = body_step(alloc, body, symbol)?;
+            let body = body.step(alloc, symbol)?;
             Ok(Phase::InBody(done, body))
         }
     }
@@ -137,7 +140,7 @@ pub(crate) fn is_open(phase: &Phase) -> bool
 {
     match phase {
         Phase::InHead(_, head) => head_is_open(head),
-        Phase::InBody(_, body) => body_is_open(body),
+        Phase::InBody(_, body) => body.is_open(),
         Phase::Failed => false,
         _ => true,
     }

@@ -29,7 +29,6 @@ pub(crate) enum Spot {
 /// Where in a right side the reader stands: before it; behind a name; behind `(`, the word behind that, the `)` behind that
 /// and the `(` behind that; in a cast or behind its operand, with the outer word; before or behind an argument of a call; behind
 /// the whole; or where nothing goes on.
-#[derive(Drop)]
 pub(crate) enum Right {
     Wanted,
     Named(Name),
@@ -43,6 +42,30 @@ pub(crate) enum Right {
     BehindArgument(Name, Items<COpnd>),
     Whole(CRhs),
     Stuck,
+}
+
+impl Drop for Right {
+    fn drop(self) {
+        match self {
+            Right::Named(name) => drop(name),
+            Right::InCast(_, cast, _) => drop(cast),
+            Right::BehindCast(_, cast, _, operand) => {
+                drop(cast);
+                drop(operand);
+            }
+            Right::ArgumentWanted(name, arguments) | Right::BehindArgument(name, arguments) => {
+                drop(name);
+                drop(arguments);
+            }
+            Right::Whole(right) => drop(right),
+            Right::Wanted
+            | Right::Opened
+            | Right::Typed(_)
+            | Right::Outer(_)
+            | Right::Inner(_)
+            | Right::Stuck => (),
+        }
+    }
 }
 
 /// The path that is a name alone.
@@ -257,47 +280,47 @@ fn behind_argument<'a>(function: Name, arguments: Items<COpnd>, symbol: Symbol<'
     }
 }
 
-/// One symbol more of a right side.
-pub(crate) fn right_step<'a>(
-    alloc: Global,
-    right: Right,
-    symbol: Symbol<'a>,
-) -> Result<Right, Memory>
-    ensures { IfOk result (λ m. m ≡ machine.right_step right (symbol_view symbol.entry)) }
-{
-    match right {
-        Right::Wanted => wanted(alloc, symbol),
-        Right::Named(name) => Ok(named(alloc, name, symbol)),
-        Right::Opened => Ok(opened(symbol)),
-        Right::Typed(word) => Ok(typed(word, symbol)),
-        Right::Outer(word) => outer(alloc, word, symbol),
-        Right::Inner(word) => Ok(inner(word, symbol)),
-        Right::InCast(outer, cast, spot) => in_cast(alloc, outer, cast, spot, symbol),
-        Right::BehindCast(outer, cast, word, operand) => {
-            Ok(behind_cast(outer, cast, word, operand, symbol))
+impl Right {
+    /// One symbol more of a right side.
+    pub(crate) fn step<'a>(self, alloc: Global, symbol: Symbol<'a>) -> Result<Right, Memory>
+        ensures { IfOk result (λ m. m ≡ machine.right_step self (symbol_view symbol.entry)) }
+    {
+        match self {
+            Right::Wanted => wanted(alloc, symbol),
+            Right::Named(name) => Ok(named(alloc, name, symbol)),
+            Right::Opened => Ok(opened(symbol)),
+            Right::Typed(word) => Ok(typed(word, symbol)),
+            Right::Outer(word) => outer(alloc, word, symbol),
+            Right::Inner(word) => Ok(inner(word, symbol)),
+            Right::InCast(outer, cast, spot) => in_cast(alloc, outer, cast, spot, symbol),
+            Right::BehindCast(outer, cast, word, operand) => {
+                Ok(behind_cast(outer, cast, word, operand, symbol))
+            }
+            Right::ArgumentWanted(function, arguments) => {
+                argument(alloc, function, arguments, symbol)
+            }
+            Right::BehindArgument(function, arguments) => {
+                Ok(behind_argument(function, arguments, symbol))
+            }
+            Right::Whole(_) | Right::Stuck => Ok(Right::Stuck),
         }
-        Right::ArgumentWanted(function, arguments) => argument(alloc, function, arguments, symbol),
-        Right::BehindArgument(function, arguments) => {
-            Ok(behind_argument(function, arguments, symbol))
+    }
+
+    /// The right side that ends there, where one does.
+    pub(crate) fn end(self, alloc: Global) -> Option<CRhs>
+        ensures { result ≡ machine.right_end self }
+    {
+        match self {
+            Right::Named(name) => Some(CRhs::Opnd(COpnd::Path(path(alloc, name)))),
+            Right::Whole(right) => Some(right),
+            _ => None,
         }
-        Right::Whole(_) | Right::Stuck => Ok(Right::Stuck),
     }
-}
 
-/// The right side that ends there, where one does.
-pub(crate) fn right_end(alloc: Global, right: Right) -> Option<CRhs>
-    ensures { result ≡ machine.right_end right }
-{
-    match right {
-        Right::Named(name) => Some(CRhs::Opnd(COpnd::Path(path(alloc, name)))),
-        Right::Whole(right) => Some(right),
-        _ => None,
+    /// Whether a right side may still come of it.
+    pub(crate) fn is_open(&self) -> bool
+        ensures { result ≡ machine.right_is_open self.now }
+    {
+        !matches!(self, Right::Stuck)
     }
-}
-
-/// Whether a right side may still come of it.
-pub(crate) fn right_is_open(right: &Right) -> bool
-    ensures { result ≡ machine.right_is_open right.now }
-{
-    !matches!(right, Right::Stuck)
 }

@@ -5,7 +5,7 @@ ghost use Rattle.cg_ctree.specs.Trees.{stmt_of};
 ghost use Rattle.cg_cread.specs.Statements as machine;
 ghost use Rattle.cg_cread.specs.Views.{symbol_view};
 
-use crate::right::{Right, operand, path, right_end, right_is_open, right_step};
+use crate::right::{Right, operand, path};
 use crate::symbol::Symbol;
 use cg_base::{Memory, Name};
 use cg_ctree::{COpnd, CStmt};
@@ -36,7 +36,7 @@ pub(crate) fn statement_step<'a>(
             _ => Ok(Statement::Stuck),
         },
         Statement::Assigned(name, right) => {
-            let right = right_step(alloc, right, symbol)?;
+            let right = right.step(alloc, symbol)?;
             Ok(Statement::Assigned(name, right))
         }
         Statement::Returning => match operand(alloc, symbol)? {
@@ -53,7 +53,7 @@ pub(crate) fn statement_end(alloc: Global, statement: Statement) -> Option<CStmt
 {
     match statement {
         Statement::Assigned(name, right) => {
-            let right = right_end(alloc, right)?;
+            let right = right.end(alloc)?;
             Some(CStmt::Assign(path(alloc, name), right))
         }
         Statement::Returned(operand) => Some(CStmt::Return(operand)),
@@ -66,7 +66,7 @@ pub(crate) fn statement_is_open(statement: &Statement) -> bool
     ensures { result ≡ machine.statement_is_open statement.now }
 {
     match statement {
-        Statement::Assigned(_, right) => right_is_open(right),
+        Statement::Assigned(_, right) => right.is_open(),
         Statement::Stuck => false,
         _ => true,
     }

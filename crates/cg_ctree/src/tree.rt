@@ -10,10 +10,17 @@ pub enum CTy {
 }
 
 /// A declaration of a member, a parameter or a local.
-#[derive(Drop)]
 pub struct CDecl {
     pub ty: CTy,
     pub name: Name,
+}
+
+impl Drop for CDecl {
+    fn drop(self) {
+        let CDecl { ty, name } = self;
+        drop(ty);
+        drop(name);
+    }
 }
 
 /// A struct. The first of a name counts.
@@ -24,12 +31,26 @@ pub struct CStruct {
 }
 
 /// A function, with a body where it is defined. The first of a name counts.
-#[derive(Drop)]
 pub struct CFun {
     pub ty: CTy,
     pub name: Name,
     pub params: Items<CDecl>,
     pub body: Option<CBody>,
+}
+
+impl Drop for CFun {
+    fn drop(self) {
+        let CFun {
+            ty,
+            name,
+            params,
+            body,
+        } = self;
+        drop(ty);
+        drop(name);
+        drop(params);
+        drop(body);
+    }
 }
 
 /// A body: its locals, which begin unset, and its statements.
@@ -47,18 +68,37 @@ pub struct CProgram {
 }
 
 /// A path: a variable, and members of it. The arrow stands before the first member.
-#[derive(Drop)]
 pub struct CPath {
     pub base: Name,
     pub arrow: bool,
     pub members: Items<Name>,
 }
 
+impl Drop for CPath {
+    fn drop(self) {
+        let CPath {
+            base,
+            arrow: _,
+            members,
+        } = self;
+        drop(base);
+        drop(members);
+    }
+}
+
 /// An operand: a number, or what stands at a path.
-#[derive(Drop)]
 pub enum COpnd {
     Number(u64),
     Path(CPath),
+}
+
+impl Drop for COpnd {
+    fn drop(self) {
+        match self {
+            COpnd::Number(_) => (),
+            COpnd::Path(path) => drop(path),
+        }
+    }
 }
 
 /// An operation of two operands.
@@ -84,7 +124,6 @@ pub enum COp {
 
 /// What is assigned: an operand, `(w)o`, `(w)((v)l op (v)r)`, `(w)(~(v)o)`, `(uint8_t)(o == 0)`, a call, or
 /// `cg_new(q, sizeof(struct S))`. In `Binary` and `Flip` the first word is the outer one.
-#[derive(Drop)]
 pub enum CRhs {
     Opnd(COpnd),
     Conv(Word, COpnd),
@@ -95,9 +134,31 @@ pub enum CRhs {
     New(COpnd, Name),
 }
 
+impl Drop for CRhs {
+    fn drop(self) {
+        match self {
+            CRhs::Opnd(operand)
+            | CRhs::Conv(_, operand)
+            | CRhs::Flip(_, _, operand)
+            | CRhs::IsNull(operand) => drop(operand),
+            CRhs::Binary(_, _, _, left, right) => {
+                drop(left);
+                drop(right);
+            }
+            CRhs::Call(name, arguments) => {
+                drop(name);
+                drop(arguments);
+            }
+            CRhs::New(heap, name) => {
+                drop(heap);
+                drop(name);
+            }
+        }
+    }
+}
+
 /// A statement.
 #[cycle(statement)]
-#[derive(Drop)]
 pub enum CStmt {
     Assign(CPath, CRhs),
     If(COpnd, Items<CStmt>, Items<CStmt>),
@@ -105,6 +166,36 @@ pub enum CStmt {
     Switch(COpnd, Items<CCase>),
     Call(Name, Items<COpnd>),
     Return(COpnd),
+}
+
+impl Drop for CStmt {
+    #[cycle(statement)]
+    fn drop(self) {
+        match self {
+            CStmt::Assign(path, right) => {
+                drop(path);
+                drop(right);
+            }
+            CStmt::If(operand, yes, no) => {
+                drop(operand);
+                drop(yes);
+                drop(no);
+            }
+            CStmt::While(operand, body) => {
+                drop(operand);
+                drop(body);
+            }
+            CStmt::Switch(operand, arms) => {
+                drop(operand);
+                drop(arms);
+            }
+            CStmt::Call(name, arguments) => {
+                drop(name);
+                drop(arguments);
+            }
+            CStmt::Return(operand) => drop(operand),
+        }
+    }
 }
 
 /// A case of a switch: its number, and its statements.

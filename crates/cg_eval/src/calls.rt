@@ -54,9 +54,9 @@ pub(crate) fn apply<'a>(
         (rest table m.old.frames.items (context_of m.old))) result }
     ensures falls { IfOk result (λ f. weight m.new f ≤ 3 * m.old.left + length m.old.frames.items + 2) }
 {
-    match fun {
-        Value::Fun(Fun::User(fun), _types) => enter(alloc, checked, m, fun, arg),
-        Value::Fun(Fun::Lib(_), _types) => Err(Halt::Stuck),
+    match &fun {
+        Value::Fun(Fun::User(at), _) => enter(alloc, checked, m, *at, arg),
+        Value::Fun(Fun::Lib(_), _) => Err(Halt::Stuck),
         _ => Ok(Focus::Have(Value::Gone)),
     }
 }

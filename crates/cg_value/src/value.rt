@@ -9,7 +9,6 @@ use std::alloc::Global;
 /// word or a Bool, `Fun` a function at its type arguments, `Variant` an alternative with its payload, `Fields` a record
 /// in the order of its fields, `Array` the elements of an array, `Answers` what an allocator will still answer, and
 /// `Gone` stands for a field that is taken.
-#[derive(Drop)]
 pub enum Value {
     Num(u64),
     Unit,
@@ -19,6 +18,22 @@ pub enum Value {
     Array(Items<u64>),
     Answers(Items<bool>),
     Gone,
+}
+
+impl Drop for Value {
+    fn drop(self) {
+        match self {
+            Value::Num(_) | Value::Unit | Value::Gone => (),
+            Value::Fun(_, types) => drop(types),
+            Value::Variant(name, payload) => {
+                drop(name);
+                drop(payload);
+            }
+            Value::Fields(values) => drop(values),
+            Value::Array(numbers) => drop(numbers),
+            Value::Answers(answers) => drop(answers),
+        }
+    }
 }
 
 impl Value {
