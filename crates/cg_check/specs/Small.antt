@@ -1,4 +1,4 @@
--- Small kernels: those of the forms that typing has rules for so far (docs/LANGUAGE.md, "Small programs"). No function has type
+-- Small kernels: those of the forms that typing has rules for so far (docs/LANGUAGE.md, "Small kernels"). No function has type
 -- variables, and its type is `U32`, `()`, `SysState` or an arrow between two of these; bodies are made of variables, unit, numbers,
 -- functions of the program without type arguments, sums of two, calls and `let`. It says nothing of where positions lie.
 use Rattle.std.specs.Prelude.{◌&&◌, Bool, true, false, List, [], ◌∷◌, Option, Some, None, codes}

@@ -12,7 +12,7 @@ ghost use Rattle.cg_check.specs.Small.{is_small_type, is_small_signature, is_sma
 use cg_base::{Fun, Items, Name, Place, Sigil, Ty, Word};
 use cg_core::{Form, KBody, KFun, Kernel, Op, Term};
 
-/// Whether a kernel is small: of the forms that typing has rules for so far (docs/LANGUAGE.md, "Small programs"). It
+/// Whether a kernel is small: of the forms that typing has rules for so far (docs/LANGUAGE.md, "Small kernels"). It
 /// takes no memory.
 pub fn is_small(kernel: &Kernel) -> bool
     ensures { result ≡ is_small_kernel (kernel_of kernel.now) }

@@ -19,6 +19,7 @@ use Rattle.cg_surface.specs.Exprs as exprs
 use Rattle.cg_surface.specs.Programs.{Entry}
 use Rattle.cg_desugar.specs.Declared.{looked_up, OfLibrary, library, OfProgram, function_named}
 use Rattle.cg_desugar.specs.Expand.{Bodies, component, expanded}
+pub use Rattle.cg_desugar.specs.Takes.{exprs_length as list_length}
 
 abbrev pub Scope : Type 0
 Scope = List (Option (List ℕ))
@@ -150,11 +151,6 @@ last_bound p None x subject scope rest = bind x subject scope rest
 abbrev pub or_library : Option OfLibrary → Fun
 or_library (Some f) = OfLib f.lib
 or_library None = OfLib New
-
--- how many expressions there are
-abbrev pub list_length : Exprs → ℕ
-list_length exprs.no_exprs = 0
-list_length (exprs.and_expr es e) = list_length es + 1
 
 -- the name of a constructor, which each alternative but the last has
 abbrev pub or_empty : Option (List ℕ) → List ℕ

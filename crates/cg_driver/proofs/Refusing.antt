@@ -109,8 +109,8 @@ module _ (one : OneProgram) (reading : OneReading) (resolving : OneResolving) (f
   same_line : (source text line : List ℕ) → Refuses file source text → RefusesSyntax file source line ⊎ IsNamesLine file source line → text ≡ line
   same_line source text line (not_spelled s) (inl y) = same_reading source text line (misread file source text s) (misread file source line y)
   same_line source text line (not_spelled s) (inr y) = absurd ((misread file source text s).none y.0 y.1.spells)
-  same_line source text line (not_named p spelled found) (inl y) = absurd ((misread file source line y).none p spelled.spells)
-  same_line source text line (not_named p spelled found) (inr y) =
+  same_line source text line (not_named p spelled order found) (inl y) = absurd ((misread file source line y).none p spelled.spells)
+  same_line source text line (not_named p spelled order found) (inr y) =
       same_resolving p text line (unnamed file p text found) (moved source y.0 p line y.1 spelled (unnamed file y.0 line y.2))
   same_line source text line (not_small p kernel other is) y = absurd (never_kernel source line p kernel y)
   same_line source text line (not_accepted p kernel small never is) y = absurd (never_kernel source line p kernel y)

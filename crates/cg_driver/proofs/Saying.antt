@@ -7,6 +7,7 @@ use Rattle.std.proofs.lemmas.Bool.{ltb-true}
 use Rattle.std.proofs.lemmas.Slice.Eq.{bytes_eq-Decides}
 use Rattle.cg_base.specs.declared.limit.Limit.{Limit}
 use Rattle.cg_base.specs.declared.place.Place.{Place}
+use Rattle.cg_base.specs.Places.{most}
 use Rattle.cg_core.specs.declared.kernel.KFun.{KFun}
 use Rattle.cg_core.specs.declared.kernel.Kernel.{Kernel}
 use Rattle.cg_core.specs.Kernels.{Function, function_of, kernel_of}
@@ -18,6 +19,8 @@ use Rattle.cg_resolve.specs.declared.fault.Fault.TheVariants.{Limit as Passes}
 use Rattle.cg_surface.specs.Programs.{Entry, program_depth}
 use Rattle.cg_parser.specs.Grammar.{Spells}
 use Rattle.cg_parser.specs.Answers.{depth_limit}
+use Rattle.cg_parser_laws.proofs.ItemFaults.{spelled_ordered}
+use Rattle.cg_parser_laws.proofs.ItemTakes.{spelled_growing}
 use Rattle.cg_typing.specs.Accepted.{IsAcceptedKernel}
 use Rattle.cg_typing.specs.declared.checked.Checked.{Checked}
 use Rattle.cg_typing.specs.Holds.{kernel_in}
@@ -97,6 +100,9 @@ program_checked source p short spelled deep checked c =
 
 module _ (file source : List ℕ) (p : List Entry) (short : length source ≤ source_limit) (spelled : Spells source p) (deep : program_depth p ≤ depth_limit)
     (only : (q : List Entry) → Spells source q → q ≡ p) where
+  told : length source < most
+  told = omega (arith, short)
+
   spelling : SpellsWithin source p
   spelling = record { spells = spelled; within = deep }
 
@@ -112,7 +118,7 @@ module _ (file source : List ℕ) (p : List Entry) (short : length source ≤ so
   untyped text names limits (inr j) = not_accepted p (kernel names limits) j.0 (never_accepted j.1) j.2
 
   refused : (text : List ℕ) → RefusesProgram file p Refused text → Refuses file source text
-  refused text (inl j) = not_named p spelling j
+  refused text (inl j) = not_named p spelling (record { names = spelled_ordered source p told spelled; takes = spelled_growing source p told spelled }) j
   refused text (inr j) = untyped text j.0 j.1 j.2
 
   pub program_refused : (s : Status) (text : List ℕ) → RefusesProgram file p s text → RefusesSource file source s text

@@ -56,7 +56,7 @@ refused_as file source text (not_spelled (unknown_byte place found is)) short = 
 refused_as file source text (not_spelled (open_comment place found is)) short = (short, inl found.4)
 refused_as file source text (not_spelled (unexpected place found is)) short = (short, inl found.4)
 refused_as file source text (not_spelled (wrong_bar place found is)) short = (short, inl found.4)
-refused_as file source text (not_named p spelled found) short = (short, inr (inl (p, spelled, misnamed file p text found)))
+refused_as file source text (not_named p spelled order found) short = (short, inr (inl (p, spelled, misnamed file p text found)))
 refused_as file source text (not_small p kernel other is) short = (short, inr (inr (inl (p, kernel, other))))
 refused_as file source text (not_accepted p kernel small never is) short = (short, inr (inr (inr (p, kernel, small, never))))
 

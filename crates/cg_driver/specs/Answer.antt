@@ -5,6 +5,9 @@ use Rattle.cg_base.specs.declared.place.Place.{Place}
 use Rattle.cg_check.specs.Small.{is_small_kernel}
 use Rattle.cg_core.specs.Kernels.{Function}
 use Rattle.cg_desugar.specs.Desugar.{functions_of, NamesStand, WithinLimits}
+use Rattle.cg_desugar.specs.Faults.{program_faults}
+use Rattle.cg_desugar.specs.Order.{AreOrdered, AreGrowing}
+use Rattle.cg_desugar.specs.Takes.{missing_fields}
 use Rattle.cg_eval.specs.Plain.{plain_kernel}
 use Rattle.cg_heaptext.specs.HeapText.{HeapText}
 use Rattle.cg_outside.specs.Held.{Held, IsReadOf}
@@ -73,11 +76,16 @@ pub data RefusesNames (file : List ℕ) (p : List Entry) (text : List ℕ) : Typ
   wrong_number : (place : Place) → Resolves p (Err (N4 place)) → text ≡ fault_line file place (codes "N4 wrong number of type arguments") → RefusesNames file p text
   no_field : (place : Place) → Resolves p (Err (N5 place)) → text ≡ fault_line file place (codes "N5 take of no field") → RefusesNames file p text
 
--- The line of a refusal: that of a fault of syntax; or the bytes spell a program within the depth, and it is that of a fault of names; or it
--- has a kernel, which isn't small, or which is small and isn't accepted.
+-- the faults of a program stand in order, so the first is the one at the least place, and of two at one place the one with the lower number
+pub record InOrder (p : List Entry) : Type 0 where
+  pub names : AreOrdered (program_faults p)
+  pub takes : AreGrowing (missing_fields p)
+
+-- The line of a refusal: that of a fault of syntax; or the bytes spell a program within the depth, and it is that of the first fault of names,
+-- which stand in order; or it has a kernel, which isn't small, or which is small and isn't accepted.
 pub data Refuses (file source text : List ℕ) : Type 0 where
   not_spelled : RefusesSyntax file source text → Refuses file source text
-  not_named : (p : List Entry) → SpellsWithin source p → RefusesNames file p text → Refuses file source text
+  not_named : (p : List Entry) → SpellsWithin source p → InOrder p → RefusesNames file p text → Refuses file source text
   not_small : (p : List Entry) → HasKernel source p → is_small_kernel (functions_of p) ≡ false → text ≡ not_built_line file → Refuses file source text
   not_accepted : (p : List Entry) → HasKernel source p → is_small_kernel (functions_of p) ≡ true → (Accepted source → ⊥) → text ≡ not_accepted_line file → Refuses file source text
 

@@ -15,7 +15,7 @@ usage_text = codes "usage: cogent check FILE\n       cogent run FILE ENTRY HEAPF
 abbrev pub ok_line : List Function → List ℕ
 ok_line functions = codes "ok: " ++ decimal (count_by (λ f. is_some f.body) functions) ++ codes " functions\n"
 
--- the refusal of a source at a place, by a rule with its text (docs/LANGUAGE.md, "Faults")
+-- the refusal of a source at a place, by a rule with its text (docs/LANGUAGE.md, "Faults of reading")
 abbrev pub fault_line : List ℕ → Place → List ℕ → List ℕ
 fault_line file place rule = file ++ codes ":" ++ decimal place.line ++ codes ":" ++ decimal place.column ++ codes ": " ++ rule ++ codes "\n"
 

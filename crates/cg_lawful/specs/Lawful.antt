@@ -1,4 +1,4 @@
--- Lawful kernels (docs/LANGUAGE.md, "Kernels"): positions, functions and type variables are in range; each function has as many type
+-- Lawful kernels (docs/LANGUAGE.md, "Lawful kernels"): positions, functions and type variables are in range; each function has as many type
 -- arguments as it takes, `WordArray` one and `SysState` none; each record type, variant type and record has a part, and no name twice; each
 -- operator has its number of operands; and no function mentions itself through bodies.
 use Rattle.std.specs.Prelude.{◌≡◌, ℕ, suc, ◌+◌, ◌<◌, Bool, false, List, [], ◌∷◌, ◌++◌, map, length, slice_get, codes, Option, Some, None, ⊤}

@@ -22,7 +22,7 @@ use Rattle.cg_desugar.specs.Expand.{Bodies, component, expanded, types_length}
 use Rattle.cg_desugar.specs.Faults.{all_bound, binds_faults, bound, counted, expr_faults, field_with, function_faults, library_faults, list_faults, match_faults, mention_faults, pattern_faults, put_faults, record_faults, seen_faults, type_faults, types_faults, unknown, value_names}
 use Rattle.cg_desugar.specs.Mentions.{binds_mentions, expr_mentions, list_mentions, match_mentions, values_mentions}
 use Rattle.cg_desugar.specs.Takes.{exprs_length, values_length, widest, widest_alts, widest_binds, widest_expr, widest_list, widest_of, widest_values}
-use Rattle.cg_desugar.specs.Terms.{Rest, Scope, Term, all_written, alternatives, bindings, body_term, cases, components_of, fields_of, first_place, function_of, inner_place, its_name, last_bound, let_bound, list_length, mention, observed, or_empty, or_library, or_zero, payload_bound, positions, puts, seen_bound, term_of, variable, written}
+use Rattle.cg_desugar.specs.Terms.{Rest, Scope, Term, all_written, alternatives, bindings, body_term, cases, components_of, fields_of, first_place, function_of, inner_place, its_name, last_bound, let_bound, mention, observed, or_empty, or_library, or_zero, payload_bound, positions, puts, seen_bound, term_of, variable, written}
 use Rattle.cg_lawful_laws.specs.Shaped.{AreShapedBinds, AreShapedChoices, AreShapedExprs, AreShapedTypes, AreShapedValues, IsBinary, IsShapedExpr, IsShapedPattern, IsShapedType, IsUnary}
 use Rattle.cg_lawful_laws.proofs.Expanded.{AreSound, component_apart, counted_same, looked_up_all, type_lawful, unknown_not}
 use Rattle.cg_lawful_laws.proofs.Lists.{AreNew, field_none, new_here, none_left, none_right, not_again, one_new}
@@ -41,10 +41,6 @@ binary_count : (o : Op) → IsBinary o → 2 ≡ operands o
 binary_count op.Complement h = absurd h
 binary_count op.Not h = absurd h
 binary_count o h = refl
-
-same_length : (es : Exprs) → list_length es ≡ exprs_length es
-same_length exprs.no_exprs = refl
-same_length (exprs.and_expr es e) = omega (arith, same_length es)
 
 -- each function of the library takes as many as its table says
 library_same : (n : List ℕ) (l : OfLibrary) → looked_up library n ≡ Some l → library_arity l.lib ≡ l.arity
@@ -244,7 +240,7 @@ module _ (entries : List Entry) (known : Bodies) (names : List (List ℕ)) (arit
         (written_lawful t (none_right (expr_faults entries names inside a) (type_faults entries names t) none) shaped.1 (omega (arith, narrow)))
     term_proper inside scope (exprs.tuple p es) covers none shaped narrow named =
         proper_struct arities (length names) P (length scope) p (components_of entries known names scope es end) (are_components scope es shaped.0)
-        (components_proper inside scope es end covers none shaped.1 (omega (arith, narrow)) (omega (arith, narrow, same_length es)) named (λ i lt. refl) (no_field arities (length names) P (length scope)))
+        (components_proper inside scope es end covers none shaped.1 (omega (arith, narrow)) (omega (arith, narrow)) named (λ i lt. refl) (no_field arities (length names) P (length scope)))
     term_proper inside scope (exprs.fields p fs) covers none shaped narrow named =
         proper_struct arities (length names) P (length scope) p (fields_of entries known names scope fs end) (are_fields scope fs shaped.0)
         (fields_proper inside scope fs end covers none shaped.1 (omega (arith, narrow)) named (λ n among. refl) (no_field arities (length names) P (length scope)))
@@ -298,15 +294,15 @@ module _ (entries : List Entry) (known : Bodies) (names : List (List ℕ)) (arit
         (alternatives_proper inside g.after choices g.subject (covers_later scope g.after inside covers g.extends) (none_right (expr_faults entries names inside e ++ seen_faults inside seen) (match_faults entries names inside choices) none)
         shaped.3 (omega (arith, narrow)) (named_right M (expr_mentions inside e) (match_mentions inside choices) named) g.proper_subject)
 
-    components_proper : (inside : List (List ℕ)) (scope : Scope) (es : Exprs) (fs : Named Place) → Covers scope inside → list_faults entries names inside es ≡ [] → AreShapedExprs es → widest_list es ≤ parts_limit → list_length es ≤ parts_limit
-        → AreNamed M (list_mentions inside es) → ((i : ℕ) → i < list_length es → is_among (field_names fs) (component i) ≡ false) → AreProper arities (length names) P (length scope) fs
+    components_proper : (inside : List (List ℕ)) (scope : Scope) (es : Exprs) (fs : Named Place) → Covers scope inside → list_faults entries names inside es ≡ [] → AreShapedExprs es → widest_list es ≤ parts_limit → exprs_length es ≤ parts_limit
+        → AreNamed M (list_mentions inside es) → ((i : ℕ) → i < exprs_length es → is_among (field_names fs) (component i) ≡ false) → AreProper arities (length names) P (length scope) fs
         → AreProper arities (length names) P (length scope) (components_of entries known names scope es fs)
     components_proper inside scope exprs.no_exprs fs covers none shaped narrow short named new rest = rest
     components_proper inside scope (exprs.and_expr es e) fs covers none shaped narrow short named new rest =
         components_proper inside scope es _ covers (none_left (list_faults entries names inside es) (expr_faults entries names inside e) none) shaped.0 (omega (arith, narrow)) (omega (arith, short))
         (named_left M (list_mentions inside es) (expr_mentions inside e) named)
-        (λ i lt. ap (λ b. b || is_among (field_names fs) (component i)) (component_apart i (list_length es) lt (omega (arith, short))) ∙ new i (omega (arith, lt)))
-        (one_field arities (length names) P (length scope) (component (list_length es)) (term_of entries known names scope e) fs (new (list_length es) (omega arith))
+        (λ i lt. ap (λ b. b || is_among (field_names fs) (component i)) (component_apart i (exprs_length es) lt (omega (arith, short))) ∙ new i (omega (arith, lt)))
+        (one_field arities (length names) P (length scope) (component (exprs_length es)) (term_of entries known names scope e) fs (new (exprs_length es) (omega arith))
         (term_proper inside scope e covers (none_right (list_faults entries names inside es) (expr_faults entries names inside e) none) shaped.1 (omega (arith, narrow)) (named_right M (list_mentions inside es) (expr_mentions inside e) named)) rest)
 
     fields_proper : (inside : List (List ℕ)) (scope : Scope) (es : FieldExprs) (fs : Named Place) → Covers scope inside → record_faults entries names inside es ≡ [] → AreShapedValues es → widest_values es ≤ parts_limit

@@ -9,7 +9,7 @@ use Rattle.cg_desugar.specs.Declared.{is_among}
 use Rattle.cg_desugar.specs.Faults.{names_of, bound, variables, all_variables, field_variables}
 use Rattle.cg_names.specs.Scopes.{SameNames}
 use Rattle.cg_names.proofs.ScopeSteps.{among_append}
-use Rattle.cg_names.proofs.Views.{pattern_field_is}
+use Rattle.cg_surface.proofs.Views.{pattern_field_is}
 use Rattle.cg_mentions.proofs.Pushed.{so_far}
 
 abbrev one_field : FieldPatterns → OneField → FieldPatterns

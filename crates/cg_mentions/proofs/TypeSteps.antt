@@ -7,7 +7,7 @@ use Rattle.cg_surface.specs.declared.written.STy.{STy}
 use Rattle.cg_surface.specs.declared.written.STyForm.{the_lemmas}
 use Rattle.cg_surface.specs.Written.{Written, and_type, WrittenFields, OneField, and_field, WrittenAlts, OneAlt, and_one, written_of, field_of, alt_of, to_types, to_fields, to_alts, types_push, fields_push, alts_push, types_none, fields_none, alts_none}
 use Rattle.cg_desugar.specs.Mentions.{type_mentions, types_mentions, fields_mentions, alts_mentions}
-use Rattle.cg_names.proofs.Views.{type_field_is}
+use Rattle.cg_surface.proofs.Views.{type_field_is}
 use Rattle.cg_mentions.specs.Parts.{payload_mentions}
 use Rattle.cg_mentions.specs.Positions.{pushed}
 use Rattle.cg_mentions.proofs.Pushed.{turn, pushed_steps}

@@ -29,47 +29,110 @@ pub fn push_expr<'a>(
 {
     match &expr.form {
         SForm::Name(name, _) => push_mention(signatures, scope, targets, name.bytes()),
-        SForm::Number(_) => Ok(()),
-        SForm::Bool(_) => Ok(()),
-        SForm::Unit => Ok(()),
-        SForm::Paren(inner) => push_expr(signatures, scope, targets, inner),
+        SForm::Number(_) | SForm::Bool(_) | SForm::Unit | SForm::Con(_, None) => Ok(()),
+        SForm::Paren(inner) | SForm::Upcast(inner) => push_expr(signatures, scope, targets, inner),
         SForm::Sig(inner, _) => push_expr(signatures, scope, targets, inner),
         SForm::Tuple(parts) => push_exprs(signatures, scope, targets, parts.as_slice()),
         SForm::Fields(fields) => push_values(signatures, scope, targets, fields.as_slice()),
-        SForm::Con(_, None) => Ok(()),
         SForm::Con(_, Some(payload)) => push_expr(signatures, scope, targets, payload),
-        SForm::App(fun, arg) => {
-            push_expr(signatures, scope, targets, fun)?;
-            push_expr(signatures, scope, targets, arg)
+        SForm::App(fun, arg) => push_two(signatures, scope, targets, fun, arg),
+        SForm::Binary(_, left, right) => push_two(signatures, scope, targets, left, right),
+        SForm::Member(inner, _) | SForm::Unary(_, inner) => {
+            push_expr(signatures, scope, targets, inner)
         }
-        SForm::Member(record, _) => push_expr(signatures, scope, targets, record),
-        SForm::Put(record, fields) => {
-            push_expr(signatures, scope, targets, record)?;
-            push_values(signatures, scope, targets, fields.as_slice())
+        SForm::Put(inner, fields) => {
+            push_put(signatures, scope, targets, inner, fields.as_slice())
         }
-        SForm::Unary(_, operand) => push_expr(signatures, scope, targets, operand),
-        SForm::Upcast(operand) => push_expr(signatures, scope, targets, operand),
-        SForm::Binary(_, left, right) => {
-            push_expr(signatures, scope, targets, left)?;
-            push_expr(signatures, scope, targets, right)
-        }
-        SForm::Let(binds, body) => {
-            let kept = scope.len();
-            push_binds(signatures, scope, targets, binds.as_slice())?;
-            push_expr(signatures, scope, targets, body)?;
-            scope.leave(kept);
-            Ok(())
-        }
-        SForm::If(condition, _, yes, no) => {
-            push_expr(signatures, scope, targets, condition)?;
-            push_expr(signatures, scope, targets, yes)?;
-            push_expr(signatures, scope, targets, no)
-        }
+        SForm::Let(binds, body) => push_let(signatures, scope, targets, binds.as_slice(), body),
+        SForm::If(condition, _, yes, no) => push_if(signatures, scope, targets, condition, yes, no),
         SForm::Match(subject, _, choices) => {
-            push_expr(signatures, scope, targets, subject)?;
-            push_choices(signatures, scope, targets, choices.as_slice())
+            push_match(signatures, scope, targets, subject, choices.as_slice())
         }
     }
+}
+
+// The same of two expressions, from left to right.
+#[cycle(push_expr)]
+fn push_two<'a>(
+    signatures: &Positions<'_>,
+    scope: &mut Scope<'a>,
+    targets: &mut Vec<u32>,
+    first: &'a SExpr,
+    second: &'a SExpr,
+) -> Result<(), Memory>
+    ensures targets { OnOk result (targets.new.items ≡ pushed signatures.now targets.old.items (expr_mentions scope.old (expr_of first.now) ++ expr_mentions scope.old (expr_of second.now))) }
+    ensures scope { OnOk result (scope.new ≡ scope.old) }
+{
+    push_expr(signatures, scope, targets, first)?;
+    push_expr(signatures, scope, targets, second)
+}
+
+// The same of a record and the fields that are put into it.
+#[cycle(push_expr)]
+fn push_put<'a>(
+    signatures: &Positions<'_>,
+    scope: &mut Scope<'a>,
+    targets: &mut Vec<u32>,
+    expr: &'a SExpr,
+    fields: &'a [FExpr],
+) -> Result<(), Memory>
+    ensures targets { OnOk result (targets.new.items ≡ pushed signatures.now targets.old.items (expr_mentions scope.old (expr_of expr.now) ++ values_mentions scope.old (to_fields (map field_of fields.now)))) }
+    ensures scope { OnOk result (scope.new ≡ scope.old) }
+{
+    push_expr(signatures, scope, targets, expr)?;
+    push_values(signatures, scope, targets, fields)
+}
+
+// The same of bindings, and of their body among their variables.
+#[cycle(push_expr)]
+fn push_let<'a>(
+    signatures: &Positions<'_>,
+    scope: &mut Scope<'a>,
+    targets: &mut Vec<u32>,
+    binds: &'a [Bind],
+    body: &'a SExpr,
+) -> Result<(), Memory>
+    ensures targets { OnOk result (targets.new.items ≡ pushed signatures.now targets.old.items (binds_mentions scope.old (to_binds (map bind_of binds.now)) ++ expr_mentions (all_bound (to_binds (map bind_of binds.now)) ++ scope.old) (expr_of body.now))) }
+    ensures scope { OnOk result (scope.new ≡ scope.old) }
+{
+    let kept = scope.len();
+    push_binds(signatures, scope, targets, binds)?;
+    push_expr(signatures, scope, targets, body)?;
+    scope.leave(kept);
+    Ok(())
+}
+
+// The same of an `if`.
+#[cycle(push_expr)]
+fn push_if<'a>(
+    signatures: &Positions<'_>,
+    scope: &mut Scope<'a>,
+    targets: &mut Vec<u32>,
+    condition: &'a SExpr,
+    yes: &'a SExpr,
+    no: &'a SExpr,
+) -> Result<(), Memory>
+    ensures targets { OnOk result (targets.new.items ≡ pushed signatures.now targets.old.items (expr_mentions scope.old (expr_of condition.now) ++ expr_mentions scope.old (expr_of yes.now) ++ expr_mentions scope.old (expr_of no.now))) }
+    ensures scope { OnOk result (scope.new ≡ scope.old) }
+{
+    push_two(signatures, scope, targets, condition, yes)?;
+    push_expr(signatures, scope, targets, no)
+}
+
+// The same of a match.
+#[cycle(push_expr)]
+fn push_match<'a>(
+    signatures: &Positions<'_>,
+    scope: &mut Scope<'a>,
+    targets: &mut Vec<u32>,
+    subject: &'a SExpr,
+    choices: &'a [Alt],
+) -> Result<(), Memory>
+    ensures targets { OnOk result (targets.new.items ≡ pushed signatures.now targets.old.items (expr_mentions scope.old (expr_of subject.now) ++ match_mentions scope.old (to_alts (map alt_of choices.now)))) }
+    ensures scope { OnOk result (scope.new ≡ scope.old) }
+{
+    push_expr(signatures, scope, targets, subject)?;
+    push_choices(signatures, scope, targets, choices)
 }
 
 // The same of a name: a variable hides a function.

@@ -13,7 +13,7 @@ use Rattle.cg_surface.specs.declared.expr.SExpr.{SExpr}
 use Rattle.cg_surface.specs.declared.expr.SForm.{the_lemmas}
 use Rattle.cg_surface.specs.declared.written.STy.{STy}
 use Rattle.cg_surface.specs.Exprs as exprs
-use Rattle.cg_surface.specs.Exprs.{Expr, Exprs, no_exprs, and_expr, FieldExprs, no_fields, and_field, OneField, Binds, no_binds, and_bind, OneBind, Alts, no_alts, and_alt, OneAlt, expr_of, field_of, bind_of, alt_of, to_exprs, to_fields, to_binds, to_alts, exprs_push, fields_push, binds_push, alts_push}
+use Rattle.cg_surface.specs.Exprs.{Expr, Exprs, and_expr, FieldExprs, and_field, OneField, Binds, and_bind, OneBind, Alts, and_alt, OneAlt, expr_of, field_of, bind_of, alt_of, to_exprs, to_fields, to_binds, to_alts, exprs_push, fields_push, binds_push, alts_push, binds_none}
 use Rattle.cg_surface.specs.Patterns.{pattern_of}
 use Rattle.cg_surface.specs.Programs.{Entry}
 use Rattle.cg_surface.specs.Written.{written_of, to_types}
@@ -29,23 +29,7 @@ use Rattle.cg_names.proofs.Same.{expr_same, seen_same, more_behind}
 use Rattle.cg_names.proofs.SaysSteps.{says_first}
 use Rattle.cg_names.proofs.ScopeSteps.{kept_more}
 use Rattle.cg_names.proofs.TypeSteps.{count, again_same, same_more}
-use Rattle.cg_names.proofs.Views.{value_is, alternative_is}
-
-pub exprs_none : to_exprs [] ≡ no_exprs
-unfolding to_exprs
-exprs_none = refl
-
-pub values_none : to_fields [] ≡ no_fields
-unfolding to_fields
-values_none = refl
-
-pub binds_none : to_binds [] ≡ no_binds
-unfolding to_binds
-binds_none = refl
-
-pub choices_none : to_alts [] ≡ no_alts
-unfolding to_alts
-choices_none = refl
+use Rattle.cg_surface.proofs.Views.{value_is, alternative_is, exprs_none, values_none, choices_none}
 
 abbrev one_value : FieldExprs → OneField → FieldExprs
 one_value fs f = and_field fs f.at f.value

@@ -9,8 +9,9 @@ use Rattle.cg_surface.specs.declared.program.Item.{Item}
 use Rattle.cg_surface.specs.Exprs.{Expr}
 use Rattle.cg_surface.specs.Patterns.{Pattern}
 use Rattle.cg_surface.specs.Programs.{Entry, entry_of}
+use Rattle.cg_surface.specs.Written.{Written}
 use Rattle.cg_desugar.specs.Declared.{is_among}
-use Rattle.cg_desugar.specs.Faults.{NameFault, again, twins, names_of, ats_of, var_names, bound, pattern_faults, expr_faults, Before, declared_with, entry_faults, faults_from}
+use Rattle.cg_desugar.specs.Faults.{NameFault, again, twins, names_of, ats_of, var_names, bound, pattern_faults, type_faults, expr_faults, Before, declared_with, entry_faults, faults_from}
 use Rattle.cg_declared.specs.Views.{entries_in}
 use Rattle.cg_declared.proofs.Firsts.{entries_more}
 use Rattle.cg_names.specs.Behind.{declared_before}
@@ -18,7 +19,7 @@ use Rattle.cg_names.specs.Says.{Says, IsFirstFault}
 use Rattle.cg_names.specs.Scopes.{SameNames}
 use Rattle.cg_names.specs.declared.fault.NamingFault.{NamingFault}
 use Rattle.cg_names.proofs.PatternSteps.{twins_append}
-use Rattle.cg_names.proofs.Same.{expr_same}
+use Rattle.cg_names.proofs.Same.{expr_same, type_same}
 use Rattle.cg_names.proofs.SaysSteps.{says_first, says_second}
 use Rattle.cg_names.proofs.ScopeSteps.{entered}
 use Rattle.cg_names.proofs.TypeSteps.{again_same, same_more}
@@ -142,6 +143,12 @@ pub definition_says : (entries : List Entry) (vars others scope : List (List ℕ
 definition_says entries vars others scope x e result none is same says =
     says_second (pattern_faults x) (expr_faults entries others (bound x) e) result none
     (subst (λ l. Says l result) (ap (λ l. expr_faults entries vars l e) is ∙ expr_same entries vars others same (bound x) (bound x) (λ n. refl) e) says)
+
+-- the type of a signature, among type variables of the same names
+pub signature_says : (entries : List Entry) (vars others : List (List ℕ)) (front : List NameFault) (t : Written) (result : Result Unit NamingFault) → front ≡ [] → SameNames vars others
+    → Says (type_faults entries vars t) result → Says (front ++ type_faults entries others t) result
+signature_says entries vars others front t result none same says =
+    says_second front (type_faults entries others t) result none (subst (λ l. Says l result) (type_same entries vars others same t) says)
 
 -- ---- the loop over items
 

@@ -6,4 +6,3 @@ pub mod Same
 pub mod SaysSteps
 pub mod ScopeSteps
 pub mod TypeSteps
-pub mod Views

@@ -17,7 +17,7 @@ use Rattle.cg_names.specs.Scopes.{SameNames}
 use Rattle.cg_names.specs.declared.fault.NamingFault.{NamingFault}
 use Rattle.cg_names.proofs.Loops.{turn, fault, so_far}
 use Rattle.cg_names.proofs.Same.{twins_same}
-use Rattle.cg_names.proofs.Views.{pattern_field_is}
+use Rattle.cg_surface.proofs.Views.{pattern_field_is}
 use Rattle.cg_names.proofs.SaysSteps.{says_second}
 use Rattle.cg_names.proofs.ScopeSteps.{among_one}
 

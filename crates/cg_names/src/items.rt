@@ -4,10 +4,11 @@
 ghost use Rattle.std.specs.Prelude.{◌≡◌, ◌++◌, ◌∷◌, [], ℕ, List, map, OnOk, IfOk};
 ghost use Rattle.cg_surface.specs.Programs.{entry_of};
 ghost use Rattle.cg_desugar.specs.Declared.{function_named};
-ghost use Rattle.cg_desugar.specs.Faults.{Before, declared_with, beforehand, again, twins, names_of, ats_of, var_names, vars_named, unsigned, entry_faults, faults_from, program_faults};
+ghost use Rattle.cg_desugar.specs.Faults.{Before, declared_with, beforehand, again, twins, names_of, ats_of, var_names, vars_named, unsigned, type_faults, entry_faults, faults_from, program_faults};
 ghost use Rattle.cg_declared.specs.Declarations.{entries_of, IsIndexed};
 ghost use Rattle.cg_surface.specs.Exprs.{expr_of};
 ghost use Rattle.cg_surface.specs.Patterns.{pattern_of};
+ghost use Rattle.cg_surface.specs.Written.{written_of};
 ghost use Rattle.cg_names.specs.Behind.{IsBehind, definition_faults};
 ghost use Rattle.cg_names.specs.Says.{Says};
 ghost use Rattle.cg_names.specs.Scopes.{SameNames};
@@ -93,8 +94,7 @@ fn check_item<'a>(
     match item {
         Item::Synonym { at, params, body } => {
             enter_new(&mut behind.types, at.place, at.name.bytes())?;
-            let vars = params_scope(alloc, params.as_slice())?;
-            check_type(alloc, declared, &vars, body)
+            check_synonym(alloc, declared, params.as_slice(), body)
         }
         Item::Abstract { at, params } => {
             enter_new(&mut behind.types, at.place, at.name.bytes())?;
@@ -108,9 +108,7 @@ fn check_item<'a>(
             ty,
         } => {
             enter_new(&mut behind.signatures, at.place, at.name.bytes())?;
-            check_apart(alloc, vars.as_slice(), places.as_slice())?;
-            let vars = vars_scope(alloc, vars.as_slice())?;
-            check_type(alloc, declared, &vars, ty)
+            check_signature(alloc, declared, vars.as_slice(), places.as_slice(), ty)
         }
         Item::Define { at, param, body } => {
             check_signed(declared, at)?;
@@ -118,6 +116,36 @@ fn check_item<'a>(
             check_definition(alloc, declared, at, param, body)
         }
     }
+}
+
+// The first fault of names in the parameters and the body of a synonym.
+fn check_synonym(
+    alloc: Global,
+    declared: &Declarations<'_>,
+    params: &[At],
+    body: &STy,
+) -> Result<(), NamingFault>
+    requires { IsIndexed declared.now }
+    ensures { Says (twins [] params.now ++ type_faults (entries_of declared.now) (names_of params.now) (written_of body.now)) result }
+{
+    let vars = params_scope(alloc, params)?;
+    check_type(alloc, declared, &vars, body)
+}
+
+// The first fault of names in the type variables and the type of a signature.
+fn check_signature(
+    alloc: Global,
+    declared: &Declarations<'_>,
+    vars: &[Bound],
+    places: &[Place],
+    ty: &STy,
+) -> Result<(), NamingFault>
+    requires { IsIndexed declared.now }
+    ensures { Says (twins [] (ats_of vars.now places.now) ++ type_faults (entries_of declared.now) (var_names vars.now) (written_of ty.now)) result }
+{
+    check_apart(alloc, vars, places)?;
+    let vars = vars_scope(alloc, vars)?;
+    check_type(alloc, declared, &vars, ty)
 }
 
 // The fault of a definition without a signature.

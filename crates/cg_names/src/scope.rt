@@ -13,10 +13,17 @@ use std::collections::BTreeSet;
 use std::marker::Model;
 
 /// The names that are in scope, each once, in the order in which they came into it.
-#[derive(Drop)]
 pub struct Scope<'a> {
     names: Names<'a>,
     entered: Vec<&'a [u8]>,
+}
+
+impl<'a> Drop for Scope<'a> {
+    fn drop(self) {
+        let Scope { names, entered } = self;
+        drop(names);
+        drop(entered);
+    }
 }
 
 impl<'a> Model for Scope<'a> {

@@ -18,7 +18,8 @@ use Rattle.cg_parse_exprs.specs.Grammar.{looseness, OnlyLast, Binds, ExprsBind, 
 use Rattle.cg_parse_exprs.specs.Grammar as grammar
 use Rattle.cg_parse_exprs.specs.Machine as machine
 use Rattle.cg_parse_exprs.specs.Machine.{Owner, Record, Put, Operation, Upcast, Open, InParen, InTuple, InField, Argument, Payload, Operand, RightOf, Bound, Body, Condition, Then, Else, Branch, Want, Have, AfterLower, AfterUpper, InSig, AfterDot, WantField, AfterField, InPattern, WantAlt}
-use Rattle.cg_parse_exprs.specs.Plain.{trees, plain_reader}
+use Rattle.cg_build_exprs.specs.Plain.{trees}
+use Rattle.cg_parse_exprs.specs.Plain.{plain_reader}
 use Rattle.cg_parse_exprs.proofs.CompleteSteps.{level_high, level_low, left_high, loose_le, stands, anywhere, first}
 use Rattle.cg_parse_exprs.proofs.CompleteModes as modes
 use Rattle.cg_parse_exprs.proofs.CompleteModes.{Frame, ends_whole, go, behind_have, behind_lower, behind_upper, through, through_call, through_branch, reached, ended, called, as_wanted, upper_starts, op_read, seen_ends, bar_opens, bar_joins, listed_opens, listed_closes, listed_hole, listed_comma}

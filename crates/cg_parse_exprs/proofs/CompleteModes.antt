@@ -17,7 +17,8 @@ use Rattle.cg_parse_exprs.specs.Bars.{Choice, New, Joins, bar_choice}
 use Rattle.cg_parse_exprs.specs.Grammar.{level, left_of, looseness, Heads, Stands, op_sign}
 use Rattle.cg_parse_exprs.specs.Machine as machine
 use Rattle.cg_parse_exprs.specs.Machine.{Put, Open, InParen, InTuple, InField, Argument, Payload, Operand, RightOf, Bound, Body, Condition, Then, Else, Branch, Angle, ToLeft, ToRight, Mode, Want, Have, AfterLower, AfterUpper, AfterDot, WantField, AfterAngle, Observed, WantAlt, Stuck, starts_atom, operator, is_second}
-use Rattle.cg_parse_exprs.specs.Plain.{trees, plain_reader}
+use Rattle.cg_build_exprs.specs.Plain.{trees}
+use Rattle.cg_parse_exprs.specs.Plain.{plain_reader}
 use Rattle.cg_parse_exprs.proofs.CompleteSteps.{level_high, level_low, left_high, loose_le, First, first}
 
 -- a frame over whole trees

@@ -15,7 +15,7 @@ use Rattle.cg_parse_exprs.specs.Asked.{Asked}
 use Rattle.cg_parse_exprs.specs.Grammar as grammar
 use Rattle.cg_parse_exprs.specs.Machine as machine
 use Rattle.cg_parse_exprs.specs.Machine.{Open, Bound, Branch, Want, Have, AfterLower, InArgs, InSig, InPattern, AfterBang, Observed, WantAlt, AfterCon, InAltPattern, WantArrow}
-use Rattle.cg_parse_exprs.specs.Plain.{trees}
+use Rattle.cg_build_exprs.specs.Plain.{trees}
 use Rattle.cg_parse_exprs.proofs.CompleteSteps.{opened}
 use Rattle.cg_parse_exprs.proofs.CompleteModes as modes
 use Rattle.cg_parse_exprs.proofs.CompleteModes.{Frame, seen_at, go}

@@ -16,7 +16,7 @@ use Rattle.cg_parse_exprs.specs.Bars.{Choice, New, inside_of, at_column, bar_cho
 use Rattle.cg_parse_exprs.specs.Grammar.{level}
 use Rattle.cg_parse_exprs.specs.Machine as machine
 use Rattle.cg_parse_exprs.specs.Machine.{Owner, Open, InParen, InTuple, InField, Argument, Payload, Operand, RightOf, Bound, Body, Condition, Then, Else, Branch, Angle, ToLeft, ToRight, Want, Have, AfterLower, AfterUpper, AfterDot, WantField, AfterField, AfterAngle, AfterBang, Observed, WantAlt, AfterCon, WantArrow}
-use Rattle.cg_parse_exprs.specs.Plain.{trees}
+use Rattle.cg_build_exprs.specs.Plain.{trees}
 use Rattle.cg_parse_exprs.proofs.Reached as reached
 use Rattle.cg_parse_exprs.proofs.Reached.{Frame}
 

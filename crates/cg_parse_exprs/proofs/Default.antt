@@ -8,7 +8,7 @@ use Rattle.cg_symbols.specs.Views.{symbol_view}
 use Rattle.cg_symbols.specs.declared.symbol.Symbol.{Symbol}
 use Rattle.cg_symbols.specs.declared.symbol.Symbol.TheVariants.{Dot, Brace, Bracket}
 use Rattle.cg_parse_exprs.specs.Machine as machine
-use Rattle.cg_parse_exprs.specs.Bounded.{bounded}
+use Rattle.cg_build_exprs.specs.Bounded.{bounded}
 use Rattle.cg_parse_exprs.specs.Stack.{Held, Within, types, patterns}
 use Rattle.cg_parse_exprs.specs.Walk.{behind}
 use Rattle.cg_parse_exprs.specs.declared.frame.Mode.{Mode}

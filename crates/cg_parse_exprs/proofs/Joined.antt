@@ -5,7 +5,7 @@ use Rattle.std.proofs.lemmas.Bool.{le-leb, lt-leb, false≢true}
 use Rattle.cg_surface.specs.Exprs.{Expr}
 use Rattle.cg_parse_exprs.specs.Machine as machine
 use Rattle.cg_parse_exprs.specs.Machine.{Branch}
-use Rattle.cg_parse_exprs.specs.Bounded.{bounded}
+use Rattle.cg_build_exprs.specs.Bounded.{bounded}
 use Rattle.cg_parse_exprs.specs.Stack.{Held, Within, Types, Patterns, types, patterns, mode_of}
 use Rattle.cg_parse_exprs.specs.Walk.{is_match, next_at}
 use Rattle.cg_parse_exprs.specs.declared.frame.Mode.{Mode}

@@ -1,10 +1,10 @@
-pub mod Added
 pub mod Complete
 pub mod CompleteModes
 pub mod CompleteParts
 pub mod CompleteSteps
 pub mod Completed
 pub mod Default
+pub mod Exactly
 pub mod Follow
 pub mod Joined
 pub mod Laws

@@ -14,7 +14,7 @@ use Rattle.cg_parse_exprs.specs.Bars.{Choice, New, Joins, Wrong, bar_choice}
 use Rattle.cg_parse_exprs.specs.Machine as machine
 use Rattle.cg_parse_exprs.specs.Machine.{Owner, Prefix, Operation, Upcast, Open, InParen, InTuple, InField, Argument, Payload, Operand, RightOf, Bound, Body, Condition, Then, Else, Branch, Angle, Want, Have, AfterLower, AfterUpper, InArgs, InSig, AfterDot, WantField, AfterField, InPattern, AfterAngle, AfterBang, Observed, WantAlt, AfterCon, InAltPattern, WantArrow, Stuck, WrongBar, starts_atom, operator, alone_op, shift_op, is_second}
 use Rattle.cg_parse_exprs.specs.Plain as plain
-use Rattle.cg_parse_exprs.specs.Plain.{trees}
+use Rattle.cg_build_exprs.specs.Plain.{trees}
 
 -- what is open in an expression
 abbrev pub Frame : Type 0

@@ -16,7 +16,8 @@ use Rattle.cg_parse_exprs.specs.Asked.{Asked}
 use Rattle.cg_parse_exprs.specs.Grammar.{left_of, looseness, Heads, SpellsExpr}
 use Rattle.cg_parse_exprs.specs.Machine as machine
 use Rattle.cg_parse_exprs.specs.Machine.{Owner, Argument, Payload, Angle, Want, Have, AfterLower, AfterUpper, InArgs, InSig, AfterDot, WantField, AfterField, InPattern, AfterAngle, AfterBang, Observed, WantAlt, AfterCon, InAltPattern, WantArrow, Stuck, WrongBar, name_at, starts_atom, operator, alone_op, shift_op, is_second}
-use Rattle.cg_parse_exprs.specs.Plain.{trees, plain_reader}
+use Rattle.cg_build_exprs.specs.Plain.{trees}
+use Rattle.cg_parse_exprs.specs.Plain.{plain_reader}
 use Rattle.cg_parse_exprs.specs.Unfinished as unfinished
 use Rattle.cg_parse_exprs.specs.Unfinished.{Frame, Open}
 use Rattle.cg_parse_exprs.proofs.Parts.{nothing_read, read_more, part_read}

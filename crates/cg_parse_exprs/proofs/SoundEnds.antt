@@ -17,7 +17,7 @@ use Rattle.cg_parse_exprs.specs.Bars.{Choice, New, Joins, Wrong, bar_choice}
 use Rattle.cg_parse_exprs.specs.Grammar.{level, left_of, looseness, Stands, op_sign, Binds, FieldsBind, ReadsFields}
 use Rattle.cg_parse_exprs.specs.Machine as machine
 use Rattle.cg_parse_exprs.specs.Machine.{Owner, Record, Put, Prefix, Operation, Upcast, InParen, InTuple, InField, Argument, Payload, Operand, RightOf, Bound, Body, Condition, Then, Else, Branch, Want, Have, AfterUpper, InPattern, WantAlt, Stuck, WrongBar, operator}
-use Rattle.cg_parse_exprs.specs.Plain.{trees}
+use Rattle.cg_build_exprs.specs.Plain.{trees}
 use Rattle.cg_parse_exprs.specs.Unfinished as unfinished
 use Rattle.cg_parse_exprs.specs.Unfinished.{Frame, Open, OwnerFits}
 use Rattle.cg_parse_exprs.proofs.Parts.{nothing_read}

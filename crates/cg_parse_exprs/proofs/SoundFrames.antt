@@ -14,7 +14,7 @@ use Rattle.cg_symbols.specs.Readings.{Reading, ◌then◌, token, sign}
 use Rattle.cg_parse_exprs.specs.Grammar.{looseness, Heads, ReadsHead, ReadsAlts}
 use Rattle.cg_parse_exprs.specs.Machine as machine
 use Rattle.cg_parse_exprs.specs.Machine.{Operation, Upcast, InParen, InTuple, InField, Argument, Payload, Operand, RightOf, Bound, Body, Condition, Then, Else, Branch}
-use Rattle.cg_parse_exprs.specs.Plain.{trees}
+use Rattle.cg_build_exprs.specs.Plain.{trees}
 use Rattle.cg_parse_exprs.specs.Unfinished as unfinished
 use Rattle.cg_parse_exprs.specs.Unfinished.{Frame, AtomFits, Fits}
 use Rattle.cg_parse_exprs.proofs.SoundStates as states

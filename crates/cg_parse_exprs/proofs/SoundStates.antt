@@ -13,7 +13,7 @@ use Rattle.cg_parse_exprs.specs.Grammar.{looseness, Stands, op_sign, Binds, Fiel
 use Rattle.cg_parse_exprs.specs.Machine as machine
 use Rattle.cg_parse_exprs.specs.Machine.{Owner, Want, Have, AfterLower, AfterUpper, InArgs, InSig, AfterDot, WantField, AfterField, InPattern, AfterAngle, AfterBang, Observed, WantAlt, AfterCon, InAltPattern, WantArrow, Stuck, WrongBar, alone_op}
 use Rattle.cg_parse_exprs.specs.Plain as plain
-use Rattle.cg_parse_exprs.specs.Plain.{trees}
+use Rattle.cg_build_exprs.specs.Plain.{trees}
 use Rattle.cg_parse_exprs.specs.Unfinished as unfinished
 use Rattle.cg_parse_exprs.specs.Unfinished.{Frame, Open, AtomFits, OwnerFits, OpenFits}
 use Rattle.cg_parse_exprs.proofs.Parts.{HasRead}

@@ -11,7 +11,8 @@ use Rattle.cg_symbols.specs.Readings.{ArePast}
 use Rattle.cg_parse_exprs.specs.Asked.{Asked, Ends}
 use Rattle.cg_parse_exprs.specs.Machine as machine
 use Rattle.cg_parse_exprs.specs.Machine.{Open, Bound, Branch, Want, Have, AfterLower, AfterUpper, InArgs, InSig, AfterDot, WantField, AfterField, InPattern, AfterAngle, AfterBang, Observed, WantAlt, AfterCon, InAltPattern, WantArrow, Stuck, WrongBar}
-use Rattle.cg_parse_exprs.specs.Plain.{trees, plain_reader}
+use Rattle.cg_build_exprs.specs.Plain.{trees}
+use Rattle.cg_parse_exprs.specs.Plain.{plain_reader}
 use Rattle.cg_parse_exprs.proofs.Reached as reached
 use Rattle.cg_parse_exprs.proofs.Reached.{Frame, Came}
 use Rattle.cg_parse_exprs.proofs.Completed as completed

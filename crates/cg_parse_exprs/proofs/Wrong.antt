@@ -14,7 +14,7 @@ use Rattle.cg_parse_exprs.specs.Bars.{Wrong, bar_choice}
 use Rattle.cg_parse_exprs.specs.Grammar.{level}
 use Rattle.cg_parse_exprs.specs.Machine as machine
 use Rattle.cg_parse_exprs.specs.Machine.{Argument, Payload, Operand, RightOf, ToLeft, Want, Have, AfterLower, AfterUpper, AfterAngle, Observed, WrongBar}
-use Rattle.cg_parse_exprs.specs.Plain.{trees}
+use Rattle.cg_build_exprs.specs.Plain.{trees}
 use Rattle.cg_parse_exprs.specs.Unfinished as unfinished
 use Rattle.cg_parse_exprs.specs.Unfinished.{Frame}
 use Rattle.cg_parse_exprs.proofs.CompleteSteps.{level_high, first}

@@ -15,7 +15,7 @@ use Rattle.cg_parse_exprs.specs.Bars.{Choice, New, Joins, Wrong, bar_choice}
 use Rattle.cg_parse_exprs.specs.Grammar.{level, left_of}
 use Rattle.cg_parse_exprs.specs.Machine as machine
 use Rattle.cg_parse_exprs.specs.Machine.{Owner, Prefix, Operation, Upcast, Angle, InParen, InTuple, InField, Argument, Payload, Operand, RightOf, Bound, Condition, Then, Branch, Want, Have, AfterLower, AfterUpper, InArgs, InSig, AfterDot, WantField, AfterField, InPattern, AfterAngle, AfterBang, Observed, WantAlt, AfterCon, InAltPattern, WantArrow, Stuck, WrongBar, starts_atom, operator, alone_op, shift_op, is_second}
-use Rattle.cg_parse_exprs.specs.Plain.{trees}
+use Rattle.cg_build_exprs.specs.Plain.{trees}
 use Rattle.cg_parse_exprs.specs.Unfinished.{Frame, Open}
 use Rattle.cg_parse_exprs.proofs.SoundFacts.{choose}
 use Rattle.cg_parse_exprs.proofs.CompleteModes as modes

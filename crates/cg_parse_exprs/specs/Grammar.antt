@@ -11,6 +11,7 @@ use Rattle.cg_surface.specs.Exprs.{Expr, name, number, bool, unit, paren, sig, t
 use Rattle.cg_symbols.specs.Symbols.{Symbol, Seen}
 use Rattle.cg_symbols.specs.Symbols as symbols
 use Rattle.cg_symbols.specs.Readings.{Reading, ◌then◌, token, sign, IsSpelled}
+use Rattle.cg_build_exprs.specs.Plain.{first_place}
 use Rattle.cg_parse_exprs.specs.Bars.{New, Joins, bar_choice}
 
 -- how loosely an operator binds: 3 the tightest, 11 the loosest
@@ -81,11 +82,6 @@ Stands (app p f a) = Heads f
 Stands (member p a at) = Heads a
 Stands (put p a fs) = Heads a
 Stands e = ⊤
-
--- the place of the first token
-abbrev pub first_place : Expr → Place
-first_place (binary p o a b) = first_place a
-first_place e = place_of e
 
 -- the sign of an operator with two operands; a shift's second sign is joined to the first
 abbrev pub op_sign : Op → Place → Reading

@@ -2,10 +2,10 @@ pub mod Asked
 pub mod Bars
 pub mod Bounded
 pub mod Grammar
+pub mod Laws
 pub mod Machine
 pub mod Plain
 pub mod Stack
 pub mod State
 pub mod Unfinished
-pub mod Views
 pub mod Walk

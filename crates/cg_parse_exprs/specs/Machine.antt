@@ -7,43 +7,9 @@ use Rattle.cg_core.specs.declared.op.Op.{Op}
 use Rattle.cg_core.specs.declared.op.Op.TheVariants.{Add, Sub, Mul, Div, Rem, And, Or, Xor, Shl, Shr, Complement, Eq, Ne, Lt, Gt, Le, Ge, Both, Either, Not}
 use Rattle.cg_symbols.specs.Symbols.{Symbol, Seen}
 use Rattle.cg_symbols.specs.Symbols as symbols
+use Rattle.cg_build_exprs.specs.Builder.{Builder}
 use Rattle.cg_parse_exprs.specs.Bars.{Choice, New, Joins, Wrong, bar_choice}
 use Rattle.cg_parse_exprs.specs.Grammar.{level, left_of, right_of}
-
--- how expressions, lists of them, fields, bindings, alternatives and type arguments of some kind are built, over types and patterns
-pub record Builder (X L F B A Q T P : Type 0) : Type 0 where
-  pub no_args : Q
-  pub and_arg : Q → T → Q
-  pub name : Place → List ℕ → Q → X
-  pub number : Place → Option ℕ → X
-  pub bool : Place → Bool → X
-  pub unit : Place → X
-  pub paren : Place → X → X
-  pub sig : Place → X → T → X
-  pub no_exprs : L
-  pub and_expr : L → X → L
-  pub tuple : Place → L → X
-  pub no_fields : F
-  pub and_field : F → At → X → F
-  pub fields : Place → F → X
-  pub con : Place → List ℕ → X
-  pub con_of : Place → List ℕ → X → X
-  pub app : X → X → X
-  pub member : X → At → X
-  pub put : X → F → X
-  pub unary : Place → Op → X → X
-  pub upcast : Place → X → X
-  pub binary : Place → Op → X → X → X
-  pub no_binds : B
-  pub and_bind : B → P → X → List At → B
-  pub lets : Place → B → X → X
-  pub if_else : Place → X → List At → X → X → X
-  pub no_alts : A
-  pub and_alt : A → Place → Option (List ℕ) → P → X → A
-  pub match_of : X → List At → A → X
-  pub pattern_unit : Place → P
-  pub pattern_name : Place → List ℕ → P
-  pub pattern_any : Place → P
 
 -- what the fields in braces belong to: a record, or a put of an expression
 pub data Owner (X : Type 0) : Type 0 where

@@ -12,7 +12,7 @@ use Rattle.cg_parse_patterns.specs.Bounded as bounded_patterns
 use Rattle.cg_parse_patterns.specs.State as pattern_state
 use Rattle.cg_parse_exprs.specs.Bounded as bounded_exprs
 use Rattle.cg_parse_exprs.specs.Machine as machine
-use Rattle.cg_parse_exprs.specs.Views.{view_of, args_view, exprs_view, fields_view, binds_view, alts_view, pattern_view}
+use Rattle.cg_build_exprs.specs.Views.{view_of, args_view, exprs_view, fields_view, binds_view, alts_view, pattern_view}
 use Rattle.cg_parse_exprs.specs.declared.frame.Owner.{Owner}
 use Rattle.cg_parse_exprs.specs.declared.frame.Owner.TheVariants.{Record, Put}
 use Rattle.cg_parse_exprs.specs.declared.frame.Prefix.{Prefix}

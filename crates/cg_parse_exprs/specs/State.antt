@@ -3,7 +3,8 @@ use Rattle.std.specs.Prelude.{List, Bool, true, false, Option, Some, None}
 use Rattle.cg_base.specs.Reader.{Reader}
 use Rattle.cg_surface.specs.Exprs.{Expr, expr_of}
 use Rattle.cg_symbols.specs.Symbols.{Seen}
-use Rattle.cg_parse_exprs.specs.Bounded.{bounded, bounded_reader}
+use Rattle.cg_build_exprs.specs.Bounded.{bounded}
+use Rattle.cg_parse_exprs.specs.Bounded.{bounded_reader}
 use Rattle.cg_parse_exprs.specs.Machine as machine
 use Rattle.cg_parse_exprs.specs.Stack.{Held, Within, types, patterns, stack_of, stage_of}
 use Rattle.cg_parse_exprs.specs.declared.reader.ExprEnd.{ExprEnd}

@@ -4,7 +4,7 @@ use Rattle.cg_base.specs.declared.place.Place.{Place}
 use Rattle.cg_surface.specs.Exprs.{Expr}
 use Rattle.cg_symbols.specs.Symbols.{Symbol}
 use Rattle.cg_parse_exprs.specs.Bars as bars
-use Rattle.cg_parse_exprs.specs.Bounded.{bounded}
+use Rattle.cg_build_exprs.specs.Bounded.{bounded}
 use Rattle.cg_parse_exprs.specs.Machine as machine
 use Rattle.cg_parse_exprs.specs.Stack.{Held, Within, types, patterns}
 use Rattle.cg_parse_exprs.specs.declared.bars.Choice.{Choice}

@@ -1,13 +1,12 @@
 // Behind an expression.
 ghost use Rattle.std.specs.Prelude.{◌≡◌, List, [], IfOk, if◌then◌else◌};
 ghost use Rattle.cg_symbols.specs.Views.{symbol_view};
-ghost use Rattle.cg_parse_exprs.specs.Bounded.{bounded};
+ghost use Rattle.cg_build_exprs.specs.Bounded.{bounded};
 ghost use Rattle.cg_parse_exprs.specs.Machine as machine;
 ghost use Rattle.cg_parse_exprs.specs.Stack.{types, patterns, Types, Patterns, Within, angle_of, stack_of, mode_of, stage_of};
-ghost use Rattle.cg_parse_exprs.specs.Views.{view_of};
+ghost use Rattle.cg_build_exprs.specs.Views.{view_of};
 ghost use Rattle.cg_parse_exprs.specs.Walk.{behind};
 
-use crate::built::BuiltExpr;
 use crate::close::{close, room};
 use crate::ends::{on_and, on_end, on_in, on_then};
 use crate::frame::{Angle, Frame, Mode, Owner};
@@ -16,8 +15,8 @@ use crate::operators::{alone_op, is_second, left_of, level, operator, shift_op, 
 use crate::readers::Parts;
 use crate::stack::push;
 use crate::start::start;
-use crate::{build, lists};
 use cg_base::{Items, Memory, Name, Place};
+use cg_build_exprs::{BuiltExpr, build, lists};
 use cg_core::{At, Op};
 use cg_symbols::Symbol;
 use smallvec::SmallVec;

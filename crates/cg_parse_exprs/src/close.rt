@@ -1,16 +1,15 @@
 // Frames that are closed without a token of their own.
 ghost use Rattle.std.specs.Prelude.{◌≡◌, IfOk, OnOk};
-ghost use Rattle.cg_parse_exprs.specs.Bounded.{bounded};
+ghost use Rattle.cg_build_exprs.specs.Bounded.{bounded};
 ghost use Rattle.cg_parse_exprs.specs.Machine as machine;
 ghost use Rattle.cg_parse_exprs.specs.Stack.{types, patterns, frame_of, prefix_of, open_of, stack_of};
-ghost use Rattle.cg_parse_exprs.specs.Views.{view_of, alts_view, pattern_view};
+ghost use Rattle.cg_build_exprs.specs.Views.{view_of, alts_view, pattern_view};
 
-use crate::built::BuiltExpr;
 use crate::frame::{Frame, Open, Prefix};
 use crate::operators::{level, right_of};
 use crate::stack::{pop, push};
-use crate::{build, choices, lists};
 use cg_base::{Memory, Name, Place};
+use cg_build_exprs::{BuiltExpr, build, choices, lists};
 use cg_parse_patterns::BuiltPattern;
 use smallvec::SmallVec;
 use std::alloc::Global;

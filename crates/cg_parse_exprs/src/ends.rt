@@ -1,18 +1,17 @@
 // Behind an expression, at a symbol that ends it.
 ghost use Rattle.std.specs.Prelude.{◌≡◌, List, [], IfOk};
 ghost use Rattle.cg_symbols.specs.Views.{symbol_view};
-ghost use Rattle.cg_parse_exprs.specs.Bounded.{bounded};
+ghost use Rattle.cg_build_exprs.specs.Bounded.{bounded};
 ghost use Rattle.cg_parse_exprs.specs.Machine as machine;
 ghost use Rattle.cg_parse_exprs.specs.Stack.{types, patterns, Types, Patterns, owner_of, stack_of, mode_of, stage_of};
-ghost use Rattle.cg_parse_exprs.specs.Views.{view_of, fields_view};
+ghost use Rattle.cg_build_exprs.specs.Views.{view_of, fields_view};
 
-use crate::built::{BuiltExpr, BuiltFields};
 use crate::frame::{Frame, Mode, Owner};
 use crate::readers::Parts;
 use crate::stack::{pop, push};
 use crate::start::stuck;
-use crate::{build, lists};
 use cg_base::{Items, Memory};
+use cg_build_exprs::{BuiltExpr, BuiltFields, build, lists};
 use cg_core::At;
 use cg_symbols::Symbol;
 use smallvec::SmallVec;

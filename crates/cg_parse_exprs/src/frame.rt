@@ -1,6 +1,6 @@
 // What is open where an expression is read. What is too deep is none.
-use crate::built::{BuiltAlts, BuiltArgs, BuiltBinds, BuiltExpr, BuiltExprs, BuiltFields};
 use cg_base::{Items, Name, Place};
+use cg_build_exprs::{BuiltAlts, BuiltArgs, BuiltBinds, BuiltExpr, BuiltExprs, BuiltFields};
 use cg_core::{At, Op};
 use cg_parse_patterns::BuiltPattern;
 

@@ -1,19 +1,18 @@
 // At a bar behind an expression.
 ghost use Rattle.std.specs.Prelude.{◌≡◌, List, IfOk};
-ghost use Rattle.cg_parse_exprs.specs.Bounded.{bounded};
+ghost use Rattle.cg_build_exprs.specs.Bounded.{bounded};
 ghost use Rattle.cg_parse_exprs.specs.Machine as machine;
 ghost use Rattle.cg_parse_exprs.specs.Stack.{types, patterns, Types, Patterns, Within, frame_of, open_of, stack_of, mode_of};
-ghost use Rattle.cg_parse_exprs.specs.Views.{view_of, pattern_view};
+ghost use Rattle.cg_build_exprs.specs.Views.{view_of, pattern_view};
 ghost use Rattle.cg_parse_exprs.specs.Walk.{is_match, next_at};
 
 use crate::bars::{Choice, bar_choice};
-use crate::built::BuiltExpr;
 use crate::close::{close, closes, fill, room};
 use crate::frame::{Frame, Mode, Open};
-use crate::lists;
 use crate::stack::pop;
 use crate::start::stuck;
 use cg_base::{Items, Memory, Name, Place};
+use cg_build_exprs::{BuiltExpr, lists};
 use cg_core::At;
 use cg_parse_patterns::BuiltPattern;
 use smallvec::SmallVec;

@@ -3,20 +3,19 @@
 
 ghost use Rattle.std.specs.Prelude.{◌≡◌, List, IfOk, OnOk};
 ghost use Rattle.cg_symbols.specs.Views.{symbol_view};
-ghost use Rattle.cg_parse_exprs.specs.Bounded.{bounded};
+ghost use Rattle.cg_build_exprs.specs.Bounded.{bounded};
 ghost use Rattle.cg_parse_exprs.specs.Machine as machine;
 ghost use Rattle.cg_parse_exprs.specs.Stack.{types, patterns, Types, Patterns, Within, stack_of, mode_of, stage_of};
 ghost use Rattle.cg_parse_exprs.specs.State.{bounded_exprs, end_of, end_whole, reader_state, is_wrong_bar};
-ghost use Rattle.cg_parse_exprs.specs.Views.{view_of};
+ghost use Rattle.cg_build_exprs.specs.Views.{view_of};
 
-use crate::built::BuiltExpr;
 use crate::close::close;
 use crate::frame::{Frame, Mode};
 use crate::readers::Parts;
 use crate::stack::is_empty;
 use crate::step::mode_step;
-use crate::{build, lists};
 use cg_base::{Memory, Place};
+use cg_build_exprs::{BuiltExpr, build, lists};
 use cg_symbols::Symbol;
 use smallvec::SmallVec;
 use std::alloc::Global;
@@ -83,7 +82,10 @@ fn mode_end(alloc: Global, stack: &mut SmallVec<Frame, 16>, mode: Mode) -> Resul
             end_whole(alloc, stack, tree)
         }
         Mode::AfterUpper(place, name) => end_whole(alloc, stack, build::con(place, name)),
-        _ => Ok(ExprEnd::Unfinished),
+        mode => {
+            drop(mode);
+            Ok(ExprEnd::Unfinished)
+        }
     }
 }
 
@@ -103,8 +105,8 @@ impl ExprReader {
     pub fn begin(&mut self, alloc: Global)
         ensures { reader_state self.new ≡ bounded_exprs.begin }
     {
-        self.stack = SmallVec::new(alloc);
-        self.mode = Mode::Want;
+        drop(std::mem::replace(&mut self.stack, SmallVec::new(alloc)));
+        drop(std::mem::replace(&mut self.mode, Mode::Want));
     }
 
     /// One symbol more, at its place: docs/LANGUAGE.md, "Expressions" and "Bars". Want of memory is its one refusal; a symbol
@@ -118,7 +120,8 @@ impl ExprReader {
         ensures { OnOk result (reader_state self.new ≡ bounded_exprs.step (reader_state self.old) (record { symbol = symbol_view symbol.entry; place = place })) }
     {
         let mode = std::mem::replace(&mut self.mode, Mode::Stuck);
-        self.mode = mode_step(alloc, &mut self.stack, &mut self.parts, mode, symbol, place)?;
+        let next = mode_step(alloc, &mut self.stack, &mut self.parts, mode, symbol, place)?;
+        drop(std::mem::replace(&mut self.mode, next));
         Ok(())
     }
 

@@ -1,7 +1,7 @@
 // The stack of open frames.
 ghost use Rattle.std.specs.Prelude.{◌≡◌, [], ◌∷◌, Option, Some, None, OnOk, MatchOption, if◌then◌else◌};
 ghost use Rattle.cg_surface.specs.Exprs.{Expr};
-ghost use Rattle.cg_parse_exprs.specs.Bounded.{bounded};
+ghost use Rattle.cg_build_exprs.specs.Bounded.{bounded};
 ghost use Rattle.cg_parse_exprs.specs.Machine as machine;
 ghost use Rattle.cg_parse_exprs.specs.Stack.{types, patterns, frame_of, stack_of};
 

@@ -1,7 +1,7 @@
 // Where an expression begins.
 ghost use Rattle.std.specs.Prelude.{◌≡◌, List, IfOk};
 ghost use Rattle.cg_symbols.specs.Views.{symbol_view};
-ghost use Rattle.cg_parse_exprs.specs.Bounded.{bounded};
+ghost use Rattle.cg_build_exprs.specs.Bounded.{bounded};
 ghost use Rattle.cg_parse_exprs.specs.Machine as machine;
 ghost use Rattle.cg_parse_exprs.specs.Stack.{types, patterns, Types, Patterns, Within, prefix_of, stack_of, mode_of, stage_of};
 
@@ -9,8 +9,8 @@ use crate::close::room;
 use crate::frame::{Frame, Mode, Owner, Prefix};
 use crate::readers::Parts;
 use crate::stack::{pop, push};
-use crate::{build, lists};
 use cg_base::{Memory, Name, Place};
+use cg_build_exprs::{build, lists};
 use cg_core::Op;
 use cg_symbols::Symbol;
 use smallvec::SmallVec;

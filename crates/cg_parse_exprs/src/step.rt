@@ -1,21 +1,20 @@
 // One symbol more of an expression.
 ghost use Rattle.std.specs.Prelude.{◌≡◌, List, None, IfOk};
 ghost use Rattle.cg_symbols.specs.Views.{symbol_view};
-ghost use Rattle.cg_parse_exprs.specs.Bounded.{bounded};
+ghost use Rattle.cg_build_exprs.specs.Bounded.{bounded};
 ghost use Rattle.cg_parse_exprs.specs.Machine as machine;
 ghost use Rattle.cg_parse_exprs.specs.Stack.{types, patterns, Types, Patterns, Within, owner_of, open_of, types_at, patterns_at, stack_of, mode_of, stage_of};
-ghost use Rattle.cg_parse_exprs.specs.Views.{view_of, fields_view, pattern_view};
+ghost use Rattle.cg_build_exprs.specs.Views.{view_of, fields_view, pattern_view};
 
 use crate::behind::{after_angle, after_bang, after_lower, after_upper, have, observed};
-use crate::built::{BuiltExpr, BuiltFields};
 use crate::ends::owned;
 use crate::frame::{Frame, Mode, Open, Owner};
 use crate::inside::{in_alt_pattern, in_args, in_pattern, in_sig};
 use crate::readers::Parts;
 use crate::stack::push;
 use crate::start::start;
-use crate::{build, lists, patterns};
 use cg_base::{Memory, Name, Place};
+use cg_build_exprs::{BuiltExpr, BuiltFields, build, lists, patterns};
 use cg_core::At;
 use cg_parse_patterns::BuiltPattern;
 use cg_symbols::Symbol;

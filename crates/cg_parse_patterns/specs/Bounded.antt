@@ -1,15 +1,12 @@
 -- The machine over trees up to the depth of the language, past which there is none.
-use Rattle.std.specs.Prelude.{ℕ, Option, Some, None, nat_le, if◌then◌else◌}
+use Rattle.std.specs.Prelude.{Option, Some, None, nat_le, if◌then◌else◌}
 use Rattle.cg_base.specs.Reader.{Reader}
 use Rattle.cg_core.specs.declared.at.At.{At}
 use Rattle.cg_surface.specs.Patterns.{Pattern, name, any, unit, paren, tuple, fields, take, depth_of, Patterns, no_patterns, and_pattern, patterns_depth, FieldPatterns, no_fields, and_field, fields_depth}
+pub use Rattle.cg_surface.specs.Limits.{depth_limit}
 use Rattle.cg_symbols.specs.Symbols.{Seen}
 use Rattle.cg_parse_patterns.specs.Machine as machine
 use Rattle.cg_parse_patterns.specs.Machine.{Builder, Mode}
-
--- no pattern that is built has more depth
-abbrev pub depth_limit : ℕ
-depth_limit = 1024
 
 -- a pattern, where it is no deeper than allowed
 abbrev pub within : Pattern → Option Pattern

@@ -1,15 +1,15 @@
 -- The stack of the code as the machine's.
-use Rattle.std.specs.Prelude.{◌≡◌, List, [], ◌∷◌, ◌++◌, Bool, true, false, Option, refl}
+use Rattle.std.specs.Prelude.{List, map, Option}
 use Rattle.cg_surface.specs.Patterns.{Patterns, FieldPatterns}
 use Rattle.cg_parse_patterns.specs.Machine as machine
 use Rattle.cg_parse_patterns.specs.Bounded.{Held}
 use Rattle.cg_parse_patterns.specs.Views.{view_of, patterns_of, fields_of}
-use Rattle.cg_parse_patterns.specs.declared.frame.Opener.{Opener}
-use Rattle.cg_parse_patterns.specs.declared.frame.Opener.TheVariants.{Unboxed, Taken}
+use Rattle.cg_parse_patterns.specs.declared.opener.Opener.{Opener}
+use Rattle.cg_parse_patterns.specs.declared.opener.Opener.TheVariants.{Unboxed, Taken}
 use Rattle.cg_parse_patterns.specs.declared.frame.Frame.{Frame}
 use Rattle.cg_parse_patterns.specs.declared.frame.Frame.TheVariants.{InParen, InTuple, InField}
-use Rattle.cg_parse_patterns.specs.declared.frame.Mode.{Mode}
-use Rattle.cg_parse_patterns.specs.declared.frame.Mode.TheVariants.{Want, Have, Head, WantField, AfterField, Stuck}
+use Rattle.cg_parse_patterns.specs.declared.mode.Mode.{Mode}
+use Rattle.cg_parse_patterns.specs.declared.mode.Mode.TheVariants.{Want, Have, Head, WantField, AfterField, Stuck}
 
 -- a frame of the machine over bounded trees
 abbrev pub Open : Type 0
@@ -26,14 +26,9 @@ frame_of (InParen p) = machine.InParen p
 frame_of (InTuple p xs) = machine.InTuple p (patterns_of xs)
 frame_of (InField o done at) = machine.InField (opener_of o) (fields_of done) at
 
--- the last frame is the innermost
-abbrev pub stacked : List Open → List Frame → List Open
-stacked below [] = below
-stacked below (f ∷ fs) = stacked (frame_of f ∷ below) fs
-
--- the stack, the innermost first
-unfoldable pub stack_of : List Frame → List Open
-stack_of fs = stacked [] fs
+-- the frames of a stack, the innermost first
+abbrev pub stack_of : List Frame → List Open
+stack_of fs = map frame_of fs
 
 -- a mode, over a stack
 abbrev pub mode_of : Mode → List Open → Held
@@ -43,20 +38,3 @@ mode_of (Head p n) fs = machine.Head p n fs
 mode_of (WantField o done) fs = machine.WantField (opener_of o) (fields_of done) fs
 mode_of (AfterField o done at) fs = machine.AfterField (opener_of o) (fields_of done) at fs
 mode_of Stuck fs = machine.Stuck
-
-stacked_push : (fs : List Frame) (below : List Open) (f : Frame) → stacked below (fs ++ f ∷ []) ≡ frame_of f ∷ stacked below fs
-stacked_push [] below f = refl
-stacked_push (g ∷ fs) below f = stacked_push fs (frame_of g ∷ below) f
-
-pub stack_push : (fs : List Frame) (f : Frame) → stack_of (fs ++ f ∷ []) ≡ frame_of f ∷ stack_of fs
-unfolding stack_of
-stack_push fs f = stacked_push fs [] f
-
-pub stack_none : stack_of [] ≡ []
-unfolding stack_of
-stack_none = refl
-
--- whether no frame is open
-abbrev pub no_frames : List Open → Bool
-no_frames [] = true
-no_frames (f ∷ fs) = false

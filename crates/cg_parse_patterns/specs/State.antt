@@ -5,4 +5,4 @@ use Rattle.cg_parse_patterns.specs.declared.reader.PatternReader.{PatternReader}
 
 -- its state
 abbrev pub reader_state : PatternReader → Held
-reader_state r = mode_of r.mode (stack_of r.stack.items)
+reader_state r = mode_of r.mode (stack_of r.stack)

@@ -1,35 +1,47 @@
 // The reader of patterns.
 ghost use Rattle.std.specs.Prelude.{◌≡◌, OnOk, IfOk, is_some};
 ghost use Rattle.cg_symbols.specs.Views.{symbol_view};
-ghost use Rattle.cg_parse_patterns.specs.Bounded.{bounded_reader};
-ghost use Rattle.cg_parse_patterns.specs.Views.{end_of};
+ghost use Rattle.cg_parse_patterns.specs.Bounded.{bounded, bounded_reader};
+ghost use Rattle.cg_parse_patterns.specs.Views.{end_of, view_of};
+ghost use Rattle.cg_parse_patterns.specs.Machine as machine;
+ghost use Rattle.cg_parse_patterns.specs.Stack.{stack_of};
 ghost use Rattle.cg_parse_patterns.specs.State.{reader_state};
 
-use crate::build;
-use crate::built::PatternEnd;
-use crate::frame::{Frame, Mode};
-use crate::stack::{is_empty, pop};
-use crate::step::mode_step;
+use crate::built::{BuiltPattern, PatternEnd};
+use crate::frame::Frame;
+use crate::mode::Mode;
 use cg_base::{Memory, Place};
+use cg_stack::Stack;
 use cg_symbols::Symbol;
-use smallvec::SmallVec;
 use std::alloc::Global;
 
 /// Where in a pattern a reader stands: docs/LANGUAGE.md, "Patterns".
 #[derive(Drop)]
 pub struct PatternReader {
-    stack: SmallVec<Frame, 16>,
+    stack: Stack<Frame>,
     mode: Mode,
+}
+
+/// The pattern that ends there; no frame may be left.
+pub(crate) fn end_whole(stack: &mut Stack<Frame>, pattern: Option<BuiltPattern>) -> PatternEnd
+    ensures { end_of result ≡ machine.whole bounded (view_of pattern) (stack_of stack.old) }
+{
+    if let Some(_) = stack.pop() {
+        return PatternEnd::Unfinished;
+    }
+    match pattern {
+        Some(built) => PatternEnd::Whole(built),
+        None => PatternEnd::TooDeep,
+    }
 }
 
 impl PatternReader {
     /// A reader before the first token of a pattern (docs/LANGUAGE.md, "Patterns"). It takes no memory.
-    #[tactic(auto, using(crate::specs::Stack::stack_none))]
     pub fn new(alloc: Global) -> PatternReader
         ensures { reader_state result ≡ bounded_reader.begin }
     {
         PatternReader {
-            stack: SmallVec::new(alloc),
+            stack: Stack::new(alloc),
             mode: Mode::Want,
         }
     }
@@ -38,7 +50,8 @@ impl PatternReader {
     pub fn begin(&mut self, alloc: Global)
         ensures { reader_state self.new ≡ bounded_reader.begin }
     {
-        *self = PatternReader::new(alloc);
+        drop(std::mem::replace(&mut self.stack, Stack::new(alloc)));
+        drop(std::mem::replace(&mut self.mode, Mode::Want));
     }
 
     /// Reads one token more (docs/LANGUAGE.md, "Patterns"). Want of memory is its one refusal; behind it the reader has to
@@ -52,7 +65,8 @@ impl PatternReader {
         ensures { OnOk result (reader_state self.new ≡ bounded_reader.step (reader_state self.old) (record { symbol = symbol_view symbol.entry; place = place })) }
     {
         let mode = std::mem::replace(&mut self.mode, Mode::Stuck);
-        self.mode = mode_step(alloc, &mut self.stack, mode, symbol, place)?;
+        let next = mode.step(alloc, &mut self.stack, symbol, place)?;
+        drop(std::mem::replace(&mut self.mode, next));
         Ok(())
     }
 
@@ -72,7 +86,7 @@ impl PatternReader {
         ensures { result ≡ is_some (bounded_reader.finish (reader_state self.now)) }
     {
         match self.mode {
-            Mode::Have(_) | Mode::Head(_, _) => is_empty(&self.stack),
+            Mode::Have(_) | Mode::Head(_, _) => self.stack.is_empty(),
             _ => false,
         }
     }
@@ -82,17 +96,7 @@ impl PatternReader {
     pub fn finish(&mut self, _alloc: Global) -> Result<PatternEnd, Memory>
         ensures { IfOk result (λ e. end_of e ≡ bounded_reader.finish (reader_state self.old)) }
     {
-        let pattern = match std::mem::replace(&mut self.mode, Mode::Stuck) {
-            Mode::Have(pattern) => pattern,
-            Mode::Head(place, name) => build::name(place, name),
-            _ => return Ok(PatternEnd::Unfinished),
-        };
-        if pop(&mut self.stack).is_some() {
-            return Ok(PatternEnd::Unfinished);
-        }
-        match pattern {
-            Some(built) => Ok(PatternEnd::Whole(built)),
-            None => Ok(PatternEnd::TooDeep),
-        }
+        let mode = std::mem::replace(&mut self.mode, Mode::Stuck);
+        Ok(mode.end(&mut self.stack))
     }
 }

@@ -8,90 +8,61 @@ ghost use Rattle.cg_parse_patterns.specs.Stack.{Open, opener_of, stack_of, mode_
 
 use crate::build;
 use crate::built::{BuiltFields, BuiltPattern};
-use crate::frame::{Frame, Mode, Opener};
-use crate::stack::{pop, push};
+use crate::frame::Frame;
+use crate::mode::Mode;
+use crate::opener::{Opener, opened};
 use cg_base::{Memory, Name, Place};
 use cg_core::At;
+use cg_stack::Stack;
 use cg_symbols::Symbol;
-use smallvec::SmallVec;
 use std::alloc::Global;
-
-/// The pattern that is made of fields.
-fn opened(opener: Opener, fields: Option<BuiltFields>) -> Option<BuiltPattern>
-    ensures { view_of result ≡ machine.opened bounded (opener_of opener) (fields_of fields) }
-{
-    match opener {
-        Opener::Unboxed(place) => build::fields(place, fields),
-        Opener::Taken(place, name) => build::take(place, name, fields),
-    }
-}
 
 /// At a closing parenthesis.
 fn on_close(
     alloc: Global,
-    stack: &mut SmallVec<Frame, 16>,
+    stack: &mut Stack<Frame>,
     pattern: Option<BuiltPattern>,
 ) -> Result<Mode, Memory>
-    ensures { IfOk result (λ m. mode_of m (stack_of stack.new.items) ≡ machine.on_close bounded (view_of pattern) (stack_of stack.old.items)) }
+    ensures { IfOk result (λ m. mode_of m (stack_of stack.new) ≡ machine.on_close bounded (view_of pattern) (stack_of stack.old)) }
 {
-    match pop(stack) {
-        Some(Frame::InParen(place)) => Ok(Mode::Have(build::paren(alloc, place, pattern)?)),
-        Some(Frame::InTuple(place, before)) => {
-            let patterns = build::and_pattern(before, pattern)?;
-            Ok(Mode::Have(build::tuple(place, patterns)))
-        }
-        _ => Ok(Mode::Stuck),
+    match stack.pop() {
+        Some(frame) => frame.on_close(alloc, pattern),
+        None => Ok(Mode::Stuck),
     }
 }
 
 /// At a comma.
 fn on_comma(
     alloc: Global,
-    stack: &mut SmallVec<Frame, 16>,
+    stack: &mut Stack<Frame>,
     pattern: Option<BuiltPattern>,
 ) -> Result<Mode, Memory>
-    ensures { IfOk result (λ m. mode_of m (stack_of stack.new.items) ≡ machine.on_comma bounded (view_of pattern) (stack_of stack.old.items)) }
+    ensures { IfOk result (λ m. mode_of m (stack_of stack.new) ≡ machine.on_comma bounded (view_of pattern) (stack_of stack.old)) }
 {
-    match pop(stack) {
+    match stack.pop() {
+        Some(frame) => frame.on_comma(alloc, stack, pattern),
         None => Ok(Mode::Stuck),
-        Some(Frame::InParen(place)) => {
-            let patterns = build::and_pattern(build::no_patterns(alloc), pattern)?;
-            push(stack, Frame::InTuple(place, patterns))?;
-            Ok(Mode::Want)
-        }
-        Some(Frame::InTuple(place, before)) => {
-            let patterns = build::and_pattern(before, pattern)?;
-            push(stack, Frame::InTuple(place, patterns))?;
-            Ok(Mode::Want)
-        }
-        Some(Frame::InField(opener, before, at)) => {
-            let fields = build::and_field(before, at, pattern)?;
-            Ok(Mode::WantField(opener, fields))
-        }
     }
 }
 
 /// At a closing brace.
-fn on_brace(stack: &mut SmallVec<Frame, 16>, pattern: Option<BuiltPattern>) -> Result<Mode, Memory>
-    ensures { IfOk result (λ m. mode_of m (stack_of stack.new.items) ≡ machine.on_brace bounded (view_of pattern) (stack_of stack.old.items)) }
+fn on_brace(stack: &mut Stack<Frame>, pattern: Option<BuiltPattern>) -> Result<Mode, Memory>
+    ensures { IfOk result (λ m. mode_of m (stack_of stack.new) ≡ machine.on_brace bounded (view_of pattern) (stack_of stack.old)) }
 {
-    match pop(stack) {
-        Some(Frame::InField(opener, before, at)) => {
-            let fields = build::and_field(before, at, pattern)?;
-            Ok(Mode::Have(opened(opener, fields)))
-        }
-        _ => Ok(Mode::Stuck),
+    match stack.pop() {
+        Some(frame) => frame.on_brace(pattern),
+        None => Ok(Mode::Stuck),
     }
 }
 
 /// Behind a pattern.
-fn go_on<'a>(
+pub(crate) fn go_on<'a>(
     alloc: Global,
-    stack: &mut SmallVec<Frame, 16>,
+    stack: &mut Stack<Frame>,
     symbol: Symbol<'a>,
     pattern: Option<BuiltPattern>,
 ) -> Result<Mode, Memory>
-    ensures { IfOk result (λ m. mode_of m (stack_of stack.new.items) ≡ machine.go_on bounded (symbol_view symbol.entry) (view_of pattern) (stack_of stack.old.items)) }
+    ensures { IfOk result (λ m. mode_of m (stack_of stack.new) ≡ machine.go_on bounded (symbol_view symbol.entry) (view_of pattern) (stack_of stack.old)) }
 {
     match symbol {
         Symbol::Closing => on_close(alloc, stack, pattern),
@@ -102,14 +73,14 @@ fn go_on<'a>(
 }
 
 /// Behind a name, which `{` makes that of a record.
-fn name_on<'a>(
+pub(crate) fn name_on<'a>(
     alloc: Global,
-    stack: &mut SmallVec<Frame, 16>,
+    stack: &mut Stack<Frame>,
     symbol: Symbol<'a>,
     place: Place,
     name: Name,
 ) -> Result<Mode, Memory>
-    ensures { IfOk result (λ m. mode_of m (stack_of stack.new.items) ≡ machine.name_on bounded (symbol_view symbol.entry) place name (stack_of stack.old.items)) }
+    ensures { IfOk result (λ m. mode_of m (stack_of stack.new) ≡ machine.name_on bounded (symbol_view symbol.entry) place name (stack_of stack.old)) }
 {
     match symbol {
         Symbol::Brace => Ok(Mode::WantField(Opener::Taken(place, name), build::no_fields(alloc))),
@@ -118,29 +89,29 @@ fn name_on<'a>(
 }
 
 /// At the closing parenthesis of `()`.
-fn on_empty(stack: &mut SmallVec<Frame, 16>) -> Mode
-    ensures { mode_of result (stack_of stack.new.items) ≡ machine.on_empty bounded (stack_of stack.old.items) }
+fn on_empty(stack: &mut Stack<Frame>) -> Mode
+    ensures { mode_of result (stack_of stack.new) ≡ machine.on_empty bounded (stack_of stack.old) }
 {
-    match pop(stack) {
-        Some(Frame::InParen(place)) => Mode::Have(build::unit(place)),
-        _ => Mode::Stuck,
+    match stack.pop() {
+        Some(frame) => frame.on_empty(),
+        None => Mode::Stuck,
     }
 }
 
 /// Where a pattern is wanted.
-fn start<'a>(
+pub(crate) fn start<'a>(
     alloc: Global,
-    stack: &mut SmallVec<Frame, 16>,
+    stack: &mut Stack<Frame>,
     symbol: Symbol<'a>,
     place: Place,
 ) -> Result<Mode, Memory>
-    ensures { IfOk result (λ m. mode_of m (stack_of stack.new.items) ≡ machine.start bounded (symbol_view symbol.entry) place (stack_of stack.old.items)) }
+    ensures { IfOk result (λ m. mode_of m (stack_of stack.new) ≡ machine.start bounded (symbol_view symbol.entry) place (stack_of stack.old)) }
 {
     match symbol {
         Symbol::Lower(name) => Ok(Mode::Head(place, Name::new(alloc, name)?)),
         Symbol::Wildcard => Ok(Mode::Have(build::any(place))),
         Symbol::Opening => {
-            push(stack, Frame::InParen(place))?;
+            stack.push(Frame::InParen(place))?;
             Ok(Mode::Want)
         }
         Symbol::Closing => Ok(on_empty(stack)),
@@ -150,7 +121,7 @@ fn start<'a>(
 }
 
 /// Where a field is wanted.
-fn field<'a>(
+pub(crate) fn field<'a>(
     alloc: Global,
     symbol: Symbol<'a>,
     place: Place,
@@ -177,43 +148,23 @@ fn alone(alloc: Global, before: Option<BuiltFields>, at: At) -> Result<Option<Bu
 }
 
 /// Behind a field's name.
-fn field_on<'a>(
+pub(crate) fn field_on<'a>(
     alloc: Global,
-    stack: &mut SmallVec<Frame, 16>,
+    stack: &mut Stack<Frame>,
     symbol: Symbol<'a>,
     opener: Opener,
     before: Option<BuiltFields>,
     at: At,
 ) -> Result<Mode, Memory>
-    ensures { IfOk result (λ m. mode_of m (stack_of stack.new.items) ≡ machine.field_on bounded (symbol_view symbol.entry) (opener_of opener) (fields_of before) at (stack_of stack.old.items)) }
+    ensures { IfOk result (λ m. mode_of m (stack_of stack.new) ≡ machine.field_on bounded (symbol_view symbol.entry) (opener_of opener) (fields_of before) at (stack_of stack.old)) }
 {
     match symbol {
         Symbol::Equals => {
-            push(stack, Frame::InField(opener, before, at))?;
+            stack.push(Frame::InField(opener, before, at))?;
             Ok(Mode::Want)
         }
         Symbol::Comma => Ok(Mode::WantField(opener, alone(alloc, before, at)?)),
         Symbol::ClosingBrace => Ok(Mode::Have(opened(opener, alone(alloc, before, at)?))),
         _ => Ok(Mode::Stuck),
-    }
-}
-
-/// One symbol more.
-pub(crate) fn mode_step<'a>(
-    alloc: Global,
-    stack: &mut SmallVec<Frame, 16>,
-    mode: Mode,
-    symbol: Symbol<'a>,
-    place: Place,
-) -> Result<Mode, Memory>
-    ensures { IfOk result (λ m. mode_of m (stack_of stack.new.items) ≡ machine.mode_step bounded (mode_of mode (stack_of stack.old.items)) (symbol_view symbol.entry) place) }
-{
-    match mode {
-        Mode::Want => start(alloc, stack, symbol, place),
-        Mode::Have(pattern) => go_on(alloc, stack, symbol, pattern),
-        Mode::Head(at, name) => name_on(alloc, stack, symbol, at, name),
-        Mode::WantField(opener, before) => field(alloc, symbol, place, opener, before),
-        Mode::AfterField(opener, before, at) => field_on(alloc, stack, symbol, opener, before, at),
-        Mode::Stuck => Ok(Mode::Stuck),
     }
 }

@@ -1,16 +1,13 @@
 -- The machine over trees up to the depth of the language, past which there is none.
-use Rattle.std.specs.Prelude.{ℕ, List, Option, Some, None, nat_le, if◌then◌else◌}
+use Rattle.std.specs.Prelude.{List, Option, Some, None, nat_le, if◌then◌else◌}
 use Rattle.cg_base.specs.declared.place.Place.{Place}
 use Rattle.cg_base.specs.Reader.{Reader}
 use Rattle.cg_core.specs.declared.at.At.{At}
 use Rattle.cg_surface.specs.Written.{Written, named, nothing, tuple, paren, arrow, fields, variant, bang, take_some, take_all, Writtens, no_types, and_type, WrittenFields, no_fields, and_field, WrittenAlts, no_alts, and_plain, and_alt, place_of, depth_of, types_depth, fields_depth, alts_depth}
+pub use Rattle.cg_surface.specs.Limits.{depth_limit}
 use Rattle.cg_symbols.specs.Symbols.{Seen}
 use Rattle.cg_parse_types.specs.Machine as machine
 use Rattle.cg_parse_types.specs.Machine.{Builder, Mode}
-
--- no type has more depth
-abbrev pub depth_limit : ℕ
-depth_limit = 1024
 
 -- a type, where it is no deeper than allowed; and lists, where none of theirs is
 abbrev pub within : Written → Option Written

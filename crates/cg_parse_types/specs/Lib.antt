@@ -1,5 +1,6 @@
 pub mod Bounded
 pub mod Grammar
+pub mod Laws
 pub mod Machine
 pub mod Plain
 pub mod Stack

@@ -1,14 +1,13 @@
 -- The stack of the code as the machine's.
-use Rattle.std.specs.Prelude.{◌≡◌, List, [], ◌∷◌, ◌++◌, Option}
-use Rattle.std.proofs.Common.{refl}
+use Rattle.std.specs.Prelude.{List, map, Option}
 use Rattle.cg_surface.specs.Written.{Written, Writtens, WrittenFields, WrittenAlts}
 use Rattle.cg_parse_types.specs.Bounded.{Held}
 use Rattle.cg_parse_types.specs.Machine as machine
 use Rattle.cg_parse_types.specs.Views.{view_of, types_view, fields_view, alts_view}
 use Rattle.cg_parse_types.specs.declared.frame.Frame.{Frame}
 use Rattle.cg_parse_types.specs.declared.frame.Frame.TheVariants.{InParen, InTuple, InField, InAlt, InArgs, InArrow}
-use Rattle.cg_parse_types.specs.declared.frame.Mode.{Mode}
-use Rattle.cg_parse_types.specs.declared.frame.Mode.TheVariants.{Want, Alone, Head, Taken, WantField, AfterField, WantAlt, AfterAlt, AfterTake, TakeOpen, TakeDots, TakeName, TakeMore, Stuck}
+use Rattle.cg_parse_types.specs.declared.mode.Mode.{Mode}
+use Rattle.cg_parse_types.specs.declared.mode.Mode.TheVariants.{Want, Alone, Head, Taken, WantField, AfterField, WantAlt, AfterAlt, AfterTake, TakeOpen, TakeDots, TakeName, TakeMore, Stuck}
 
 -- a frame of the machine over bounded trees
 abbrev pub Open : Type 0
@@ -23,14 +22,9 @@ frame_of (InAlt p choices at) = machine.InAlt p (alts_view choices) at
 frame_of (InArgs p n args) = machine.InArgs p n (types_view args)
 frame_of (InArrow a) = machine.InArrow (view_of a)
 
--- the last frame is the innermost
-abbrev pub stacked : List Open → List Frame → List Open
-stacked below [] = below
-stacked below (f ∷ fs) = stacked (frame_of f ∷ below) fs
-
--- the stack, the innermost first
-unfoldable pub stack_of : List Frame → List Open
-stack_of fs = stacked [] fs
+-- the frames of a stack, the innermost first
+abbrev pub stack_of : List Frame → List Open
+stack_of fs = map frame_of fs
 
 -- a mode, over a stack
 abbrev pub mode_of : Mode → List Open → Held
@@ -48,15 +42,3 @@ mode_of (TakeDots q t) fs = machine.TakeDots q (view_of t) fs
 mode_of (TakeName t ns) fs = machine.TakeName (view_of t) ns fs
 mode_of (TakeMore t ns) fs = machine.TakeMore (view_of t) ns fs
 mode_of Stuck fs = machine.Stuck
-
-stacked_push : (fs : List Frame) (below : List Open) (f : Frame) → stacked below (fs ++ f ∷ []) ≡ frame_of f ∷ stacked below fs
-stacked_push [] below f = refl
-stacked_push (g ∷ fs) below f = stacked_push fs (frame_of g ∷ below) f
-
-pub stack_push : (fs : List Frame) (f : Frame) → stack_of (fs ++ f ∷ []) ≡ frame_of f ∷ stack_of fs
-unfolding stack_of
-stack_push fs f = stacked_push fs [] f
-
-pub stack_none : stack_of [] ≡ []
-unfolding stack_of
-stack_none = refl

@@ -16,7 +16,7 @@ end_of (Whole b) = Some (Some (written_of b.tree))
 
 -- where the reader stands
 unfoldable pub reader_state : TypeReader → Held
-reader_state r = mode_of r.mode (stack_of r.stack.items)
+reader_state r = mode_of r.mode (stack_of r.stack)
 
 -- whether each frame is closed without a token of its own
 abbrev pub all_close : List Open → Bool

@@ -8,10 +8,9 @@ ghost use Rattle.cg_parse_types.specs.Views.{view_of};
 
 use crate::built::BuiltType;
 use crate::frame::Frame;
-use crate::stack::{pop, push};
 use crate::{build, lists};
 use cg_base::Memory;
-use smallvec::SmallVec;
+use cg_stack::Stack;
 use std::alloc::Global;
 
 /// From which looseness on a frame is closed without a token of its own.
@@ -37,61 +36,47 @@ fn hole(frame: &Frame) -> u32
 }
 
 /// How loose a type may stand on the stack.
-pub(crate) fn room(stack: &mut SmallVec<Frame, 16>) -> Result<u32, Memory>
-    ensures same { OnOk result (stack_of stack.new.items ≡ stack_of stack.old.items) }
-    ensures room { IfOk result (λ n. n ≡ machine.room bounded (stack_of stack.old.items)) }
+pub(crate) fn room(stack: &mut Stack<Frame>) -> Result<u32, Memory>
+    ensures same { OnOk result (stack_of stack.new ≡ stack_of stack.old) }
+    ensures room { IfOk result (λ n. n ≡ machine.room bounded (stack_of stack.old)) }
 {
-    match pop(stack) {
+    match stack.pop() {
         None => Ok(3),
         Some(frame) => {
             let loosest = hole(&frame);
-            push(stack, frame)?;
+            stack.push(frame)?;
             Ok(loosest)
         }
-    }
-}
-
-/// The type of a frame that needs no token to be closed, with its hole filled.
-fn fill(alloc: Global, frame: Frame, tree: Option<BuiltType>) -> Result<Option<BuiltType>, Memory>
-    ensures { IfOk result (λ t. view_of t ≡ machine.fill bounded (frame_of frame) (view_of tree)) }
-{
-    match frame {
-        Frame::InArgs(place, name, args) => {
-            let args = lists::and_type(args, tree)?;
-            Ok(build::named(place, name, args))
-        }
-        Frame::InArrow(from) => build::arrow(alloc, from, tree),
-        _ => Ok(tree),
     }
 }
 
 /// Closes the frames that bind at most so loosely.
 pub(crate) fn close(
     alloc: Global,
-    stack: &mut SmallVec<Frame, 16>,
+    stack: &mut Stack<Frame>,
     loosest: u32,
     tree: Option<BuiltType>,
 ) -> Result<Option<BuiltType>, Memory>
-    ensures { IfOk result (λ t. machine.closed bounded loosest (view_of tree) (stack_of stack.old.items) ≡ (view_of t, stack_of stack.new.items)) }
+    ensures { IfOk result (λ t. machine.closed bounded loosest (view_of tree) (stack_of stack.old) ≡ (view_of t, stack_of stack.new)) }
 {
     let mut tree = tree;
     loop {
-        match pop(stack) {
+        match stack.pop() {
             None => return Ok(tree),
             Some(frame) => {
                 if closes(&frame) > loosest {
-                    push(stack, frame)?;
+                    stack.push(frame)?;
                     return Ok(tree);
                 }
-                tree = fill(alloc, frame, tree)?;
+                tree = frame.fill(alloc, tree)?;
             }
         }
     }
 }
 
 /// Whether each frame is closed without a token of its own.
-pub(crate) fn all_close(stack: &SmallVec<Frame, 16>) -> bool
-    ensures { result ≡ all_close (stack_of stack.now.items) }
+pub(crate) fn all_close(stack: &Stack<Frame>) -> bool
+    ensures { result ≡ all_close (stack_of stack.now) }
 {
     let frames = stack.as_slice();
     for at in (0..frames.len()).rev() {

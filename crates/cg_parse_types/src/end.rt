@@ -1,115 +1,82 @@
 // Behind a type, at a symbol that ends it.
-ghost use Rattle.std.specs.Prelude.{◌≡◌, IfOk};
+ghost use Rattle.std.specs.Prelude.{◌≡◌, List, ◌∷◌, IfOk};
 ghost use Rattle.cg_symbols.specs.Views.{symbol_view};
 ghost use Rattle.cg_parse_types.specs.Bounded.{bounded};
 ghost use Rattle.cg_parse_types.specs.Machine as machine;
-ghost use Rattle.cg_parse_types.specs.Stack.{stack_of, mode_of};
+ghost use Rattle.cg_parse_types.specs.Stack.{Open, frame_of, stack_of, mode_of};
 ghost use Rattle.cg_parse_types.specs.Views.{view_of};
 
 use crate::built::BuiltType;
 use crate::close::{close, room};
-use crate::frame::{Frame, Mode};
-use crate::stack::{pop, push};
+use crate::frame::Frame;
+use crate::mode::Mode;
 use crate::{build, lists};
 use cg_base::{Memory, Place};
+use cg_stack::Stack;
 use cg_symbols::Symbol;
-use smallvec::SmallVec;
 use std::alloc::Global;
 
 /// At a closing parenthesis.
 fn on_close(
     alloc: Global,
-    stack: &mut SmallVec<Frame, 16>,
+    stack: &mut Stack<Frame>,
     tree: Option<BuiltType>,
 ) -> Result<Mode, Memory>
-    ensures { IfOk result (λ m. mode_of m (stack_of stack.new.items) ≡ machine.on_close bounded (view_of tree) (stack_of stack.old.items)) }
+    ensures { IfOk result (λ m. mode_of m (stack_of stack.new) ≡ machine.on_close bounded (view_of tree) (stack_of stack.old)) }
 {
-    match pop(stack) {
-        Some(Frame::InParen(place)) => Ok(Mode::Alone(build::paren(alloc, place, tree)?)),
-        Some(Frame::InTuple(place, types)) => {
-            let types = lists::and_type(types, tree)?;
-            Ok(Mode::Alone(build::tuple(place, types)))
-        }
-        _ => Ok(Mode::Stuck),
+    match stack.pop() {
+        Some(frame) => frame.on_close(alloc, tree),
+        None => Ok(Mode::Stuck),
     }
 }
 
 /// At a comma.
 fn on_comma(
     alloc: Global,
-    stack: &mut SmallVec<Frame, 16>,
+    stack: &mut Stack<Frame>,
     tree: Option<BuiltType>,
 ) -> Result<Mode, Memory>
-    ensures { IfOk result (λ m. mode_of m (stack_of stack.new.items) ≡ machine.on_comma bounded (view_of tree) (stack_of stack.old.items)) }
+    ensures { IfOk result (λ m. mode_of m (stack_of stack.new) ≡ machine.on_comma bounded (view_of tree) (stack_of stack.old)) }
 {
-    match pop(stack) {
-        Some(Frame::InParen(place)) => {
-            let types = lists::and_type(lists::no_types(alloc), tree)?;
-            push(stack, Frame::InTuple(place, types))?;
-            Ok(Mode::Want)
-        }
-        Some(Frame::InTuple(place, types)) => {
-            let types = lists::and_type(types, tree)?;
-            push(stack, Frame::InTuple(place, types))?;
-            Ok(Mode::Want)
-        }
-        Some(Frame::InField(place, boxed, fields, at)) => {
-            let fields = lists::and_field(fields, at, tree)?;
-            Ok(Mode::WantField(place, boxed, fields))
-        }
-        _ => Ok(Mode::Stuck),
+    match stack.pop() {
+        Some(frame) => frame.on_comma(alloc, stack, tree),
+        None => Ok(Mode::Stuck),
     }
 }
 
 /// At a closing brace.
-fn on_closing_brace(
-    stack: &mut SmallVec<Frame, 16>,
-    tree: Option<BuiltType>,
-) -> Result<Mode, Memory>
-    ensures { IfOk result (λ m. mode_of m (stack_of stack.new.items) ≡ machine.on_closing_brace bounded (view_of tree) (stack_of stack.old.items)) }
+fn on_closing_brace(stack: &mut Stack<Frame>, tree: Option<BuiltType>) -> Result<Mode, Memory>
+    ensures { IfOk result (λ m. mode_of m (stack_of stack.new) ≡ machine.on_closing_brace bounded (view_of tree) (stack_of stack.old)) }
 {
-    match pop(stack) {
-        Some(Frame::InField(place, boxed, fields, at)) => {
-            let fields = lists::and_field(fields, at, tree)?;
-            Ok(Mode::Alone(build::fields(place, boxed, fields)))
-        }
-        _ => Ok(Mode::Stuck),
+    match stack.pop() {
+        Some(frame) => frame.on_closing_brace(tree),
+        None => Ok(Mode::Stuck),
     }
 }
 
 /// At a bar.
-fn on_bar(stack: &mut SmallVec<Frame, 16>, tree: Option<BuiltType>) -> Result<Mode, Memory>
-    ensures { IfOk result (λ m. mode_of m (stack_of stack.new.items) ≡ machine.on_bar bounded (view_of tree) (stack_of stack.old.items)) }
+fn on_bar(stack: &mut Stack<Frame>, tree: Option<BuiltType>) -> Result<Mode, Memory>
+    ensures { IfOk result (λ m. mode_of m (stack_of stack.new) ≡ machine.on_bar bounded (view_of tree) (stack_of stack.old)) }
 {
-    match pop(stack) {
-        Some(Frame::InAlt(place, alts, at)) => {
-            let alts = lists::and_alt(alts, at, tree)?;
-            Ok(Mode::WantAlt(place, alts))
-        }
-        _ => Ok(Mode::Stuck),
+    match stack.pop() {
+        Some(frame) => frame.on_bar(tree),
+        None => Ok(Mode::Stuck),
     }
 }
 
 /// At `>`.
-fn on_greater(stack: &mut SmallVec<Frame, 16>, tree: Option<BuiltType>) -> Result<Mode, Memory>
-    ensures { IfOk result (λ m. mode_of m (stack_of stack.new.items) ≡ machine.on_greater bounded (view_of tree) (stack_of stack.old.items)) }
+fn on_greater(stack: &mut Stack<Frame>, tree: Option<BuiltType>) -> Result<Mode, Memory>
+    ensures { IfOk result (λ m. mode_of m (stack_of stack.new) ≡ machine.on_greater bounded (view_of tree) (stack_of stack.old)) }
 {
-    match pop(stack) {
-        Some(Frame::InAlt(place, alts, at)) => {
-            let alts = lists::and_alt(alts, at, tree)?;
-            Ok(Mode::Alone(build::variant(place, alts)))
-        }
-        _ => Ok(Mode::Stuck),
+    match stack.pop() {
+        Some(frame) => frame.on_greater(tree),
+        None => Ok(Mode::Stuck),
     }
 }
 
 /// At `take`.
-fn on_take(
-    stack: &mut SmallVec<Frame, 16>,
-    place: Place,
-    tree: Option<BuiltType>,
-) -> Result<Mode, Memory>
-    ensures { IfOk result (λ m. mode_of m (stack_of stack.new.items) ≡ machine.on_take bounded place (view_of tree) (stack_of stack.old.items)) }
+fn on_take(stack: &mut Stack<Frame>, place: Place, tree: Option<BuiltType>) -> Result<Mode, Memory>
+    ensures { IfOk result (λ m. mode_of m (stack_of stack.new) ≡ machine.on_take bounded place (view_of tree) (stack_of stack.old)) }
 {
     if room(stack)? < 2 {
         return Ok(Mode::Stuck);
@@ -118,25 +85,25 @@ fn on_take(
 }
 
 /// At an arrow.
-fn on_arrow(stack: &mut SmallVec<Frame, 16>, tree: Option<BuiltType>) -> Result<Mode, Memory>
-    ensures { IfOk result (λ m. mode_of m (stack_of stack.new.items) ≡ machine.on_arrow bounded (view_of tree) (stack_of stack.old.items)) }
+fn on_arrow(stack: &mut Stack<Frame>, tree: Option<BuiltType>) -> Result<Mode, Memory>
+    ensures { IfOk result (λ m. mode_of m (stack_of stack.new) ≡ machine.on_arrow bounded (view_of tree) (stack_of stack.old)) }
 {
     if room(stack)? < 3 {
         return Ok(Mode::Stuck);
     }
-    push(stack, Frame::InArrow(tree))?;
+    stack.push(Frame::InArrow(tree))?;
     Ok(Mode::Want)
 }
 
 /// At a symbol that ends a type, with the frames closed that it closes.
 fn on_end<'a>(
     alloc: Global,
-    stack: &mut SmallVec<Frame, 16>,
+    stack: &mut Stack<Frame>,
     symbol: Symbol<'a>,
     place: Place,
     tree: Option<BuiltType>,
 ) -> Result<Mode, Memory>
-    ensures { IfOk result (λ m. mode_of m (stack_of stack.new.items) ≡ machine.on_end bounded (symbol_view symbol.entry) place (view_of tree) (stack_of stack.old.items)) }
+    ensures { IfOk result (λ m. mode_of m (stack_of stack.new) ≡ machine.on_end bounded (symbol_view symbol.entry) place (view_of tree) (stack_of stack.old)) }
 {
     match symbol {
         Symbol::Take => on_take(stack, place, tree),
@@ -164,12 +131,12 @@ fn strength<'a>(symbol: Symbol<'a>) -> u32
 /// Behind a type, at a symbol that begins none.
 pub(crate) fn go_past<'a>(
     alloc: Global,
-    stack: &mut SmallVec<Frame, 16>,
+    stack: &mut Stack<Frame>,
     symbol: Symbol<'a>,
     place: Place,
     tree: Option<BuiltType>,
 ) -> Result<Mode, Memory>
-    ensures { IfOk result (λ m. mode_of m (stack_of stack.new.items) ≡ machine.go_past bounded (symbol_view symbol.entry) place (view_of tree) (stack_of stack.old.items)) }
+    ensures { IfOk result (λ m. mode_of m (stack_of stack.new) ≡ machine.go_past bounded (symbol_view symbol.entry) place (view_of tree) (stack_of stack.old)) }
 {
     let tree = close(alloc, stack, strength(symbol), tree)?;
     on_end(alloc, stack, symbol, place, tree)

@@ -1,5 +1,5 @@
 // The reader of types.
-#![tactic(auto, using(crate::specs::Stack::stack_none), unfolding(crate::specs::States::reader_state))]
+#![tactic(auto, unfolding(crate::specs::States::reader_state))]
 
 ghost use Rattle.std.specs.Prelude.{◌≡◌, List, IfOk, OnOk, is_some};
 ghost use Rattle.cg_symbols.specs.Views.{symbol_view};
@@ -12,12 +12,11 @@ ghost use Rattle.cg_parse_types.specs.Views.{view_of};
 use crate::build;
 use crate::built::BuiltType;
 use crate::close::{all_close, close};
-use crate::frame::{Frame, Mode};
-use crate::stack::pop;
-use crate::step::mode_step;
+use crate::frame::Frame;
+use crate::mode::Mode;
 use cg_base::{Memory, Place};
+use cg_stack::Stack;
 use cg_symbols::Symbol;
-use smallvec::SmallVec;
 use std::alloc::Global;
 
 /// What ends where the reader stands: no type, one that is too deep, or a type. docs/LANGUAGE.md, "Types" and "Limits".
@@ -31,7 +30,7 @@ pub enum TypeEnd {
 /// A reader of a type: docs/LANGUAGE.md, "Types". It takes one symbol at a time and keeps the types that it has read.
 #[derive(Drop)]
 pub struct TypeReader {
-    stack: SmallVec<Frame, 16>,
+    stack: Stack<Frame>,
     mode: Mode,
 }
 
@@ -46,35 +45,20 @@ fn mode_is_open(mode: &Mode) -> bool
 }
 
 /// The type, with all frames closed that need no token; no frame may be left.
-fn end_whole(
+pub(crate) fn end_whole(
     alloc: Global,
-    stack: &mut SmallVec<Frame, 16>,
+    stack: &mut Stack<Frame>,
     tree: Option<BuiltType>,
 ) -> Result<TypeEnd, Memory>
-    ensures { IfOk result (λ e. end_of e ≡ machine.end_whole bounded (view_of tree) (stack_of stack.old.items)) }
+    ensures { IfOk result (λ e. end_of e ≡ machine.end_whole bounded (view_of tree) (stack_of stack.old)) }
 {
     let tree = close(alloc, stack, 3, tree)?;
-    if let Some(_) = pop(stack) {
+    if let Some(_) = stack.pop() {
         return Ok(TypeEnd::Unfinished);
     }
     match tree {
         None => Ok(TypeEnd::TooDeep),
         Some(whole) => Ok(TypeEnd::Whole(whole)),
-    }
-}
-
-/// The type that ends there, if one can.
-fn mode_end(alloc: Global, stack: &mut SmallVec<Frame, 16>, mode: Mode) -> Result<TypeEnd, Memory>
-    ensures { IfOk result (λ e. end_of e ≡ machine.mode_end bounded (mode_of mode (stack_of stack.old.items))) }
-{
-    match mode {
-        Mode::Alone(tree) => end_whole(alloc, stack, tree),
-        Mode::Head(place, name) => {
-            let tree = build::bare(alloc, place, name);
-            end_whole(alloc, stack, tree)
-        }
-        Mode::Taken(tree) => end_whole(alloc, stack, tree),
-        _ => Ok(TypeEnd::Unfinished),
     }
 }
 
@@ -84,7 +68,7 @@ impl TypeReader {
         ensures { reader_state result ≡ bounded_reader.begin }
     {
         TypeReader {
-            stack: SmallVec::new(alloc),
+            stack: Stack::new(alloc),
             mode: Mode::Want,
         }
     }
@@ -93,8 +77,8 @@ impl TypeReader {
     pub fn begin(&mut self, alloc: Global)
         ensures { reader_state self.new ≡ bounded_reader.begin }
     {
-        self.stack = SmallVec::new(alloc);
-        self.mode = Mode::Want;
+        drop(std::mem::replace(&mut self.stack, Stack::new(alloc)));
+        drop(std::mem::replace(&mut self.mode, Mode::Want));
     }
 
     /// One symbol more, at its place: docs/LANGUAGE.md, "Types". Want of memory is its one refusal; a symbol with which no
@@ -108,7 +92,8 @@ impl TypeReader {
         ensures { OnOk result (reader_state self.new ≡ bounded_reader.step (reader_state self.old) (record { symbol = symbol_view symbol.entry; place = place })) }
     {
         let mode = std::mem::replace(&mut self.mode, Mode::Stuck);
-        self.mode = mode_step(alloc, &mut self.stack, mode, symbol, place)?;
+        let next = mode.step(alloc, &mut self.stack, symbol, place)?;
+        drop(std::mem::replace(&mut self.mode, next));
         Ok(())
     }
 
@@ -136,6 +121,6 @@ impl TypeReader {
         ensures { IfOk result (λ e. end_of e ≡ bounded_reader.finish (reader_state self.old)) }
     {
         let mode = std::mem::replace(&mut self.mode, Mode::Stuck);
-        mode_end(alloc, &mut self.stack, mode)
+        mode.end(alloc, &mut self.stack)
     }
 }

@@ -1,17 +1,17 @@
 // Where a type begins.
-ghost use Rattle.std.specs.Prelude.{◌≡◌, List, IfOk};
+ghost use Rattle.std.specs.Prelude.{◌≡◌, List, ◌∷◌, IfOk};
 ghost use Rattle.cg_symbols.specs.Views.{symbol_view};
 ghost use Rattle.cg_parse_types.specs.Bounded.{bounded};
 ghost use Rattle.cg_parse_types.specs.Machine as machine;
-ghost use Rattle.cg_parse_types.specs.Stack.{Open, stack_of, mode_of};
+ghost use Rattle.cg_parse_types.specs.Stack.{Open, frame_of, stack_of, mode_of};
 
 use crate::close::room;
-use crate::frame::{Frame, Mode};
-use crate::stack::{pop, push};
+use crate::frame::Frame;
+use crate::mode::Mode;
 use crate::{build, lists};
 use cg_base::{Memory, Name, Place};
+use cg_stack::Stack;
 use cg_symbols::Symbol;
-use smallvec::SmallVec;
 use std::alloc::Global;
 
 /// Whether a type begins with the symbol.
@@ -30,23 +30,23 @@ pub(crate) fn starts<'a>(symbol: Symbol<'a>) -> bool
 }
 
 /// At the closing parenthesis of `()`.
-fn on_empty(stack: &mut SmallVec<Frame, 16>) -> Mode
-    ensures { mode_of result (stack_of stack.new.items) ≡ machine.on_empty bounded (stack_of stack.old.items) }
+fn on_empty(stack: &mut Stack<Frame>) -> Mode
+    ensures { mode_of result (stack_of stack.new) ≡ machine.on_empty bounded (stack_of stack.old) }
 {
-    match pop(stack) {
-        Some(Frame::InParen(place)) => Mode::Alone(build::unit(place)),
-        _ => Mode::Stuck,
+    match stack.pop() {
+        Some(frame) => frame.on_empty(),
+        None => Mode::Stuck,
     }
 }
 
 /// At an upper name.
 fn on_upper(
     alloc: Global,
-    stack: &mut SmallVec<Frame, 16>,
+    stack: &mut Stack<Frame>,
     place: Place,
     bytes: &[u8],
 ) -> Result<Mode, Memory>
-    ensures { IfOk result (λ m. mode_of m (stack_of stack.new.items) ≡ machine.on_upper bounded place bytes.now (stack_of stack.old.items)) }
+    ensures { IfOk result (λ m. mode_of m (stack_of stack.new) ≡ machine.on_upper bounded place bytes.now (stack_of stack.old)) }
 {
     let name = Name::new(alloc, bytes)?;
     if room(stack)? < 1 {
@@ -66,17 +66,17 @@ fn on_lower(alloc: Global, place: Place, bytes: &[u8]) -> Result<Mode, Memory>
 /// Where a type is wanted.
 pub(crate) fn start<'a>(
     alloc: Global,
-    stack: &mut SmallVec<Frame, 16>,
+    stack: &mut Stack<Frame>,
     symbol: Symbol<'a>,
     place: Place,
 ) -> Result<Mode, Memory>
-    ensures { IfOk result (λ m. mode_of m (stack_of stack.new.items) ≡ machine.start bounded (symbol_view symbol.entry) place (stack_of stack.old.items)) }
+    ensures { IfOk result (λ m. mode_of m (stack_of stack.new) ≡ machine.start bounded (symbol_view symbol.entry) place (stack_of stack.old)) }
 {
     match symbol {
         Symbol::Lower(bytes) => on_lower(alloc, place, bytes),
         Symbol::Upper(bytes) => on_upper(alloc, stack, place, bytes),
         Symbol::Opening => {
-            push(stack, Frame::InParen(place))?;
+            stack.push(Frame::InParen(place))?;
             Ok(Mode::Want)
         }
         Symbol::Closing => Ok(on_empty(stack)),

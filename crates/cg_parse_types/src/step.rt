@@ -1,53 +1,49 @@
 // One symbol more of a type.
-ghost use Rattle.std.specs.Prelude.{◌≡◌, List, IfOk};
+ghost use Rattle.std.specs.Prelude.{◌≡◌, List, ◌∷◌, IfOk};
 ghost use Rattle.cg_symbols.specs.Views.{symbol_view};
 ghost use Rattle.cg_parse_types.specs.Bounded.{bounded};
 ghost use Rattle.cg_parse_types.specs.Machine as machine;
-ghost use Rattle.cg_parse_types.specs.Stack.{Open, stack_of, mode_of};
+ghost use Rattle.cg_parse_types.specs.Stack.{Open, frame_of, stack_of, mode_of};
 ghost use Rattle.cg_parse_types.specs.Views.{view_of, fields_view, alts_view};
 
 use crate::built::{BuiltAlts, BuiltFields, BuiltType};
 use crate::end::go_past;
-use crate::frame::{Frame, Mode};
-use crate::stack::{pop, push};
+use crate::frame::Frame;
+use crate::mode::Mode;
 use crate::start::{start, starts};
 use crate::taking::{after_take, take_dots, take_more, take_name, take_open};
 use crate::{build, lists};
 use cg_base::{Memory, Name, Place};
 use cg_core::At;
+use cg_stack::Stack;
 use cg_symbols::Symbol;
-use smallvec::SmallVec;
 use std::alloc::Global;
 
 /// At a symbol that begins an argument, behind one.
 fn next_argument<'a>(
     alloc: Global,
-    stack: &mut SmallVec<Frame, 16>,
+    stack: &mut Stack<Frame>,
     symbol: Symbol<'a>,
     place: Place,
     tree: Option<BuiltType>,
 ) -> Result<Mode, Memory>
-    ensures { IfOk result (λ m. mode_of m (stack_of stack.new.items) ≡ machine.next_argument bounded (symbol_view symbol.entry) place (view_of tree) (stack_of stack.old.items)) }
+    ensures { IfOk result (λ m. mode_of m (stack_of stack.new) ≡ machine.next_argument bounded (symbol_view symbol.entry) place (view_of tree) (stack_of stack.old)) }
 {
-    match pop(stack) {
-        Some(Frame::InArgs(head, name, args)) => {
-            let args = lists::and_type(args, tree)?;
-            push(stack, Frame::InArgs(head, name, args))?;
-            start(alloc, stack, symbol, place)
-        }
-        _ => Ok(Mode::Stuck),
+    match stack.pop() {
+        Some(frame) => frame.next_argument(alloc, stack, symbol, place, tree),
+        None => Ok(Mode::Stuck),
     }
 }
 
 /// Behind a type that stands alone, at a symbol that begins none.
 fn behind_alone<'a>(
     alloc: Global,
-    stack: &mut SmallVec<Frame, 16>,
+    stack: &mut Stack<Frame>,
     symbol: Symbol<'a>,
     place: Place,
     tree: Option<BuiltType>,
 ) -> Result<Mode, Memory>
-    ensures { IfOk result (λ m. mode_of m (stack_of stack.new.items) ≡ machine.behind_alone bounded (symbol_view symbol.entry) place (view_of tree) (stack_of stack.old.items)) }
+    ensures { IfOk result (λ m. mode_of m (stack_of stack.new) ≡ machine.behind_alone bounded (symbol_view symbol.entry) place (view_of tree) (stack_of stack.old)) }
 {
     match symbol {
         Symbol::Bang => Ok(Mode::Alone(build::bang(alloc, tree)?)),
@@ -56,14 +52,14 @@ fn behind_alone<'a>(
 }
 
 /// Behind a type that stands alone.
-fn go_on<'a>(
+pub(crate) fn go_on<'a>(
     alloc: Global,
-    stack: &mut SmallVec<Frame, 16>,
+    stack: &mut Stack<Frame>,
     symbol: Symbol<'a>,
     place: Place,
     tree: Option<BuiltType>,
 ) -> Result<Mode, Memory>
-    ensures { IfOk result (λ m. mode_of m (stack_of stack.new.items) ≡ machine.go_on bounded (symbol_view symbol.entry) place (view_of tree) (stack_of stack.old.items)) }
+    ensures { IfOk result (λ m. mode_of m (stack_of stack.new) ≡ machine.go_on bounded (symbol_view symbol.entry) place (view_of tree) (stack_of stack.old)) }
 {
     if starts(symbol) {
         next_argument(alloc, stack, symbol, place, tree)
@@ -73,18 +69,18 @@ fn go_on<'a>(
 }
 
 /// Behind a name that may have arguments.
-fn after_head<'a>(
+pub(crate) fn after_head<'a>(
     alloc: Global,
-    stack: &mut SmallVec<Frame, 16>,
+    stack: &mut Stack<Frame>,
     symbol: Symbol<'a>,
     place: Place,
     head: Place,
     name: Name,
 ) -> Result<Mode, Memory>
-    ensures { IfOk result (λ m. mode_of m (stack_of stack.new.items) ≡ machine.after_head bounded (symbol_view symbol.entry) place head name (stack_of stack.old.items)) }
+    ensures { IfOk result (λ m. mode_of m (stack_of stack.new) ≡ machine.after_head bounded (symbol_view symbol.entry) place head name (stack_of stack.old)) }
 {
     if starts(symbol) {
-        push(stack, Frame::InArgs(head, name, lists::no_types(alloc)))?;
+        stack.push(Frame::InArgs(head, name, lists::no_types(alloc)))?;
         start(alloc, stack, symbol, place)
     } else {
         let tree = build::bare(alloc, head, name);
@@ -93,7 +89,7 @@ fn after_head<'a>(
 }
 
 /// Where a field is wanted.
-fn field_name<'a>(
+pub(crate) fn field_name<'a>(
     alloc: Global,
     symbol: Symbol<'a>,
     place: Place,
@@ -113,19 +109,19 @@ fn field_name<'a>(
 }
 
 /// Behind a field's name.
-fn field_type<'a>(
-    stack: &mut SmallVec<Frame, 16>,
+pub(crate) fn field_type<'a>(
+    stack: &mut Stack<Frame>,
     symbol: Symbol<'a>,
     head: Place,
     boxed: bool,
     fields: Option<BuiltFields>,
     at: At,
 ) -> Result<Mode, Memory>
-    ensures { IfOk result (λ m. mode_of m (stack_of stack.new.items) ≡ machine.field_type bounded (symbol_view symbol.entry) head boxed (fields_view fields) at (stack_of stack.old.items)) }
+    ensures { IfOk result (λ m. mode_of m (stack_of stack.new) ≡ machine.field_type bounded (symbol_view symbol.entry) head boxed (fields_view fields) at (stack_of stack.old)) }
 {
     match symbol {
         Symbol::Colon => {
-            push(stack, Frame::InField(head, boxed, fields, at))?;
+            stack.push(Frame::InField(head, boxed, fields, at))?;
             Ok(Mode::Want)
         }
         _ => Ok(Mode::Stuck),
@@ -133,7 +129,7 @@ fn field_type<'a>(
 }
 
 /// Where an alternative is wanted.
-fn alt_name<'a>(
+pub(crate) fn alt_name<'a>(
     alloc: Global,
     symbol: Symbol<'a>,
     place: Place,
@@ -152,16 +148,16 @@ fn alt_name<'a>(
 }
 
 /// Behind an alternative's name.
-fn after_alt<'a>(
+pub(crate) fn after_alt<'a>(
     alloc: Global,
-    stack: &mut SmallVec<Frame, 16>,
+    stack: &mut Stack<Frame>,
     symbol: Symbol<'a>,
     place: Place,
     variant: Place,
     alts: Option<BuiltAlts>,
     at: At,
 ) -> Result<Mode, Memory>
-    ensures { IfOk result (λ m. mode_of m (stack_of stack.new.items) ≡ machine.after_alt bounded (symbol_view symbol.entry) place variant (alts_view alts) at (stack_of stack.old.items)) }
+    ensures { IfOk result (λ m. mode_of m (stack_of stack.new) ≡ machine.after_alt bounded (symbol_view symbol.entry) place variant (alts_view alts) at (stack_of stack.old)) }
 {
     match symbol {
         Symbol::Bar(_) => Ok(Mode::WantAlt(variant, lists::and_plain(alts, at)?)),
@@ -170,38 +166,8 @@ fn after_alt<'a>(
             Ok(Mode::Alone(build::variant(variant, alts)))
         }
         _ => {
-            push(stack, Frame::InAlt(variant, alts, at))?;
+            stack.push(Frame::InAlt(variant, alts, at))?;
             start(alloc, stack, symbol, place)
         }
-    }
-}
-
-/// One symbol more.
-pub(crate) fn mode_step<'a>(
-    alloc: Global,
-    stack: &mut SmallVec<Frame, 16>,
-    mode: Mode,
-    symbol: Symbol<'a>,
-    place: Place,
-) -> Result<Mode, Memory>
-    ensures { IfOk result (λ m. mode_of m (stack_of stack.new.items) ≡ machine.mode_step bounded (mode_of mode (stack_of stack.old.items)) (symbol_view symbol.entry) place) }
-{
-    match mode {
-        Mode::Want => start(alloc, stack, symbol, place),
-        Mode::Alone(tree) => go_on(alloc, stack, symbol, place, tree),
-        Mode::Head(head, name) => after_head(alloc, stack, symbol, place, head, name),
-        Mode::Taken(tree) => go_past(alloc, stack, symbol, place, tree),
-        Mode::WantField(at, boxed, fields) => field_name(alloc, symbol, place, at, boxed, fields),
-        Mode::AfterField(at, boxed, fields, name) => field_type(
-            stack, symbol, at, boxed, fields, name,
-        ),
-        Mode::WantAlt(at, alts) => alt_name(alloc, symbol, place, at, alts),
-        Mode::AfterAlt(at, alts, name) => after_alt(alloc, stack, symbol, place, at, alts, name),
-        Mode::AfterTake(word, tree) => Ok(after_take(symbol, word, tree)),
-        Mode::TakeOpen(word, tree) => take_open(alloc, symbol, place, word, tree),
-        Mode::TakeDots(word, tree) => take_dots(alloc, symbol, word, tree),
-        Mode::TakeName(tree, names) => take_name(alloc, symbol, tree, names),
-        Mode::TakeMore(tree, names) => take_more(alloc, symbol, place, tree, names),
-        Mode::Stuck => Ok(Mode::Stuck),
     }
 }

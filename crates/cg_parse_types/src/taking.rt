@@ -8,7 +8,7 @@ ghost use Rattle.cg_parse_types.specs.Views.{view_of};
 
 use crate::build;
 use crate::built::BuiltType;
-use crate::frame::Mode;
+use crate::mode::Mode;
 use cg_base::{Items, Memory, Name, Place};
 use cg_core::At;
 use cg_symbols::Symbol;

@@ -9,18 +9,15 @@ use Rattle.cg_symbols.specs.Follows.{Follows}
 use Rattle.cg_parse_types.specs.Grammar.{SpellsType}
 use Rattle.cg_parse_types.specs.Plain as plain_types
 use Rattle.cg_parse_types.proofs.Laws as type_laws
-use Rattle.cg_parse_types.proofs.Ends as type_ends
 use Rattle.cg_parse_types.proofs.Follow as type_follows
 use Rattle.cg_parse_patterns.specs.Grammar.{SpellsPattern}
 use Rattle.cg_parse_patterns.specs.Plain as plain_patterns
 use Rattle.cg_parse_patterns.proofs.Laws as pattern_laws
 use Rattle.cg_parse_patterns.proofs.Follow as pattern_follows
-use Rattle.cg_parse_exprs.specs.Asked.{Asked}
-use Rattle.cg_parse_exprs.specs.Plain as plain_exprs
-use Rattle.cg_parse_exprs.specs.Bounded.{within as expr_within}
-use Rattle.cg_parse_exprs.proofs.Laws as expr_laws
+use Rattle.cg_build_exprs.specs.Bounded.{within as expr_within}
+use Rattle.cg_parse_exprs.specs.Laws.{ExprStage, expr_reader}
+use Rattle.cg_parse_exprs.proofs.Exactly as exprs_exactly
 use Rattle.cg_parse_exprs.proofs.Viable as expr_ends
-use Rattle.cg_parse_exprs.proofs.Follow as expr_follows
 use Rattle.cg_parser.specs.Bounded.{bounded, within_program}
 use Rattle.cg_parser.specs.Grammar.{SpellsTokens, SpellsExpr}
 use Rattle.cg_parser.specs.Machine.{State}
@@ -30,29 +27,6 @@ use Rattle.cg_parser.specs.Views.{types, patterns, exprs, ExprHeld, Held}
 use Rattle.cg_parser.proofs.Complete.{Parts}
 use Rattle.cg_parser.proofs.Viable as viable
 use Rattle.cg_parser.proofs.Follow as follow
-
--- what the reader of expressions asks of those of types and patterns
-pub asked : Asked plain_types.Stage plain_patterns.Stage plain_types.plain_reader plain_patterns.plain_reader SpellsType SpellsPattern
-asked = record {
-  type_laws = type_laws.laws;
-  pattern_laws = pattern_laws.laws;
-  type_ends = type_laws.viable_past;
-  pattern_ends = pattern_laws.viable_past;
-  no_type = refl;
-  no_pattern = refl;
-  no_comma = type_ends.no_comma;
-  no_closing = type_ends.no_closing;
-  no_bracket = type_ends.no_bracket;
-  no_equals = pattern_laws.ends;
-  no_arrow = pattern_laws.no_arrow;
-  arrow_first = λ p. refl;
-}
-
-abbrev pub ExprStage : Type 0
-ExprStage = plain_exprs.Stage plain_types.plain_reader plain_patterns.plain_reader
-
-abbrev pub expr_reader : Reader ExprStage Seen Expr
-expr_reader = plain_exprs.plain_reader plain_types.plain_reader plain_patterns.plain_reader
 
 abbrev pub Stage : Type 0
 Stage = State plain_types.Stage plain_patterns.Stage ExprStage Pattern (List Entry)
@@ -67,10 +41,10 @@ pub parts : Parts plain_types.Stage plain_patterns.Stage ExprStage plain_types.p
 parts = record {
   type_laws = type_laws.laws;
   pattern_laws = pattern_laws.laws;
-  expr_laws = expr_laws.laws plain_types.plain_reader plain_patterns.plain_reader SpellsType SpellsPattern asked;
+  expr_laws = exprs_exactly.laws;
   type_ends = type_laws.viable_past;
   pattern_ends = pattern_laws.viable_past;
-  expr_ends = expr_ends.viable_past plain_types.plain_reader plain_patterns.plain_reader SpellsType SpellsPattern asked;
+  expr_ends = expr_ends.viable_past plain_types.plain_reader plain_patterns.plain_reader SpellsType SpellsPattern exprs_exactly.asked;
   no_type = refl;
   no_pattern = refl;
   no_all = λ p. refl;
@@ -83,10 +57,10 @@ pub laws : Reads plain SpellsTokens
 laws = viable.laws plain_types.plain_reader plain_patterns.plain_reader expr_reader SpellsType SpellsPattern SpellsExpr parts
 
 abbrev pub expr_held : ExprStage → ExprHeld
-expr_held = expr_follows.held plain_types.plain_reader plain_patterns.plain_reader types patterns type_follows.held pattern_follows.held type_follows.follows pattern_follows.follows
+expr_held = exprs_exactly.held
 
 pub expr_follow : Follows expr_reader exprs expr_held expr_within
-expr_follow = expr_follows.follows plain_types.plain_reader plain_patterns.plain_reader types patterns type_follows.held pattern_follows.held type_follows.follows pattern_follows.follows
+expr_follow = exprs_exactly.follows
 
 abbrev pub held : Stage → Held
 held = follow.held plain_types.plain_reader plain_patterns.plain_reader expr_reader types patterns exprs type_follows.held pattern_follows.held expr_held type_follows.follows pattern_follows.follows expr_follow

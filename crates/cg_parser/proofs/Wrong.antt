@@ -9,6 +9,8 @@ use Rattle.cg_parse_patterns.specs.Plain as plain_patterns
 use Rattle.cg_parse_exprs.specs.Machine.{WrongBar}
 use Rattle.cg_parse_exprs.specs.State.{is_wrong_bar}
 use Rattle.cg_parse_exprs.specs.Unfinished.{IsWrongBar}
+use Rattle.cg_parse_exprs.specs.Laws.{ExprStage, expr_reader}
+use Rattle.cg_parse_exprs.proofs.Exactly.{asked}
 use Rattle.cg_parse_exprs.proofs.Wrong as exprs_wrong
 use Rattle.cg_parser.specs.Answers.{IsWrongBarIn}
 use Rattle.cg_parser.specs.Grammar.{SpellsExpr}
@@ -17,7 +19,7 @@ use Rattle.cg_parser.specs.Views.{Held, is_wrong}
 use Rattle.cg_parser.specs.Bounded.{within_program}
 use Rattle.cg_parser.proofs.Misplaced as misplaced
 use Rattle.cg_parser.proofs.Parts.{same_run}
-use Rattle.cg_parser.proofs.Whole.{asked, parts, ExprStage, expr_reader, expr_held, Stage, plain, bounded_items, held, follows}
+use Rattle.cg_parser.proofs.Whole.{parts, expr_held, Stage, plain, bounded_items, held, follows}
 
 -- whether a reader of expressions stopped there
 abbrev stops : ExprStage → Bool

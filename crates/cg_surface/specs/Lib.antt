@@ -1,4 +1,5 @@
 pub mod Exprs
+pub mod Limits
 pub mod Patterns
 pub mod Programs
 pub mod Written

@@ -1,3 +1,4 @@
+pub mod Exactness
 pub mod Follows
 pub mod Readings
 pub mod Symbols

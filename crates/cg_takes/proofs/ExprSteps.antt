@@ -2,26 +2,15 @@
 use Rattle.std.proofs.Common.{◌≡◌, List, [], ◌∷◌, ◌++◌, map, sym, ◌∙◌, append_assoc, append-nil}
 use Rattle.std.proofs.lemmas.List.Folds.{flat_map-map}
 use Rattle.std.specs.List.{flat_map}
-use Rattle.cg_base.specs.declared.place.Place.{Place}
 use Rattle.cg_surface.specs.declared.expr.SExpr.{SExpr, the_lemmas}
-use Rattle.cg_surface.specs.declared.expr.FExpr.{FExpr, fold_out-FExpr}
-use Rattle.cg_surface.specs.declared.expr.Bind.{Bind, fold_out-Bind}
-use Rattle.cg_surface.specs.declared.expr.Alt.{Alt, fold_out-Alt}
-use Rattle.cg_surface.specs.Exprs.{Expr, Exprs, FieldExprs, Binds, Alts, OneField, OneBind, OneAlt, layer, alt_layer, bind_layer, field_layer, expr_layer, expr_of, field_of, bind_of, alt_of, to_exprs, to_fields, to_binds, to_alts, exprs_behind, fields_behind, binds_behind, alts_behind}
+use Rattle.cg_surface.specs.declared.expr.FExpr.{FExpr}
+use Rattle.cg_surface.specs.declared.expr.Bind.{Bind}
+use Rattle.cg_surface.specs.declared.expr.Alt.{Alt}
+use Rattle.cg_surface.specs.Exprs.{Expr, Exprs, FieldExprs, Binds, Alts, OneField, OneBind, OneAlt, expr_of, field_of, bind_of, alt_of, to_exprs, to_fields, to_binds, to_alts, exprs_behind, fields_behind, binds_behind, alts_behind}
 use Rattle.cg_surface.specs.Exprs as exprs
-use Rattle.cg_surface.specs.Patterns.{pattern_of}
 use Rattle.cg_takes.specs.Heads.{Heads}
 use Rattle.cg_takes.specs.Missing.{absent_in, absent_exprs, absent_values, absent_binds, absent_choices}
 use Rattle.cg_takes.proofs.SaySteps.{loop_end}
-
-field_is : (f : FExpr) → field_of f ≡ record { at = f.at; value = expr_of f.value }
-field_is f = fold_out-FExpr (Place → Expr) OneAlt OneBind OneField Expr layer alt_layer bind_layer field_layer expr_layer f
-
-bind_is : (b : Bind) → bind_of b ≡ record { pattern = pattern_of b.pat; value = expr_of b.value; seen = b.seen }
-bind_is b = fold_out-Bind (Place → Expr) OneAlt OneBind OneField Expr layer alt_layer bind_layer field_layer expr_layer b
-
-alt_is : (a : Alt) → alt_of a ≡ record { place = a.place; con = a.con; pattern = pattern_of a.pat; body = expr_of a.body }
-alt_is a = fold_out-Alt (Place → Expr) OneAlt OneBind OneField Expr layer alt_layer bind_layer field_layer expr_layer a
 
 module _ (heads : Heads) where
   exprs_split : (before : Exprs) (es : List Expr) → absent_exprs heads (exprs_behind before es) ≡ absent_exprs heads before ++ flat_map (absent_in heads) es

@@ -4,17 +4,14 @@ use Rattle.std.proofs.lemmas.List.{map-append, take_more}
 use Rattle.std.specs.Str.{bytes_eq}
 use Rattle.std.specs.Cmp.Lexicographic.{nat_list_eq_equiv}
 use Rattle.std.specs.BTreeSet.{BTreeSet, IsEmpty}
-use Rattle.cg_surface.specs.declared.written.SPart.{SPart, fold_out-SPart}
-use Rattle.cg_surface.specs.Written.{Written, OneField, OneAlt, layer, alt_layer, field_layer, type_layer, written_of, field_of, to_fields, fields_push}
+use Rattle.cg_surface.specs.declared.written.SPart.{SPart}
+use Rattle.cg_surface.specs.Written.{field_of, to_fields, fields_push}
 use Rattle.cg_desugar.specs.Declared.{is_among}
 use Rattle.cg_declared.specs.Tables.{has, IsSetOf}
 use Rattle.cg_declared.proofs.Tables.{set_none}
-use Rattle.cg_base.specs.declared.place.Place.{Place}
+use Rattle.cg_surface.proofs.Views.{type_field_is}
 use Rattle.cg_takes.specs.Heads.{field_names}
 use denote.Ref.{Bor}
-
-pub field_is : (f : SPart) → field_of f ≡ record { at = f.at; ty = written_of f.ty }
-field_is f = fold_out-SPart (Place → Written) OneAlt OneField Written layer alt_layer field_layer type_layer f
 
 -- is a name among these, or the last
 pub among_more : (names : List (List ℕ)) (name other : List ℕ) → is_among (names ++ name ∷ []) other ≡ (is_among names other || bytes_eq other name)
@@ -45,7 +42,7 @@ names_more parts i d within =
     ap (λ l. field_names (to_fields (map field_of l))) (take_more parts i d within)
     ∙ ap (λ l. field_names (to_fields l)) (map-append field_of (take i parts) (get_or parts i d ∷ []))
     ∙ ap field_names (fields_push (map field_of (take i parts)) (field_of (get_or parts i d)))
-    ∙ ap (λ f. field_names (to_fields (map field_of (take i parts))) ++ f.at.name ∷ []) (field_is (get_or parts i d))
+    ∙ ap (λ f. field_names (to_fields (map field_of (take i parts))) ++ f.at.name ∷ []) (type_field_is (get_or parts i d))
 
 pub set_turn : (parts : List SPart) (i : ℕ) (x : SPart) (set new : BTreeSet (Bor (List ℕ))) → i < length parts → x ≡ get_or parts i x → IsSetOf (field_names (to_fields (map field_of (take i parts)))) set
     → ((other : List ℕ) → has new other ≡ (bytes_eq x.at.name other || has set other)) → IsSetOf (field_names (to_fields (map field_of (take (i + 1) parts)))) new

@@ -7,44 +7,15 @@ use Rattle.std.specs.List.{slice_get}
 use Rattle.std.specs.Option.{option_map}
 use Rattle.std.specs.Str.{bytes_eq}
 use Rattle.cg_base.specs.Types.{Tau}
-use Rattle.cg_base.specs.declared.place.Place.{Place}
 use Rattle.cg_core.specs.declared.at.At.{At}
-use Rattle.cg_surface.specs.declared.written.STy.{STy, fold_out-STy, the_lemmas}
-use Rattle.cg_surface.specs.declared.written.STyForm.{STyForm, fold-STyForm, fold_out-STyForm}
+use Rattle.cg_surface.specs.declared.written.STy.{STy, the_lemmas}
 use Rattle.cg_surface.specs.declared.written.STyForm.TheVariants.{Tuple}
-use Rattle.cg_surface.specs.declared.written.STyForm.TheOpen as open'
-use Rattle.cg_surface.specs.declared.written.STyForm.TheOpen.{STyForm-F}
-use Rattle.cg_surface.specs.Written.{Written, Writtens, OneAlt, OneField, layer, alt_layer, field_layer, type_layer, written_of, place_of, to_types, types_behind, no_types, and_type}
+pub use Rattle.cg_surface.proofs.Views.{place_at}
+use Rattle.cg_surface.specs.Written.{Written, Writtens, written_of, to_types, types_behind, no_types, and_type}
 use Rattle.cg_surface.specs.Written as types
 use Rattle.cg_desugar.specs.Declared.{is_variable, looked_up, plain_types}
 use Rattle.cg_desugar.specs.Expand.{position_of, types_length}
 use Rattle.cg_takes.specs.Heads.{Head, Heads, parameter, other, head_of, heads_of, head_by_name, or_other, synonym_head, unless_plain, named_head, applied_head}
-
--- ---- places
-
--- a form stands at the place that it is given
-form_of : STyForm → Place → Written
-form_of = fold-STyForm (Place → Written) OneAlt OneField Written layer alt_layer field_layer type_layer
-
-layer_at : (l : STyForm-F (Place → Written) OneAlt OneField Written) (p : Place) → place_of (layer l p) ≡ p
-layer_at (open'.Name n ts) p = refl
-layer_at open'.Unit p = refl
-layer_at (open'.Tuple ts) p = refl
-layer_at (open'.Paren t) p = refl
-layer_at (open'.Arrow a b) p = refl
-layer_at (open'.Fields gs boxed) p = refl
-layer_at (open'.Variant choices) p = refl
-layer_at (open'.Bang t) p = refl
-layer_at (open'.TakeSome t ns) p = refl
-layer_at (open'.TakeAll t q) p = refl
-
-form_at : (f : STyForm) (p : Place) → place_of (form_of f p) ≡ p
-unfolding form_of
-form_at f p = ap (λ g. place_of (g p)) (fold_out-STyForm (Place → Written) OneAlt OneField Written layer alt_layer field_layer type_layer f) ∙ layer_at _ p
-
-pub place_at : (t : STy) → place_of (written_of t) ≡ t.place
-unfolding form_of
-place_at t = ap place_of (fold_out-STy (Place → Written) OneAlt OneField Written layer alt_layer field_layer type_layer t) ∙ form_at t.form t.place
 
 -- a tuple
 pub tuple_is : (t : STy) (ts : List STy) → t.form ≡ Tuple ts → written_of t ≡ types.tuple t.place (to_types (map written_of ts))

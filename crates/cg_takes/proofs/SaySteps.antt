@@ -8,9 +8,9 @@ use Rattle.std.proofs.lemmas.List.Folds.{flat_map-map}
 use Rattle.std.specs.List.{flat_map}
 use Rattle.cg_base.specs.declared.place.Place.{Place}
 use Rattle.cg_surface.specs.declared.written.STy.{STy, the_lemmas}
-use Rattle.cg_surface.specs.declared.written.SPart.{SPart, fold_out-SPart}
-use Rattle.cg_surface.specs.declared.written.SAlt.{SAlt, fold_out-SAlt}
-use Rattle.cg_surface.specs.Written.{Written, Writtens, WrittenFields, WrittenAlts, OneAlt, OneField, layer, alt_layer, field_layer, type_layer, written_of, field_of, alt_of, to_types, to_fields, to_alts, types_behind, fields_behind, alts_behind}
+use Rattle.cg_surface.specs.declared.written.SPart.{SPart}
+use Rattle.cg_surface.specs.declared.written.SAlt.{SAlt}
+use Rattle.cg_surface.specs.Written.{Written, Writtens, WrittenFields, WrittenAlts, OneAlt, OneField, written_of, field_of, alt_of, to_types, to_fields, to_alts, types_behind, fields_behind, alts_behind}
 use Rattle.cg_surface.specs.Written as types
 use Rattle.cg_takes.specs.Heads.{Head, Heads, or_other, fields_in, head_of, heads_of, shape_of, shape_at, chosen}
 use Rattle.cg_takes.proofs.HeadSteps.{heads_list}

@@ -3,7 +3,8 @@
 
 ghost use Rattle.std.specs.Prelude.{◌++◌, map};
 ghost use Rattle.cg_surface.specs.Exprs.{expr_of, field_of, bind_of, alt_of, to_exprs, to_fields, to_binds, to_alts};
-ghost use Rattle.cg_takes.specs.Missing.{absent_in, absent_exprs, absent_values, absent_binds, absent_choices};
+ghost use Rattle.cg_surface.specs.Written.{written_of};
+ghost use Rattle.cg_takes.specs.Missing.{absent, absent_in, absent_exprs, absent_values, absent_binds, absent_choices};
 ghost use Rattle.cg_takes.specs.Says.{TakesSay};
 ghost use Rattle.cg_takes.specs.Views.{heads_in};
 
@@ -11,7 +12,7 @@ use crate::fault::TakeFault;
 use crate::known::HeadTable;
 use crate::types::{check_all, check_alone};
 use cg_base::Items;
-use cg_surface::{Alt, Bind, FExpr, SExpr, SForm};
+use cg_surface::{Alt, Bind, FExpr, SExpr, SForm, STy};
 use std::alloc::Global;
 
 /// The first place of a field that is taken where it isn't, in the types of an expression. The table has the head of each synonym. Want
@@ -28,10 +29,7 @@ pub fn check_expr<'a>(
         SForm::Name(_, types) => check_all(alloc, table, types),
         SForm::Number(_) | SForm::Bool(_) | SForm::Unit | SForm::Con(_, None) => Ok(()),
         SForm::Paren(inner) | SForm::Upcast(inner) => check_expr(alloc, table, inner),
-        SForm::Sig(inner, ty) => {
-            check_expr(alloc, table, inner)?;
-            check_alone(alloc, table, ty)
-        }
+        SForm::Sig(inner, ty) => check_annotated(alloc, table, inner, ty),
         SForm::Tuple(items) => check_exprs(alloc, table, items),
         SForm::Fields(fields) => check_fields(alloc, table, fields),
         SForm::Con(_, Some(inner)) => check_expr(alloc, table, inner),
@@ -46,15 +44,41 @@ pub fn check_expr<'a>(
             check_binds(alloc, table, binds)?;
             check_expr(alloc, table, body)
         }
-        SForm::If(condition, _, yes, no) => {
-            check_expr(alloc, table, condition)?;
-            check_two(alloc, table, yes, no)
-        }
+        SForm::If(condition, _, yes, no) => check_if(alloc, table, condition, yes, no),
         SForm::Match(value, _, alternatives) => {
             check_expr(alloc, table, value)?;
             check_alternatives(alloc, table, alternatives)
         }
     }
+}
+
+// The same in an expression with its type.
+#[cycle(check)]
+fn check_annotated<'a>(
+    alloc: Global,
+    table: &HeadTable<'a>,
+    expr: &'a SExpr,
+    ty: &'a STy,
+) -> Result<(), TakeFault>
+    ensures { TakesSay (absent_in (heads_in table.now) (expr_of expr.now) ++ absent (heads_in table.now) (written_of ty.now)) result }
+{
+    check_expr(alloc, table, expr)?;
+    check_alone(alloc, table, ty)
+}
+
+// The same in an `if`.
+#[cycle(check)]
+fn check_if<'a>(
+    alloc: Global,
+    table: &HeadTable<'a>,
+    condition: &'a SExpr,
+    yes: &'a SExpr,
+    no: &'a SExpr,
+) -> Result<(), TakeFault>
+    ensures { TakesSay (absent_in (heads_in table.now) (expr_of condition.now) ++ (absent_in (heads_in table.now) (expr_of yes.now) ++ absent_in (heads_in table.now) (expr_of no.now))) result }
+{
+    check_expr(alloc, table, condition)?;
+    check_two(alloc, table, yes, no)
 }
 
 // The same in two expressions.

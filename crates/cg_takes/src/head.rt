@@ -17,10 +17,18 @@ use std::collections::BTreeSet;
 use std::rc::Rc;
 
 /// The names of the fields of a record: those that are written, which synonyms share, or those of a tuple of so many components.
-#[derive(Drop)]
 pub enum Fields<'a> {
     Written(Rc<Names<'a>>),
     Components(usize),
+}
+
+impl<'a> Drop for Fields<'a> {
+    fn drop(self) {
+        match self {
+            Fields::Written(names) => drop(names),
+            Fields::Components(_) => {}
+        }
+    }
 }
 
 /// What the body of a synonym is at its top: a record, one of the synonym's own parameters, also observed, or another type

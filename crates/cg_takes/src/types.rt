@@ -1,11 +1,12 @@
 // Fields that are taken in written types.
 #![tactic(auto, using(std::proofs::lemmas::Grind::common_steps, crate::proofs::SaySteps::say_steps))]
 
-ghost use Rattle.std.specs.Prelude.{◌≡◌, [], IfOk, map};
+ghost use Rattle.std.specs.Prelude.{◌≡◌, ◌++◌, [], IfOk, None, Some, map};
 ghost use Rattle.std.specs.List.{flat_map};
 ghost use Rattle.std.specs.Option.{option_map};
 ghost use Rattle.cg_surface.specs.Written.{written_of, field_of, alt_of, to_types, to_fields, to_alts};
-ghost use Rattle.cg_takes.specs.Heads.{heads_of, shape_of, shape_by_name, shape_at, chosen};
+ghost use Rattle.cg_desugar.specs.Declared.{is_among};
+ghost use Rattle.cg_takes.specs.Heads.{field_names, heads_of, shape_of, shape_by_name, shape_at, chosen};
 ghost use Rattle.cg_takes.specs.Missing.{has_field, if_absent, if_no_record, absent, absent_all, absent_fields, absent_alts};
 ghost use Rattle.cg_takes.specs.Says.{TakesSay};
 ghost use Rattle.cg_takes.specs.Views.{test_of, heads_in};
@@ -57,15 +58,8 @@ fn check_type<'a>(
             Ok(Some(Fields::Components(types.len())))
         }
         STyForm::Paren(inner) => check_type(alloc, table, inner),
-        STyForm::Arrow(from, to) => {
-            check_type(alloc, table, from)?;
-            check_type(alloc, table, to)?;
-            Ok(None)
-        }
-        STyForm::Fields(parts, _) => {
-            check_parts(alloc, table, parts)?;
-            Ok(Some(Fields::of_parts(alloc, parts)?))
-        }
+        STyForm::Arrow(from, to) => check_arrow(alloc, table, from, to),
+        STyForm::Fields(parts, _) => check_record(alloc, table, parts),
         STyForm::Variant(alternatives) => {
             check_alternatives(alloc, table, alternatives)?;
             Ok(None)
@@ -74,6 +68,36 @@ fn check_type<'a>(
         STyForm::TakeSome(inner, names) => taken(check_type(alloc, table, inner)?, names),
         STyForm::TakeAll(inner, place) => all_taken(check_type(alloc, table, inner)?, *place),
     }
+}
+
+// The same of a type of functions, which is no record.
+#[cycle(check)]
+fn check_arrow<'a>(
+    alloc: Global,
+    table: &HeadTable<'a>,
+    from: &'a STy,
+    to: &'a STy,
+) -> Result<Option<Fields<'a>>, TakeFault>
+    ensures says { TakesSay (absent (heads_in table.now) (written_of from.now) ++ absent (heads_in table.now) (written_of to.now)) result }
+    ensures fields { IfOk result (λ fields. fields ≡ None) }
+{
+    check_type(alloc, table, from)?;
+    check_type(alloc, table, to)?;
+    Ok(None)
+}
+
+// The same of a record.
+#[cycle(check)]
+fn check_record<'a>(
+    alloc: Global,
+    table: &HeadTable<'a>,
+    parts: &'a Items<SPart>,
+) -> Result<Option<Fields<'a>>, TakeFault>
+    ensures says { TakesSay (absent_fields (heads_in table.now) (to_fields (map field_of parts.now))) result }
+    ensures fields { IfOk result (λ fields. option_map test_of fields ≡ Some (is_among (field_names (to_fields (map field_of parts.now))))) }
+{
+    check_parts(alloc, table, parts)?;
+    Ok(Some(Fields::of_parts(alloc, parts)?))
 }
 
 // The same of a type by its name.

@@ -10,7 +10,7 @@ abbrev pub IsWordOf : Val → Tau → Type 0
 IsWordOf (number n) (word w) = n < 2 ^ bits w
 IsWordOf _ _ = ⊥
 
--- the text of a value at its type (docs/LANGUAGE.md, "Printed values")
+-- the text of a value at its type (docs/LANGUAGE.md, "Values")
 abbrev pub printed : Val → List ℕ
 printed (number n) = decimal n
 printed _ = []

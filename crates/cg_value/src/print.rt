@@ -10,7 +10,7 @@ use itoa::Buffer;
 use std::alloc::Global;
 
 /// The text of a value that fits its type, a word so far: the number in decimal digits, without leading zeros
-/// (docs/LANGUAGE.md, "Printed values"). The one error is want of memory.
+/// (docs/LANGUAGE.md, "Values"). The one error is want of memory.
 pub fn print_value(alloc: Global, value: &Value, ty: &Ty) -> Result<Vec<u8>, Memory>
     requires fits { IsWordOf (value_of value.now) (type_of ty.now) }
     ensures { IfOk result (λ text. text.items ≡ printed (value_of value.now)) }

@@ -14,7 +14,8 @@ use Rattle.cg_desugar.specs.Declared.{is_variable}
 use Rattle.cg_desugar.specs.Expand.{Bodies, bytes_le, component, components, expanded, expanded_all, expanded_alts, expanded_fields, in_order, inserted, position_of, types_length}
 use Rattle.cg_written.specs.Alternatives.{alt_inserted, alt_name, alts_in_order}
 use Rattle.cg_written.specs.Pieces.{alt_piece, applied_type, named_type, payload_type}
-use Rattle.cg_written.proofs.TypeLists.{types_at, fields_at, types_counted, alt_is}
+use Rattle.cg_written.proofs.TypeLists.{types_at, fields_at, types_counted}
+use Rattle.cg_surface.proofs.Views.{type_alt_is}
 
 module _ (known : Bodies) (vars : List (List ℕ)) where
   -- a name
@@ -86,7 +87,7 @@ module _ (known : Bodies) (vars : List (List ℕ)) where
   alts_list before (a ∷ choices) =
       alts_list (and_one before (alt_of a).at (alt_of a).ty) choices
       ∙ one_alt before (alt_of a) (map (alt_piece known vars) choices)
-      ∙ ap (λ (o : OneAlt). expanded_alts known vars before (record { name = o.at.name; ty = payload_type known vars o.ty; taken = false } ∷ map (alt_piece known vars) choices)) (alt_is a)
+      ∙ ap (λ (o : OneAlt). expanded_alts known vars before (record { name = o.at.name; ty = payload_type known vars o.ty; taken = false } ∷ map (alt_piece known vars) choices)) (type_alt_is a)
 
   alts_mapped : (choices : List SAlt) → expanded_alts known vars (to_alts (map alt_of choices)) [] ≡ map (alt_piece known vars) choices
   unfolding to_alts

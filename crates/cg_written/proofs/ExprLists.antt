@@ -1,14 +1,14 @@
 -- Lists of expressions of the code, an item further, and how many items they have.
 use Rattle.std.proofs.Common.{◌≡◌, ℕ, ◌+◌, ◌<◌, List, [], ◌∷◌, length, map, take, get_or, refl, ap, ◌∙◌, arith}
 use Rattle.std.proofs.lemmas.List.{map-append, take_more, length-map}
-use Rattle.cg_base.specs.declared.place.Place.{Place}
+use Rattle.cg_surface.proofs.Views.{value_is, bind_is, alternative_is, exprs_none, values_none, choices_none}
 use Rattle.cg_surface.specs.declared.expr.SExpr.{SExpr}
 use Rattle.cg_surface.specs.declared.expr.SForm.{the_lemmas}
-use Rattle.cg_surface.specs.declared.expr.FExpr.{FExpr, fold_out-FExpr}
-use Rattle.cg_surface.specs.declared.expr.Bind.{Bind, fold_out-Bind}
-use Rattle.cg_surface.specs.declared.expr.Alt.{Alt, fold_out-Alt}
+use Rattle.cg_surface.specs.declared.expr.FExpr.{FExpr}
+use Rattle.cg_surface.specs.declared.expr.Bind.{Bind}
+use Rattle.cg_surface.specs.declared.expr.Alt.{Alt}
 use Rattle.cg_surface.specs.Patterns.{pattern_of}
-use Rattle.cg_surface.specs.Exprs.{Expr, Exprs, FieldExprs, OneAlt, OneBind, OneField, layer, alt_layer, bind_layer, field_layer, expr_layer, expr_of, alt_of, bind_of, field_of, no_exprs, and_expr, no_fields, and_field, and_bind, no_alts, and_alt, exprs_behind, fields_behind, to_exprs, to_fields, to_binds, to_alts, exprs_push, fields_push, binds_push, alts_push, binds_none}
+use Rattle.cg_surface.specs.Exprs.{Expr, Exprs, FieldExprs, OneAlt, OneBind, OneField, expr_of, alt_of, bind_of, field_of, no_exprs, and_expr, no_fields, and_field, and_bind, and_alt, exprs_behind, fields_behind, to_exprs, to_fields, to_binds, to_alts, exprs_push, fields_push, binds_push, alts_push, binds_none}
 use Rattle.cg_desugar.specs.Takes.{exprs_length, values_length}
 
 exprs_more : (before : Exprs) (es : List Expr) → exprs_length (exprs_behind before es) ≡ exprs_length before + length es
@@ -27,15 +27,6 @@ pub values_counted : (fs : List FExpr) → values_length (to_fields (map field_o
 unfolding to_fields
 values_counted fs = values_more no_fields (map field_of fs) ∙ omega (arith, length-map fs field_of)
 
-pub field_is : (f : FExpr) → field_of f ≡ record { at = f.at; value = expr_of f.value }
-field_is f = fold_out-FExpr (Place → Expr) OneAlt OneBind OneField Expr layer alt_layer bind_layer field_layer expr_layer f
-
-pub bind_is : (b : Bind) → bind_of b ≡ record { pattern = pattern_of b.pat; value = expr_of b.value; seen = b.seen }
-bind_is b = fold_out-Bind (Place → Expr) OneAlt OneBind OneField Expr layer alt_layer bind_layer field_layer expr_layer b
-
-pub alt_is : (a : Alt) → alt_of a ≡ record { place = a.place; con = a.con; pattern = pattern_of a.pat; body = expr_of a.body }
-alt_is a = fold_out-Alt (Place → Expr) OneAlt OneBind OneField Expr layer alt_layer bind_layer field_layer expr_layer a
-
 -- each says first that the item is itself, so that `grind` finds it where the item is read
 pub exprs_at : (es : List SExpr) (i : ℕ) (d : SExpr) → i < length es → (get_or es i d ≡ get_or es i d)
     × (to_exprs (map expr_of (take (i + 1) es)) ≡ and_expr (to_exprs (map expr_of (take i es))) (expr_of (get_or es i d)))
@@ -49,7 +40,7 @@ pub values_at : (fs : List FExpr) (i : ℕ) (d : FExpr) → i < length fs → (g
 values_at fs i d lt = (
   refl,
   ap (λ l. to_fields (map field_of l)) (take_more fs i d lt) ∙ ap to_fields (map-append field_of (take i fs) (get_or fs i d ∷ [])) ∙ fields_push (map field_of (take i fs)) (field_of (get_or fs i d))
-      ∙ ap (λ (f : OneField). and_field (to_fields (map field_of (take i fs))) f.at f.value) (field_is (get_or fs i d)),
+      ∙ ap (λ (f : OneField). and_field (to_fields (map field_of (take i fs))) f.at f.value) (value_is (get_or fs i d)),
 )
 
 pub binds_at : (bs : List Bind) (i : ℕ) (d : Bind) → i < length bs → (get_or bs i d ≡ get_or bs i d)
@@ -66,19 +57,7 @@ pub alts_at : (choices : List Alt) (i : ℕ) (d : Alt) → i < length choices �
 alts_at choices i d lt = (
   refl,
   ap (λ l. to_alts (map alt_of l)) (take_more choices i d lt) ∙ ap to_alts (map-append alt_of (take i choices) (get_or choices i d ∷ [])) ∙ alts_push (map alt_of (take i choices)) (alt_of (get_or choices i d))
-      ∙ ap (λ (a : OneAlt). and_alt (to_alts (map alt_of (take i choices))) a.place a.con a.pattern a.body) (alt_is (get_or choices i d)),
+      ∙ ap (λ (a : OneAlt). and_alt (to_alts (map alt_of (take i choices))) a.place a.con a.pattern a.body) (alternative_is (get_or choices i d)),
 )
 
-pub exprs_none : to_exprs [] ≡ no_exprs
-unfolding to_exprs
-exprs_none = refl
-
-pub values_none : to_fields [] ≡ no_fields
-unfolding to_fields
-values_none = refl
-
-pub alts_none : to_alts [] ≡ no_alts
-unfolding to_alts
-alts_none = refl
-
-pub ruleset expr_lists = (exprs_counted, values_counted, exprs_at, values_at, binds_at, alts_at, exprs_none, values_none, binds_none, alts_none, the_lemmas)
+pub ruleset expr_lists = (exprs_counted, values_counted, exprs_at, values_at, binds_at, alts_at, exprs_none, values_none, binds_none, choices_none, the_lemmas)

@@ -12,7 +12,8 @@ use Rattle.cg_surface.specs.Programs.{Entry, entry_of}
 use Rattle.cg_surface.specs.Written.{types_none}
 use Rattle.cg_desugar.specs.Expand.{Bodies}
 use Rattle.cg_written.specs.Measures.{greatest_in, greatest_list, greatest_values, greatest_binds, greatest_alts, greatest_entry, greatest_part}
-use Rattle.cg_written.proofs.ExprLists.{exprs_at, values_at, binds_at, alts_at, exprs_none, values_none, alts_none, field_is, bind_is, alt_is}
+use Rattle.cg_written.proofs.ExprLists.{exprs_at, values_at, binds_at, alts_at}
+use Rattle.cg_surface.proofs.Views.{value_is, bind_is, alternative_is, exprs_none, values_none, choices_none}
 use Rattle.cg_written.proofs.SizeSteps.{type_within}
 use Rattle.cg_written.proofs.TypeLists.{types_at}
 
@@ -34,7 +35,7 @@ module _ (known : Bodies) where
   in_values before [] i d lt = absurd (omega arith)
   in_values before (f ∷ fs) zero d lt =
       let g : OneField = field_of f in
-      omega (arith, values_le (and_field before g.at g.value) (map field_of fs), ap (λ (h : OneField). greatest_in known h.value) (field_is f))
+      omega (arith, values_le (and_field before g.at g.value) (map field_of fs), ap (λ (h : OneField). greatest_in known h.value) (value_is f))
   in_values before (f ∷ fs) (suc i) d lt = in_values (and_field before (field_of f).at (field_of f).value) fs i d (omega arith)
 
   binds_le : (before : Binds) (bs : List OneBind) → greatest_binds known before ≤ greatest_binds known (binds_behind before bs)
@@ -56,7 +57,7 @@ module _ (known : Bodies) where
   in_alts before [] i d lt = absurd (omega arith)
   in_alts before (a ∷ choices) zero d lt =
       let g : OneAlt = alt_of a in
-      omega (arith, alts_le (and_alt before g.place g.con g.pattern g.body) (map alt_of choices), ap (λ (h : OneAlt). greatest_in known h.body) (alt_is a))
+      omega (arith, alts_le (and_alt before g.place g.con g.pattern g.body) (map alt_of choices), ap (λ (h : OneAlt). greatest_in known h.body) (alternative_is a))
   in_alts before (a ∷ choices) (suc i) d lt = in_alts (and_alt before (alt_of a).place (alt_of a).con (alt_of a).pattern (alt_of a).body) choices i d (omega arith)
 
   -- each says first that the item is itself, so that `grind` finds it where the item is read
@@ -97,4 +98,4 @@ module _ (known : Bodies) where
   pub entry_within : (items : List Item) (i : ℕ) (d : Item) → i < length items → (get_or items i d ≡ get_or items i d) × (greatest_entry known (entry_of (get_or items i d)) ≤ greatest_part known (map entry_of items))
   entry_within items i d lt = (refl, in_entries items i d lt)
 
-pub ruleset measure_steps = (types_at, type_within, types_none, exprs_at, values_at, binds_at, alts_at, expr_within, value_within, bind_within, alt_within, entry_at, entry_within, exprs_none, values_none, binds_none, alts_none, the_lemmas)
+pub ruleset measure_steps = (types_at, type_within, types_none, exprs_at, values_at, binds_at, alts_at, expr_within, value_within, bind_within, alt_within, entry_at, entry_within, exprs_none, values_none, binds_none, choices_none, the_lemmas)

@@ -1,10 +1,10 @@
 -- Lists of patterns of the code, an item further, and how many items they have.
 use Rattle.std.proofs.Common.{◌≡◌, ℕ, ◌+◌, ◌<◌, List, [], ◌∷◌, length, map, take, get_or, refl, ap, ◌∙◌, arith}
 use Rattle.std.proofs.lemmas.List.{map-append, take_more, length-map}
-use Rattle.cg_base.specs.declared.place.Place.{Place}
+use Rattle.cg_surface.proofs.Views.{pattern_field_is}
 use Rattle.cg_surface.specs.declared.pattern.Pat.{Pat, the_lemmas}
-use Rattle.cg_surface.specs.declared.pattern.FPat.{FPat, fold_out-FPat}
-use Rattle.cg_surface.specs.Patterns.{Pattern, Patterns, OneField, layer, field_layer, pattern_layer, pattern_of, field_of, and_pattern, and_field, no_patterns, patterns_behind, to_patterns, to_fields, patterns_push, fields_push, patterns_none, fields_none}
+use Rattle.cg_surface.specs.declared.pattern.FPat.{FPat}
+use Rattle.cg_surface.specs.Patterns.{Pattern, Patterns, OneField, pattern_of, field_of, and_pattern, and_field, no_patterns, patterns_behind, to_patterns, to_fields, patterns_push, fields_push, patterns_none, fields_none}
 use Rattle.cg_desugar.specs.Takes.{patterns_length}
 
 patterns_more : (before : Patterns) (xs : List Pattern) → patterns_length (patterns_behind before xs) ≡ patterns_length before + length xs
@@ -14,9 +14,6 @@ patterns_more before (x ∷ xs) = patterns_more (and_pattern before x) xs ∙ om
 pub patterns_counted : (xs : List Pat) → patterns_length (to_patterns (map pattern_of xs)) ≡ length xs
 unfolding to_patterns
 patterns_counted xs = patterns_more no_patterns (map pattern_of xs) ∙ omega (arith, length-map xs pattern_of)
-
-field_is : (f : FPat) → field_of f ≡ record { at = f.at; pattern = pattern_of f.pat }
-field_is f = fold_out-FPat (Place → Pattern) OneField Pattern layer field_layer pattern_layer f
 
 -- each says first that the item is itself, so that `grind` finds it where the item is read
 pub patterns_at : (xs : List Pat) (i : ℕ) (d : Pat) → i < length xs → (get_or xs i d ≡ get_or xs i d)
@@ -31,7 +28,7 @@ pub fields_at : (fs : List FPat) (i : ℕ) (d : FPat) → i < length fs → (get
 fields_at fs i d lt = (
   refl,
   ap (λ l. to_fields (map field_of l)) (take_more fs i d lt) ∙ ap to_fields (map-append field_of (take i fs) (get_or fs i d ∷ [])) ∙ fields_push (map field_of (take i fs)) (field_of (get_or fs i d))
-      ∙ ap (λ (f : OneField). and_field (to_fields (map field_of (take i fs))) f.at f.pattern) (field_is (get_or fs i d)),
+      ∙ ap (λ (f : OneField). and_field (to_fields (map field_of (take i fs))) f.at f.pattern) (pattern_field_is (get_or fs i d)),
 )
 
 pub ruleset pattern_lists = (patterns_counted, patterns_at, fields_at, patterns_none, fields_none, the_lemmas)

@@ -9,7 +9,8 @@ use Rattle.cg_surface.specs.Written.{Written, Writtens, WrittenFields, WrittenAl
 use Rattle.cg_surface.specs.Written as types
 use Rattle.cg_desugar.specs.Expand.{Bodies}
 use Rattle.cg_written.specs.Sizes.{greatest, greatest_alt, greatest_field, greatest_of, greatest_payload, payload_size, size, total_alts}
-use Rattle.cg_written.proofs.TypeLists.{types_at, fields_at, alts_at, field_is, alt_is}
+use Rattle.cg_written.proofs.TypeLists.{types_at, fields_at, alts_at}
+use Rattle.cg_surface.proofs.Views.{type_field_is, type_alt_is}
 
 pub size-greatest : (known : Bodies) (t : Written) → size known t ≤ greatest known t
 size-greatest known (types.named p n args) = omega arith
@@ -50,7 +51,7 @@ module _ (known : Bodies) where
   in_fields before [] i d lt = absurd (omega arith)
   in_fields before (f ∷ fs) zero d lt =
       let g : OneField = field_of f in
-      omega (arith, fields_le (and_field before g.at g.ty) (map field_of fs), ap (λ (h : OneField). greatest known h.ty) (field_is f))
+      omega (arith, fields_le (and_field before g.at g.ty) (map field_of fs), ap (λ (h : OneField). greatest known h.ty) (type_field_is f))
   in_fields before (f ∷ fs) (suc i) d lt = in_fields (and_field before (field_of f).at (field_of f).ty) fs i d (omega arith)
 
   alts_le : (before : WrittenAlts) (choices : List OneAlt) → greatest_alt known before ≤ greatest_alt known (alts_behind before choices)
@@ -62,7 +63,7 @@ module _ (known : Bodies) where
   in_alts before [] i d lt = absurd (omega arith)
   in_alts before (a ∷ choices) zero d lt =
       let b : OneAlt = alt_of a in
-      omega (arith, alts_le (and_one before b.at b.ty) (map alt_of choices), greatest_one known before b.at b.ty, ap (λ (c : OneAlt). greatest_payload known c.ty) (alt_is a))
+      omega (arith, alts_le (and_one before b.at b.ty) (map alt_of choices), greatest_one known before b.at b.ty, ap (λ (c : OneAlt). greatest_payload known c.ty) (type_alt_is a))
   in_alts before (a ∷ choices) (suc i) d lt = in_alts (and_one before (alt_of a).at (alt_of a).ty) choices i d (omega arith)
 
   -- each says first that the item is itself, so that `grind` finds it where the item is read

@@ -1,13 +1,13 @@
 -- Lists of written types of the code, an item further, and how many items they have.
-use Rattle.std.proofs.Common.{◌≡◌, ℕ, ◌+◌, ◌<◌, max, List, [], ◌∷◌, length, map, take, get_or, Option, Some, None, refl, sym, ap, ◌∙◌, arith}
+use Rattle.std.proofs.Common.{◌≡◌, ℕ, ◌+◌, ◌<◌, max, List, [], ◌∷◌, length, map, take, get_or, Option, Some, None, refl, ap, ◌∙◌, arith}
 use Rattle.std.proofs.lemmas.List.{map-append, take_more, length-map}
 use Rattle.std.specs.Option.{option_map}
-use Rattle.cg_base.specs.declared.place.Place.{Place}
+use Rattle.cg_surface.proofs.Views.{type_field_is, type_alt_is}
 use Rattle.cg_core.specs.declared.at.At.{At}
 use Rattle.cg_surface.specs.declared.written.STy.{STy, the_lemmas}
-use Rattle.cg_surface.specs.declared.written.SPart.{SPart, fold_out-SPart}
-use Rattle.cg_surface.specs.declared.written.SAlt.{SAlt, out-SAlt, roll-SAlt, roll-out-SAlt, fold-roll-SAlt}
-use Rattle.cg_surface.specs.Written.{Written, Writtens, WrittenFields, WrittenAlts, OneAlt, OneField, layer, alt_layer, field_layer, type_layer, written_of, field_of, alt_of, and_type, and_field, and_plain, and_alt, and_one, to_types, to_fields, to_alts, types_behind, fields_behind, alts_behind, no_types, no_fields, no_alts, types_push, fields_push, alts_push, types_none, fields_none, alts_none}
+use Rattle.cg_surface.specs.declared.written.SPart.{SPart}
+use Rattle.cg_surface.specs.declared.written.SAlt.{SAlt, out-SAlt}
+use Rattle.cg_surface.specs.Written.{Written, Writtens, WrittenFields, WrittenAlts, OneAlt, OneField, written_of, field_of, alt_of, and_type, and_field, and_plain, and_alt, and_one, to_types, to_fields, to_alts, types_behind, fields_behind, alts_behind, no_types, no_fields, no_alts, types_push, fields_push, alts_push, types_none, fields_none, alts_none}
 use Rattle.cg_desugar.specs.Expand.{types_length}
 use Rattle.cg_desugar.specs.Takes.{fields_length, alts_length, widest_alt}
 use Rattle.cg_written.specs.Wide.{widest_payload}
@@ -44,16 +44,6 @@ alts_counted choices = alts_more no_alts (map alt_of choices) ∙ omega (arith, 
 
 -- ---- an item further. Each says first that the item is itself, so that `grind` finds it where the item is read
 
-pub field_is : (f : SPart) → field_of f ≡ record { at = f.at; ty = written_of f.ty }
-field_is f = fold_out-SPart (Place → Written) OneAlt OneField Written layer alt_layer field_layer type_layer f
-
-pub alt_is : (a : SAlt) → alt_of a ≡ record { at = (out-SAlt a).at; ty = option_map written_of (out-SAlt a).ty }
-alt_is a = ap alt_of (sym (roll-out-SAlt a)) ∙ rolled (out-SAlt a).at (out-SAlt a).ty
-  where
-    rolled : (at : At) (t : Option STy) → alt_of (roll-SAlt (record { at = at; ty = t })) ≡ record { at = at; ty = option_map written_of t }
-    rolled at None = fold-roll-SAlt (Place → Written) OneAlt OneField Written layer alt_layer field_layer type_layer (record { at = at; ty = None })
-    rolled at (Some t) = fold-roll-SAlt (Place → Written) OneAlt OneField Written layer alt_layer field_layer type_layer (record { at = at; ty = Some t })
-
 pub types_at : (ts : List STy) (i : ℕ) (d : STy) → i < length ts → (get_or ts i d ≡ get_or ts i d)
     × (to_types (map written_of (take (i + 1) ts)) ≡ and_type (to_types (map written_of (take i ts))) (written_of (get_or ts i d)))
 types_at ts i d lt = (
@@ -66,7 +56,7 @@ pub fields_at : (fs : List SPart) (i : ℕ) (d : SPart) → i < length fs → (g
 fields_at fs i d lt = (
   refl,
   ap (λ l. to_fields (map field_of l)) (take_more fs i d lt) ∙ ap to_fields (map-append field_of (take i fs) (get_or fs i d ∷ [])) ∙ fields_push (map field_of (take i fs)) (field_of (get_or fs i d))
-      ∙ ap (λ (f : OneField). and_field (to_fields (map field_of (take i fs))) f.at f.ty) (field_is (get_or fs i d)),
+      ∙ ap (λ (f : OneField). and_field (to_fields (map field_of (take i fs))) f.at f.ty) (type_field_is (get_or fs i d)),
 )
 
 pub alts_at : (choices : List SAlt) (i : ℕ) (d : SAlt) → i < length choices → (get_or choices i d ≡ get_or choices i d)
@@ -74,7 +64,7 @@ pub alts_at : (choices : List SAlt) (i : ℕ) (d : SAlt) → i < length choices 
 alts_at choices i d lt = (
   refl,
   ap (λ l. to_alts (map alt_of l)) (take_more choices i d lt) ∙ ap to_alts (map-append alt_of (take i choices) (get_or choices i d ∷ [])) ∙ alts_push (map alt_of (take i choices)) (alt_of (get_or choices i d))
-      ∙ ap (λ (a : OneAlt). and_one (to_alts (map alt_of (take i choices))) a.at a.ty) (alt_is (get_or choices i d)),
+      ∙ ap (λ (a : OneAlt). and_one (to_alts (map alt_of (take i choices))) a.at a.ty) (type_alt_is (get_or choices i d)),
 )
 
 pub widest_one : (choices : WrittenAlts) (at : At) (t : Option Written) → widest_alt (and_one choices at t) ≡ max (widest_alt choices) (widest_payload t)

@@ -39,8 +39,8 @@ pub fn written_type(
         }
         STyForm::Paren(ty) => written_type(alloc, synonyms, vars, ty),
         STyForm::Arrow(from, to) => {
-            let from = Box::new(alloc, written_type(alloc, synonyms, vars, from)?)?;
-            let to = Box::new(alloc, written_type(alloc, synonyms, vars, to)?)?;
+            let from = expand_boxed(alloc, synonyms, vars, from)?;
+            let to = expand_boxed(alloc, synonyms, vars, to)?;
             Ok(Ty::Arrow(from, to))
         }
         STyForm::Fields(fields, boxed) => {
@@ -55,6 +55,19 @@ pub fn written_type(
         }
         STyForm::TakeAll(ty, _place) => Ok(take_all(written_type(alloc, synonyms, vars, ty)?)),
     }
+}
+
+// The same, in a box.
+#[cycle(expand)]
+fn expand_boxed(
+    alloc: Global,
+    synonyms: &Synonyms<'_>,
+    vars: &[&[u8]],
+    ty: &STy,
+) -> Result<Box<Ty>, Memory>
+    ensures { IfOk result (λ t. type_of t.value ≡ expanded (known_of synonyms.now) (texts vars.now) (written_of ty.now)) }
+{
+    Ok(Box::new(alloc, written_type(alloc, synonyms, vars, ty)?)?)
 }
 
 // A type that is written by its name.

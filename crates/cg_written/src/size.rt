@@ -7,7 +7,7 @@ ghost use Rattle.cg_surface.specs.Written.{written_of, field_of, alt_of, to_type
 ghost use Rattle.cg_desugar.specs.Desugar.{type_limit};
 ghost use Rattle.cg_written.specs.Capped.{capped};
 ghost use Rattle.cg_written.specs.Known.{known_of};
-ghost use Rattle.cg_written.specs.Sizes.{size, sizes, total, total_fields, total_alts, payload_size, greatest, greatest_of, greatest_field, greatest_alt, greatest_payload};
+ghost use Rattle.cg_written.specs.Sizes.{named_size, size, sizes, total, total_fields, total_alts, payload_size, greatest, greatest_of, greatest_field, greatest_alt, greatest_payload};
 ghost use Rattle.cg_written.specs.declared.oversize.Oversize.TheVariants.{TooLarge};
 
 use crate::named_size::named_size;
@@ -41,10 +41,7 @@ fn size_of_parts(alloc: Global, synonyms: &Synonyms<'_>, ty: &STy) -> Result<u32
     ensures over { IfErr result (λ e. e ≡ TooLarge → type_limit < greatest (known_of synonyms.now) (written_of ty.now)) }
 {
     match &ty.form {
-        STyForm::Name(name, args) => {
-            let sizes = sizes(alloc, synonyms, args)?;
-            Ok(named_size(synonyms, name.bytes(), &sizes))
-        }
+        STyForm::Name(name, args) => size_of_name(alloc, synonyms, name.bytes(), args),
         STyForm::Unit => Ok(1),
         STyForm::Tuple(types) => Ok(total(alloc, synonyms, types)?.saturating_add(1)),
         STyForm::Paren(ty) => size(alloc, synonyms, ty),
@@ -61,6 +58,22 @@ fn size_of_parts(alloc: Global, synonyms: &Synonyms<'_>, ty: &STy) -> Result<u32
         STyForm::TakeSome(ty, _names) => size(alloc, synonyms, ty),
         STyForm::TakeAll(ty, _place) => size(alloc, synonyms, ty),
     }
+}
+
+// The same of a type by its name.
+#[cycle(size)]
+fn size_of_name(
+    alloc: Global,
+    synonyms: &Synonyms<'_>,
+    name: &[u8],
+    args: &Items<STy>,
+) -> Result<u32, Oversize>
+    ensures ok { IfOk result (λ n. (n ≡ capped (named_size (known_of synonyms.now) name.now (sizes (known_of synonyms.now) (to_types (map written_of args.now)))))
+        × (greatest_of (known_of synonyms.now) (to_types (map written_of args.now)) ≤ type_limit)) }
+    ensures over { IfErr result (λ e. e ≡ TooLarge → type_limit < greatest_of (known_of synonyms.now) (to_types (map written_of args.now))) }
+{
+    let sizes = sizes(alloc, synonyms, args)?;
+    Ok(named_size(synonyms, name, &sizes))
 }
 
 // The sizes of types, one by one.

@@ -1,10 +1,10 @@
-use Rattle.std.proofs.Common.{◌∙◌, map, rules, ap}
+use Rattle.std.proofs.Common.{◌∙◌, map, ap}
 use Rattle.cg_surface.specs.Exprs.{expr_of, alt_of, bind_of, to_binds}
 use Rattle.cg_desugar.specs.Mentions.{expr_mentions}
 use Rattle.cg_names.proofs.ExprSteps.{kept_twice}
 use Rattle.cg_mentions.specs.Parts.{choice_mentions}
 use Rattle.cg_mentions.specs.Positions.{pushed}
-use Rattle.cg_mentions.proofs.ExprSteps.{expr_turn, value_turn, bind_turn, bind_names, choice_turn, choice_body, let_body, expr_steps}
+use Rattle.cg_mentions.proofs.ExprSteps.{expr_turn, value_turn, bind_turn, bind_names, choice_turn, choice_body, let_body}
 use Rattle.cg_mentions.proofs.exprs.+push_expr.Goals as goal
 
 pub push_exprs-loop-expr-preserved : goal.push_exprs-loop-expr-preserved
@@ -40,8 +40,7 @@ pub push_choice-returns-clause-targets : goal.push_choice-returns-clause-targets
 push_choice-returns-clause-targets t c =
     c.in_ok-push_expr.ensures.targets ∙ choice_body c.args.signatures.now c.args.targets.now.items c.args.choice.now c.args.scope.now c.enter_pattern.new.scope c.in_ok-enter_pattern.ensures.names
 
-pub push_expr-returns-in_ok-push_expr-in-Let-clause-targets : goal.push_expr-returns-in_ok-push_expr-in-Let-clause-targets
-push_expr-returns-in_ok-push_expr-in-Let-clause-targets t c =
-    let body = let_body c.args.signatures.now c.args.targets.now.items c.push_binds.new.targets.items c.push_expr-in-Let.new.targets.items c.args.scope.now c.push_binds.new.scope (to_binds (map bind_of c.as_slice-in-Let.result.now)) (expr_of c.in-Let.body.value)
-    c.in_ok-push_binds-in-Let.ensures.targets c.in_ok-push_binds-in-Let.ensures.names in
-    search (rules, body, expr_steps)
+pub push_let-returns-clause-targets : goal.push_let-returns-clause-targets
+push_let-returns-clause-targets t c =
+    let_body c.args.signatures.now c.args.targets.now.items c.push_binds.new.targets.items c.push_expr.new.targets.items c.args.scope.now c.push_binds.new.scope (to_binds (map bind_of c.args.binds.now)) (expr_of c.args.body.now)
+    c.in_ok-push_binds.ensures.targets c.in_ok-push_binds.ensures.names c.in_ok-push_expr.ensures.targets

@@ -1,8 +1,8 @@
 use Rattle.cg_symbols.specs.Views.{symbol_view}
-use Rattle.cg_parse_exprs.specs.Bounded.{bounded}
+use Rattle.cg_build_exprs.specs.Bounded.{bounded}
 use Rattle.cg_parse_exprs.specs.Machine as machine
 use Rattle.cg_parse_exprs.specs.Stack.{types, patterns, stack_of, stage_of}
-use Rattle.cg_parse_exprs.specs.Views.{view_of, args_view}
+use Rattle.cg_build_exprs.specs.Views.{view_of, args_view}
 use Rattle.cg_parse_exprs.proofs.Default.{at_name, answered}
 use Rattle.cg_parse_exprs.proofs.behind.after_lower.Goals as goal
 

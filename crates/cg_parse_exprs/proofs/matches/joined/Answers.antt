@@ -1,8 +1,8 @@
 use Rattle.std.proofs.Common.{ap, ◌∙◌, sym}
-use Rattle.cg_parse_exprs.specs.Bounded.{bounded}
+use Rattle.cg_build_exprs.specs.Bounded.{bounded}
 use Rattle.cg_parse_exprs.specs.Machine as machine
 use Rattle.cg_parse_exprs.specs.Stack.{types, patterns, frame_of, stack_of}
-use Rattle.cg_parse_exprs.specs.Views.{view_of}
+use Rattle.cg_build_exprs.specs.Views.{view_of}
 use Rattle.cg_parse_exprs.specs.Walk.{next_at}
 use Rattle.cg_parse_exprs.proofs.Joined.{closed, reached, arrives}
 use Rattle.cg_parse_exprs.proofs.matches.joined.Goals as goal

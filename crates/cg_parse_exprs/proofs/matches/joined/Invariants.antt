@@ -1,7 +1,7 @@
 use Rattle.std.proofs.Common.{◌≡◌, length}
 use Rattle.cg_parse_exprs.specs.Machine as machine
-use Rattle.cg_parse_exprs.specs.Bounded.{bounded}
-use Rattle.cg_parse_exprs.specs.Views.{view_of}
+use Rattle.cg_build_exprs.specs.Bounded.{bounded}
+use Rattle.cg_build_exprs.specs.Views.{view_of}
 use Rattle.cg_parse_exprs.specs.Stack.{types, patterns, stack_of}
 use Rattle.cg_parse_exprs.proofs.matches.joined.Given as goal
 

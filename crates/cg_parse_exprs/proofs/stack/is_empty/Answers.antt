@@ -1,7 +1,7 @@
 use Rattle.std.proofs.Common.{◌≡◌, ◌==◌, Bool, true, false, List, [], ◌∷◌, length, Option, Some, None, ap, sym, refl, arith, eqb-true}
 use Rattle.std.specs.Prelude.{if◌then◌else◌}
 use Rattle.cg_surface.specs.Exprs.{Expr}
-use Rattle.cg_parse_exprs.specs.Bounded.{bounded}
+use Rattle.cg_build_exprs.specs.Bounded.{bounded}
 use Rattle.cg_parse_exprs.specs.Machine as machine
 use Rattle.cg_parse_exprs.specs.Stack.{Within, types, patterns, frame_of, stacked, stack_of}
 use Rattle.cg_parse_exprs.specs.declared.frame.Frame.{Frame}

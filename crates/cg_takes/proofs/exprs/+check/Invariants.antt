@@ -7,22 +7,28 @@ use Rattle.cg_takes.specs.Views.{heads_in}
 use Rattle.cg_takes.proofs.exprs.+check.Given as goal
 
 abbrev pub decreases-check_expr : goal.decreases-check_expr
-decreases-check_expr l = 2 * goal.size-check_expr l
+decreases-check_expr l = 4 * goal.size-check_expr l
 
 abbrev pub decreases-check_two : goal.decreases-check_two
-decreases-check_two l = 2 * max (size-SExpr l.first.now) (size-SExpr l.second.now) + 1
+decreases-check_two l = 4 * max (size-SExpr l.first.now) (size-SExpr l.second.now) + 1
+
+abbrev pub decreases-check_annotated : goal.decreases-check_annotated
+decreases-check_annotated l = 4 * size-SExpr l.expr.now + 1
+
+abbrev pub decreases-check_if : goal.decreases-check_if
+decreases-check_if l = 4 * max (size-SExpr l.condition.now) (max (size-SExpr l.yes.now) (size-SExpr l.no.now)) + 2
 
 abbrev pub decreases-check_exprs : goal.decreases-check_exprs
-decreases-check_exprs l = 2 * goal.size-check_exprs l + 1
+decreases-check_exprs l = 4 * goal.size-check_exprs l + 1
 
 abbrev pub decreases-check_fields : goal.decreases-check_fields
-decreases-check_fields l = 2 * goal.size-check_fields l + 1
+decreases-check_fields l = 4 * goal.size-check_fields l + 1
 
 abbrev pub decreases-check_binds : goal.decreases-check_binds
-decreases-check_binds l = 2 * goal.size-check_binds l + 1
+decreases-check_binds l = 4 * goal.size-check_binds l + 1
 
 abbrev pub decreases-check_alternatives : goal.decreases-check_alternatives
-decreases-check_alternatives l = 2 * goal.size-check_alternatives l + 1
+decreases-check_alternatives l = 4 * goal.size-check_alternatives l + 1
 
 abbrev pub invariant-check_exprs-loop-expr : goal.invariant-check_exprs-loop-expr
 invariant-check_exprs-loop-expr l =

@@ -1,0 +1,5 @@
+pub mod Bounded
+pub mod Builder
+pub mod Maps
+pub mod Plain
+pub mod Views
