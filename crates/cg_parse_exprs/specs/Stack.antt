@@ -1,6 +1,5 @@
 -- The stack of the code as the machine's.
-use Rattle.std.specs.Prelude.{◌≡◌, List, [], ◌∷◌, ◌++◌, Option}
-use Rattle.std.proofs.Common.{refl}
+use Rattle.std.specs.Prelude.{List, map, Option}
 use Rattle.cg_base.specs.Reader.{Reader}
 use Rattle.cg_surface.specs.Written.{Written}
 use Rattle.cg_surface.specs.Patterns.{Pattern}
@@ -85,14 +84,9 @@ frame_of (Then p c seen) = machine.Then p (view_of c) seen
 frame_of (Else p c seen a) = machine.Else p (view_of c) seen (view_of a)
 frame_of (Branch o p con x) = machine.Branch (open_of o) p con (pattern_view x)
 
--- the last frame is the innermost
-abbrev pub stacked : List Within → List Frame → List Within
-stacked below [] = below
-stacked below (f ∷ fs) = stacked (frame_of f ∷ below) fs
-
--- the stack, the innermost first
-unfoldable pub stack_of : List Frame → List Within
-stack_of fs = stacked [] fs
+-- the frames of a stack, the innermost first
+abbrev pub stack_of : List Frame → List Within
+stack_of fs = map frame_of fs
 
 -- a mode, over the states of the readers of types and patterns and a stack
 abbrev pub mode_of : Mode → Types → Patterns → List Within → Held
@@ -119,15 +113,3 @@ mode_of WrongBar ts ps fs = machine.WrongBar
 -- a mode, over the readers of the code
 abbrev pub stage_of : Mode → Parts → List Within → Held
 stage_of m parts fs = mode_of m (types_at parts) (patterns_at parts) fs
-
-stacked_push : (fs : List Frame) (below : List Within) (f : Frame) → stacked below (fs ++ f ∷ []) ≡ frame_of f ∷ stacked below fs
-stacked_push [] below f = refl
-stacked_push (g ∷ fs) below f = stacked_push fs (frame_of g ∷ below) f
-
-pub stack_push : (fs : List Frame) (f : Frame) → stack_of (fs ++ f ∷ []) ≡ frame_of f ∷ stack_of fs
-unfolding stack_of
-stack_push fs f = stacked_push fs [] f
-
-pub stack_none : stack_of [] ≡ []
-unfolding stack_of
-stack_none = refl

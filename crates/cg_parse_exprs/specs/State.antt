@@ -27,7 +27,7 @@ end_whole e fs = let r = machine.closed types patterns bounded 12 e fs in machin
 
 -- where the reader stands
 unfoldable pub reader_state : ExprReader → Held
-reader_state r = stage_of r.mode r.parts (stack_of r.stack.items)
+reader_state r = stage_of r.mode r.parts (stack_of r.stack)
 
 -- whether it stands at a bar at a wrong column
 abbrev pub is_wrong_bar : Held → Bool

@@ -5,7 +5,7 @@ ghost use Rattle.cg_parse_exprs.specs.Stack.{Within, frame_of, stack_of};
 ghost use Rattle.cg_parse_exprs.specs.Walk.{opens, linked, innermost, choice_of};
 
 use crate::frame::Frame;
-use smallvec::SmallVec;
+use cg_stack::Stack;
 
 /// To which match a bar belongs: it opens one, belongs to the open match outside so many others, or stands at a wrong column.
 #[derive(Clone, Copy)]
@@ -40,8 +40,8 @@ fn link_of(frame: &Frame) -> Link
 }
 
 /// The column of the innermost open match.
-fn innermost(stack: &SmallVec<Frame, 16>) -> Option<u32>
-    ensures { result ≡ innermost (opens (stack_of stack.now.items)) }
+fn innermost(stack: &Stack<Frame>) -> Option<u32>
+    ensures { result ≡ innermost (opens (stack_of stack.now)) }
 {
     let frames = stack.as_slice();
     for at in (0..frames.len()).rev() {
@@ -55,8 +55,8 @@ fn innermost(stack: &SmallVec<Frame, 16>) -> Option<u32>
 }
 
 /// How many open matches stand inside the innermost one whose first bar has this column.
-fn inside_of(stack: &SmallVec<Frame, 16>, column: u32) -> Option<usize>
-    ensures { result ≡ inside_of column (opens (stack_of stack.now.items)) }
+fn inside_of(stack: &Stack<Frame>, column: u32) -> Option<usize>
+    ensures { result ≡ inside_of column (opens (stack_of stack.now)) }
 {
     let mut inside = 0usize;
     let frames = stack.as_slice();
@@ -77,8 +77,8 @@ fn inside_of(stack: &SmallVec<Frame, 16>, column: u32) -> Option<usize>
 
 /// To which match a bar belongs that is first on its line, or isn't, and stands at this column.
 #[tactic(auto, using(crate::proofs::Walk::chosen))]
-pub(crate) fn bar_choice(stack: &SmallVec<Frame, 16>, first: bool, column: u32) -> Choice
-    ensures { choice_of result ≡ bar_choice first column (opens (stack_of stack.now.items)) }
+pub(crate) fn bar_choice(stack: &Stack<Frame>, first: bool, column: u32) -> Choice
+    ensures { choice_of result ≡ bar_choice first column (opens (stack_of stack.now)) }
 {
     let Some(bar) = innermost(stack) else {
         return Choice::New;

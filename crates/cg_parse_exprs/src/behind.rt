@@ -13,57 +13,56 @@ use crate::frame::{Angle, Frame, Mode, Owner};
 use crate::matches::on_bar;
 use crate::operators::{alone_op, is_second, left_of, level, operator, shift_op, starts_atom};
 use crate::readers::Parts;
-use crate::stack::push;
 use crate::start::start;
 use cg_base::{Items, Memory, Name, Place};
 use cg_build_exprs::{BuiltExpr, build, lists};
 use cg_core::{At, Op};
+use cg_stack::Stack;
 use cg_symbols::Symbol;
-use smallvec::SmallVec;
 use std::alloc::Global;
 
 /// At the beginning of an atom: an argument, where there is room for a call.
 fn on_argument<'a>(
     alloc: Global,
-    stack: &mut SmallVec<Frame, 16>,
+    stack: &mut Stack<Frame>,
     parts: &mut Parts,
     symbol: Symbol<'a>,
     place: Place,
     function: Option<BuiltExpr>,
 ) -> Result<Mode, Memory>
-    ensures { IfOk result (λ m. stage_of m parts.new (stack_of stack.new.items) ≡ machine.on_argument types patterns bounded (symbol_view symbol.entry) place (view_of function) (stack_of stack.old.items)) }
+    ensures { IfOk result (λ m. stage_of m parts.new (stack_of stack.new) ≡ machine.on_argument types patterns bounded (symbol_view symbol.entry) place (view_of function) (stack_of stack.old)) }
 {
     if room(stack)? < 1 {
         return Ok(Mode::Stuck);
     }
-    push(stack, Frame::Argument(function))?;
+    stack.push(Frame::Argument(function))?;
     start(alloc, stack, parts, symbol, place)
 }
 
 /// Opens the right operand of an operator, where there is room for the operator; answers whether there is.
 fn open_operand(
-    stack: &mut SmallVec<Frame, 16>,
+    stack: &mut Stack<Frame>,
     op: Op,
     place: Place,
     left: Option<BuiltExpr>,
 ) -> Result<bool, Memory>
-    ensures { IfOk result (λ b. machine.on_op types patterns bounded op place (view_of left) (stack_of stack.old.items) ≡ (if b then machine.Want (stack_of stack.new.items) else machine.Stuck)) }
+    ensures { IfOk result (λ b. machine.on_op types patterns bounded op place (view_of left) (stack_of stack.old) ≡ (if b then machine.Want (stack_of stack.new) else machine.Stuck)) }
 {
     if room(stack)? < level(op) {
         return Ok(false);
     }
-    push(stack, Frame::RightOf(place, op, left))?;
+    stack.push(Frame::RightOf(place, op, left))?;
     Ok(true)
 }
 
 /// At an operator with two operands.
 fn on_op(
-    stack: &mut SmallVec<Frame, 16>,
+    stack: &mut Stack<Frame>,
     op: Op,
     place: Place,
     left: Option<BuiltExpr>,
 ) -> Result<Mode, Memory>
-    ensures { IfOk result (λ m. (ts : Types) (ps : Patterns) → mode_of m ts ps (stack_of stack.new.items) ≡ machine.on_op types patterns bounded op place (view_of left) (stack_of stack.old.items)) }
+    ensures { IfOk result (λ m. (ts : Types) (ps : Patterns) → mode_of m ts ps (stack_of stack.new) ≡ machine.on_op types patterns bounded op place (view_of left) (stack_of stack.old)) }
 {
     if open_operand(stack, op, place, left)? {
         Ok(Mode::Want)
@@ -75,13 +74,13 @@ fn on_op(
 /// At a symbol that is no operator and begins no atom.
 fn go_past<'a>(
     alloc: Global,
-    stack: &mut SmallVec<Frame, 16>,
+    stack: &mut Stack<Frame>,
     parts: &mut Parts,
     symbol: Symbol<'a>,
     place: Place,
     tree: Option<BuiltExpr>,
 ) -> Result<Mode, Memory>
-    ensures { IfOk result (λ m. stage_of m parts.new (stack_of stack.new.items) ≡ machine.go_past types patterns bounded (symbol_view symbol.entry) place (view_of tree) (stack_of stack.old.items)) }
+    ensures { IfOk result (λ m. stage_of m parts.new (stack_of stack.new) ≡ machine.go_past types patterns bounded (symbol_view symbol.entry) place (view_of tree) (stack_of stack.old)) }
 {
     match symbol {
         Symbol::Less(_) => Ok(Mode::AfterAngle(Angle::ToLeft, place, tree)),
@@ -101,13 +100,13 @@ fn go_past<'a>(
 /// Behind an expression that takes no argument at this symbol.
 pub(crate) fn go_on<'a>(
     alloc: Global,
-    stack: &mut SmallVec<Frame, 16>,
+    stack: &mut Stack<Frame>,
     parts: &mut Parts,
     symbol: Symbol<'a>,
     place: Place,
     tree: Option<BuiltExpr>,
 ) -> Result<Mode, Memory>
-    ensures { IfOk result (λ m. stage_of m parts.new (stack_of stack.new.items) ≡ machine.go_on types patterns bounded (symbol_view symbol.entry) place (view_of tree) (stack_of stack.old.items)) }
+    ensures { IfOk result (λ m. stage_of m parts.new (stack_of stack.new) ≡ machine.go_on types patterns bounded (symbol_view symbol.entry) place (view_of tree) (stack_of stack.old)) }
 {
     match operator(symbol) {
         Some(op) => {
@@ -121,13 +120,13 @@ pub(crate) fn go_on<'a>(
 /// Behind an atom with what is behind it, at neither a dot nor a brace.
 fn have_more<'a>(
     alloc: Global,
-    stack: &mut SmallVec<Frame, 16>,
+    stack: &mut Stack<Frame>,
     parts: &mut Parts,
     symbol: Symbol<'a>,
     place: Place,
     tree: Option<BuiltExpr>,
 ) -> Result<Mode, Memory>
-    ensures { IfOk result (λ m. stage_of m parts.new (stack_of stack.new.items) ≡ behind (symbol_view symbol.entry) place (view_of tree) (stack_of stack.old.items)) }
+    ensures { IfOk result (λ m. stage_of m parts.new (stack_of stack.new) ≡ behind (symbol_view symbol.entry) place (view_of tree) (stack_of stack.old)) }
 {
     if starts_atom(symbol) {
         let function = close(alloc, stack, 1, tree)?;
@@ -140,13 +139,13 @@ fn have_more<'a>(
 /// Behind an atom with what is behind it.
 pub(crate) fn have<'a>(
     alloc: Global,
-    stack: &mut SmallVec<Frame, 16>,
+    stack: &mut Stack<Frame>,
     parts: &mut Parts,
     symbol: Symbol<'a>,
     place: Place,
     tree: Option<BuiltExpr>,
 ) -> Result<Mode, Memory>
-    ensures { IfOk result (λ m. stage_of m parts.new (stack_of stack.new.items) ≡ machine.have types patterns bounded (symbol_view symbol.entry) place (view_of tree) (stack_of stack.old.items)) }
+    ensures { IfOk result (λ m. stage_of m parts.new (stack_of stack.new) ≡ machine.have types patterns bounded (symbol_view symbol.entry) place (view_of tree) (stack_of stack.old)) }
 {
     match symbol {
         Symbol::Dot => Ok(Mode::AfterDot(tree)),
@@ -158,14 +157,14 @@ pub(crate) fn have<'a>(
 /// Behind a name.
 pub(crate) fn after_lower<'a>(
     alloc: Global,
-    stack: &mut SmallVec<Frame, 16>,
+    stack: &mut Stack<Frame>,
     parts: &mut Parts,
     symbol: Symbol<'a>,
     place: Place,
     head: Place,
     name: Name,
 ) -> Result<Mode, Memory>
-    ensures { IfOk result (λ m. stage_of m parts.new (stack_of stack.new.items) ≡ machine.after_lower types patterns bounded (symbol_view symbol.entry) place head name (stack_of stack.old.items)) }
+    ensures { IfOk result (λ m. stage_of m parts.new (stack_of stack.new) ≡ machine.after_lower types patterns bounded (symbol_view symbol.entry) place head name (stack_of stack.old)) }
 {
     match symbol {
         Symbol::Bracket => {
@@ -182,17 +181,17 @@ pub(crate) fn after_lower<'a>(
 /// Behind a constructor at the head of an expression.
 pub(crate) fn after_upper<'a>(
     alloc: Global,
-    stack: &mut SmallVec<Frame, 16>,
+    stack: &mut Stack<Frame>,
     parts: &mut Parts,
     symbol: Symbol<'a>,
     place: Place,
     head: Place,
     name: Name,
 ) -> Result<Mode, Memory>
-    ensures { IfOk result (λ m. stage_of m parts.new (stack_of stack.new.items) ≡ machine.after_upper types patterns bounded (symbol_view symbol.entry) place head name (stack_of stack.old.items)) }
+    ensures { IfOk result (λ m. stage_of m parts.new (stack_of stack.new) ≡ machine.after_upper types patterns bounded (symbol_view symbol.entry) place head name (stack_of stack.old)) }
 {
     if starts_atom(symbol) {
-        push(stack, Frame::Payload(head, name))?;
+        stack.push(Frame::Payload(head, name))?;
         start(alloc, stack, parts, symbol, place)
     } else {
         let tree = build::con(head, name);
@@ -203,7 +202,7 @@ pub(crate) fn after_upper<'a>(
 /// Behind a sign that may be the first of a shift: this symbol decides.
 pub(crate) fn after_angle<'a>(
     alloc: Global,
-    stack: &mut SmallVec<Frame, 16>,
+    stack: &mut Stack<Frame>,
     parts: &mut Parts,
     symbol: Symbol<'a>,
     place: Place,
@@ -211,7 +210,7 @@ pub(crate) fn after_angle<'a>(
     sign: Place,
     tree: Option<BuiltExpr>,
 ) -> Result<Mode, Memory>
-    ensures { IfOk result (λ m. stage_of m parts.new (stack_of stack.new.items) ≡ machine.after_angle types patterns bounded (symbol_view symbol.entry) place (angle_of angle) sign (view_of tree) (stack_of stack.old.items)) }
+    ensures { IfOk result (λ m. stage_of m parts.new (stack_of stack.new) ≡ machine.after_angle types patterns bounded (symbol_view symbol.entry) place (angle_of angle) sign (view_of tree) (stack_of stack.old)) }
 {
     if is_second(angle, symbol) {
         let left = close(alloc, stack, 5, tree)?;
@@ -248,14 +247,14 @@ pub(crate) fn after_bang<'a>(
 /// Behind an observed variable.
 pub(crate) fn observed<'a>(
     alloc: Global,
-    stack: &mut SmallVec<Frame, 16>,
+    stack: &mut Stack<Frame>,
     parts: &mut Parts,
     symbol: Symbol<'a>,
     place: Place,
     tree: Option<BuiltExpr>,
     seen: Items<At>,
 ) -> Result<Mode, Memory>
-    ensures { IfOk result (λ m. stage_of m parts.new (stack_of stack.new.items) ≡ machine.observed types patterns bounded (symbol_view symbol.entry) place (view_of tree) seen (stack_of stack.old.items)) }
+    ensures { IfOk result (λ m. stage_of m parts.new (stack_of stack.new) ≡ machine.observed types patterns bounded (symbol_view symbol.entry) place (view_of tree) seen (stack_of stack.old)) }
 {
     match symbol {
         Symbol::Bang => Ok(Mode::AfterBang(tree, seen)),

@@ -7,11 +7,10 @@ ghost use Rattle.cg_build_exprs.specs.Views.{view_of, alts_view, pattern_view};
 
 use crate::frame::{Frame, Open, Prefix};
 use crate::operators::{level, right_of};
-use crate::stack::{pop, push};
 use cg_base::{Memory, Name, Place};
 use cg_build_exprs::{BuiltExpr, build, choices, lists};
 use cg_parse_patterns::BuiltPattern;
-use smallvec::SmallVec;
+use cg_stack::Stack;
 use std::alloc::Global;
 
 /// From which looseness on a frame is closed without a token of its own.
@@ -44,15 +43,15 @@ fn hole(frame: &Frame) -> u32
 }
 
 /// How loose an expression may stand on the stack.
-pub(crate) fn room(stack: &mut SmallVec<Frame, 16>) -> Result<u32, Memory>
-    ensures same { OnOk result (stack_of stack.new.items ≡ stack_of stack.old.items) }
-    ensures room { IfOk result (λ n. n ≡ machine.room types patterns bounded (stack_of stack.old.items)) }
+pub(crate) fn room(stack: &mut Stack<Frame>) -> Result<u32, Memory>
+    ensures same { OnOk result (stack_of stack.new ≡ stack_of stack.old) }
+    ensures room { IfOk result (λ n. n ≡ machine.room types patterns bounded (stack_of stack.old)) }
 {
-    match pop(stack) {
+    match stack.pop() {
         None => Ok(12),
         Some(frame) => {
             let loosest = hole(&frame);
-            push(stack, frame)?;
+            stack.push(frame)?;
             Ok(loosest)
         }
     }
@@ -121,19 +120,19 @@ pub(crate) fn fill(
 /// Closes the frames that bind at most so loosely.
 pub(crate) fn close(
     alloc: Global,
-    stack: &mut SmallVec<Frame, 16>,
+    stack: &mut Stack<Frame>,
     loosest: u32,
     tree: Option<BuiltExpr>,
 ) -> Result<Option<BuiltExpr>, Memory>
-    ensures { IfOk result (λ e. machine.closed types patterns bounded loosest (view_of tree) (stack_of stack.old.items) ≡ (view_of e, stack_of stack.new.items)) }
+    ensures { IfOk result (λ e. machine.closed types patterns bounded loosest (view_of tree) (stack_of stack.old) ≡ (view_of e, stack_of stack.new)) }
 {
     let mut tree = tree;
     loop {
-        match pop(stack) {
+        match stack.pop() {
             None => return Ok(tree),
             Some(frame) => {
                 if closes(&frame) > loosest {
-                    push(stack, frame)?;
+                    stack.push(frame)?;
                     return Ok(tree);
                 }
                 tree = fill(alloc, frame, tree)?;

@@ -8,13 +8,12 @@ ghost use Rattle.cg_build_exprs.specs.Views.{view_of, fields_view};
 
 use crate::frame::{Frame, Mode, Owner};
 use crate::readers::Parts;
-use crate::stack::{pop, push};
 use crate::start::stuck;
 use cg_base::{Items, Memory};
 use cg_build_exprs::{BuiltExpr, BuiltFields, build, lists};
 use cg_core::At;
+use cg_stack::Stack;
 use cg_symbols::Symbol;
-use smallvec::SmallVec;
 use std::alloc::Global;
 
 /// The fields of a record, or of a put.
@@ -34,12 +33,12 @@ pub(crate) fn owned(
 /// At a closing parenthesis.
 fn on_close(
     alloc: Global,
-    stack: &mut SmallVec<Frame, 16>,
+    stack: &mut Stack<Frame>,
     tree: Option<BuiltExpr>,
 ) -> Result<Mode, Memory>
-    ensures { IfOk result (λ m. (ts : Types) (ps : Patterns) → mode_of m ts ps (stack_of stack.new.items) ≡ machine.on_close types patterns bounded (view_of tree) (stack_of stack.old.items)) }
+    ensures { IfOk result (λ m. (ts : Types) (ps : Patterns) → mode_of m ts ps (stack_of stack.new) ≡ machine.on_close types patterns bounded (view_of tree) (stack_of stack.old)) }
 {
-    match pop(stack) {
+    match stack.pop() {
         None => Ok(Mode::Stuck),
         Some(Frame::InParen(place)) => Ok(Mode::Have(build::paren(alloc, place, tree)?)),
         Some(Frame::InTuple(place, exprs)) => {
@@ -53,21 +52,21 @@ fn on_close(
 /// At a comma.
 fn on_comma(
     alloc: Global,
-    stack: &mut SmallVec<Frame, 16>,
+    stack: &mut Stack<Frame>,
     tree: Option<BuiltExpr>,
 ) -> Result<Mode, Memory>
-    ensures { IfOk result (λ m. (ts : Types) (ps : Patterns) → mode_of m ts ps (stack_of stack.new.items) ≡ machine.on_comma types patterns bounded (view_of tree) (stack_of stack.old.items)) }
+    ensures { IfOk result (λ m. (ts : Types) (ps : Patterns) → mode_of m ts ps (stack_of stack.new) ≡ machine.on_comma types patterns bounded (view_of tree) (stack_of stack.old)) }
 {
-    match pop(stack) {
+    match stack.pop() {
         None => Ok(Mode::Stuck),
         Some(Frame::InParen(place)) => {
             let exprs = lists::and_expr(lists::no_exprs(alloc), tree)?;
-            push(stack, Frame::InTuple(place, exprs))?;
+            stack.push(Frame::InTuple(place, exprs))?;
             Ok(Mode::Want)
         }
         Some(Frame::InTuple(place, exprs)) => {
             let exprs = lists::and_expr(exprs, tree)?;
-            push(stack, Frame::InTuple(place, exprs))?;
+            stack.push(Frame::InTuple(place, exprs))?;
             Ok(Mode::Want)
         }
         Some(Frame::InField(owner, fields, at)) => {
@@ -81,12 +80,12 @@ fn on_comma(
 /// At a closing brace.
 fn on_brace(
     alloc: Global,
-    stack: &mut SmallVec<Frame, 16>,
+    stack: &mut Stack<Frame>,
     tree: Option<BuiltExpr>,
 ) -> Result<Mode, Memory>
-    ensures { IfOk result (λ m. (ts : Types) (ps : Patterns) → mode_of m ts ps (stack_of stack.new.items) ≡ machine.on_brace types patterns bounded (view_of tree) (stack_of stack.old.items)) }
+    ensures { IfOk result (λ m. (ts : Types) (ps : Patterns) → mode_of m ts ps (stack_of stack.new) ≡ machine.on_brace types patterns bounded (view_of tree) (stack_of stack.old)) }
 {
-    match pop(stack) {
+    match stack.pop() {
         None => Ok(Mode::Stuck),
         Some(Frame::InField(owner, fields, at)) => {
             let fields = lists::and_field(fields, at, tree)?;
@@ -99,13 +98,13 @@ fn on_brace(
 /// At a colon, behind which a type is read.
 fn on_colon(
     alloc: Global,
-    stack: &mut SmallVec<Frame, 16>,
+    stack: &mut Stack<Frame>,
     parts: &mut Parts,
     tree: Option<BuiltExpr>,
 ) -> Result<Mode, Memory>
-    ensures { IfOk result (λ m. stage_of m parts.new (stack_of stack.new.items) ≡ machine.on_colon types patterns bounded (view_of tree) (stack_of stack.old.items)) }
+    ensures { IfOk result (λ m. stage_of m parts.new (stack_of stack.new) ≡ machine.on_colon types patterns bounded (view_of tree) (stack_of stack.old)) }
 {
-    match pop(stack) {
+    match stack.pop() {
         None => Ok(Mode::Stuck),
         Some(Frame::InParen(place)) => {
             parts.types.begin(alloc);
@@ -117,17 +116,17 @@ fn on_colon(
 
 /// At `in`.
 pub(crate) fn on_in(
-    stack: &mut SmallVec<Frame, 16>,
+    stack: &mut Stack<Frame>,
     seen: Items<At>,
     tree: Option<BuiltExpr>,
 ) -> Result<Mode, Memory>
-    ensures { IfOk result (λ m. (ts : Types) (ps : Patterns) → mode_of m ts ps (stack_of stack.new.items) ≡ machine.on_in types patterns bounded seen (view_of tree) (stack_of stack.old.items)) }
+    ensures { IfOk result (λ m. (ts : Types) (ps : Patterns) → mode_of m ts ps (stack_of stack.new) ≡ machine.on_in types patterns bounded seen (view_of tree) (stack_of stack.old)) }
 {
-    match pop(stack) {
+    match stack.pop() {
         None => Ok(Mode::Stuck),
         Some(Frame::Bound(place, binds, pattern)) => {
             let binds = lists::and_bind(binds, pattern, tree, seen)?;
-            push(stack, Frame::Body(place, binds))?;
+            stack.push(Frame::Body(place, binds))?;
             Ok(Mode::Want)
         }
         Some(frame) => stuck(stack, frame),
@@ -137,14 +136,14 @@ pub(crate) fn on_in(
 /// At `and`, behind which another pattern is read.
 pub(crate) fn on_and(
     alloc: Global,
-    stack: &mut SmallVec<Frame, 16>,
+    stack: &mut Stack<Frame>,
     parts: &mut Parts,
     seen: Items<At>,
     tree: Option<BuiltExpr>,
 ) -> Result<Mode, Memory>
-    ensures { IfOk result (λ m. stage_of m parts.new (stack_of stack.new.items) ≡ machine.on_and types patterns bounded seen (view_of tree) (stack_of stack.old.items)) }
+    ensures { IfOk result (λ m. stage_of m parts.new (stack_of stack.new) ≡ machine.on_and types patterns bounded seen (view_of tree) (stack_of stack.old)) }
 {
-    match pop(stack) {
+    match stack.pop() {
         None => Ok(Mode::Stuck),
         Some(Frame::Bound(place, binds, pattern)) => {
             let binds = lists::and_bind(binds, pattern, tree, seen)?;
@@ -157,16 +156,16 @@ pub(crate) fn on_and(
 
 /// At `then`.
 pub(crate) fn on_then(
-    stack: &mut SmallVec<Frame, 16>,
+    stack: &mut Stack<Frame>,
     seen: Items<At>,
     tree: Option<BuiltExpr>,
 ) -> Result<Mode, Memory>
-    ensures { IfOk result (λ m. (ts : Types) (ps : Patterns) → mode_of m ts ps (stack_of stack.new.items) ≡ machine.on_then types patterns bounded seen (view_of tree) (stack_of stack.old.items)) }
+    ensures { IfOk result (λ m. (ts : Types) (ps : Patterns) → mode_of m ts ps (stack_of stack.new) ≡ machine.on_then types patterns bounded seen (view_of tree) (stack_of stack.old)) }
 {
-    match pop(stack) {
+    match stack.pop() {
         None => Ok(Mode::Stuck),
         Some(Frame::Condition(place)) => {
-            push(stack, Frame::Then(place, tree, seen))?;
+            stack.push(Frame::Then(place, tree, seen))?;
             Ok(Mode::Want)
         }
         Some(frame) => stuck(stack, frame),
@@ -174,13 +173,13 @@ pub(crate) fn on_then(
 }
 
 /// At `else`.
-fn on_else(stack: &mut SmallVec<Frame, 16>, tree: Option<BuiltExpr>) -> Result<Mode, Memory>
-    ensures { IfOk result (λ m. (ts : Types) (ps : Patterns) → mode_of m ts ps (stack_of stack.new.items) ≡ machine.on_else types patterns bounded (view_of tree) (stack_of stack.old.items)) }
+fn on_else(stack: &mut Stack<Frame>, tree: Option<BuiltExpr>) -> Result<Mode, Memory>
+    ensures { IfOk result (λ m. (ts : Types) (ps : Patterns) → mode_of m ts ps (stack_of stack.new) ≡ machine.on_else types patterns bounded (view_of tree) (stack_of stack.old)) }
 {
-    match pop(stack) {
+    match stack.pop() {
         None => Ok(Mode::Stuck),
         Some(Frame::Then(place, condition, seen)) => {
-            push(stack, Frame::Else(place, condition, seen, tree))?;
+            stack.push(Frame::Else(place, condition, seen, tree))?;
             Ok(Mode::Want)
         }
         Some(frame) => stuck(stack, frame),
@@ -190,12 +189,12 @@ fn on_else(stack: &mut SmallVec<Frame, 16>, tree: Option<BuiltExpr>) -> Result<M
 /// At a word or a sign that ends an expression, with the frames closed that it closes.
 pub(crate) fn on_end<'a>(
     alloc: Global,
-    stack: &mut SmallVec<Frame, 16>,
+    stack: &mut Stack<Frame>,
     parts: &mut Parts,
     symbol: Symbol<'a>,
     tree: Option<BuiltExpr>,
 ) -> Result<Mode, Memory>
-    ensures { IfOk result (λ m. stage_of m parts.new (stack_of stack.new.items) ≡ machine.on_end types patterns bounded (symbol_view symbol.entry) (view_of tree) (stack_of stack.old.items)) }
+    ensures { IfOk result (λ m. stage_of m parts.new (stack_of stack.new) ≡ machine.on_end types patterns bounded (symbol_view symbol.entry) (view_of tree) (stack_of stack.old)) }
 {
     match symbol {
         Symbol::Closing => on_close(alloc, stack, tree),

@@ -11,13 +11,12 @@ ghost use Rattle.cg_build_exprs.specs.Views.{view_of, type_view, pattern_view, a
 
 use crate::frame::{Frame, Mode, Open};
 use crate::readers::Parts;
-use crate::stack::push;
 use cg_base::{Memory, Name, Place};
 use cg_build_exprs::{BuiltArgs, BuiltBinds, BuiltExpr, build, lists};
 use cg_parse_patterns::{BuiltPattern, PatternEnd, PatternReader};
 use cg_parse_types::{BuiltType, TypeEnd, TypeReader};
+use cg_stack::Stack;
 use cg_symbols::Symbol;
-use smallvec::SmallVec;
 use std::alloc::Global;
 
 /// The type that ends where a reader stands, if one does; otherwise the reader stays.
@@ -163,13 +162,13 @@ pub(crate) fn in_sig<'a>(
 /// At `=` in the pattern of a binding.
 fn pattern_end(
     alloc: Global,
-    stack: &mut SmallVec<Frame, 16>,
+    stack: &mut Stack<Frame>,
     parts: &mut Parts,
     place: Place,
     head: Place,
     binds: Option<BuiltBinds>,
 ) -> Result<Mode, Memory>
-    ensures { IfOk result (λ m. stage_of m parts.new (stack_of stack.new.items) ≡ machine.in_pattern types patterns bounded symbols.equals place head (binds_view binds) (patterns_at parts.old) (stack_of stack.old.items)) }
+    ensures { IfOk result (λ m. stage_of m parts.new (stack_of stack.new) ≡ machine.in_pattern types patterns bounded symbols.equals place head (binds_view binds) (patterns_at parts.old) (stack_of stack.old)) }
 {
     match whole_pattern(alloc, &mut parts.patterns)? {
         None => {
@@ -177,7 +176,7 @@ fn pattern_end(
             Ok(Mode::InPattern(head, binds))
         }
         Some(pattern) => {
-            push(stack, Frame::Bound(head, binds, pattern))?;
+            stack.push(Frame::Bound(head, binds, pattern))?;
             Ok(Mode::Want)
         }
     }
@@ -186,14 +185,14 @@ fn pattern_end(
 /// In the pattern of a binding.
 pub(crate) fn in_pattern<'a>(
     alloc: Global,
-    stack: &mut SmallVec<Frame, 16>,
+    stack: &mut Stack<Frame>,
     parts: &mut Parts,
     symbol: Symbol<'a>,
     place: Place,
     head: Place,
     binds: Option<BuiltBinds>,
 ) -> Result<Mode, Memory>
-    ensures { IfOk result (λ m. stage_of m parts.new (stack_of stack.new.items) ≡ machine.in_pattern types patterns bounded (symbol_view symbol.entry) place head (binds_view binds) (patterns_at parts.old) (stack_of stack.old.items)) }
+    ensures { IfOk result (λ m. stage_of m parts.new (stack_of stack.new) ≡ machine.in_pattern types patterns bounded (symbol_view symbol.entry) place head (binds_view binds) (patterns_at parts.old) (stack_of stack.old)) }
 {
     match symbol {
         Symbol::Equals => pattern_end(alloc, stack, parts, place, head, binds),
@@ -207,14 +206,14 @@ pub(crate) fn in_pattern<'a>(
 /// At an arrow in the pattern of an alternative.
 fn alt_end(
     alloc: Global,
-    stack: &mut SmallVec<Frame, 16>,
+    stack: &mut Stack<Frame>,
     parts: &mut Parts,
     place: Place,
     before: Open,
     head: Place,
     con: Name,
 ) -> Result<Mode, Memory>
-    ensures { IfOk result (λ m. stage_of m parts.new (stack_of stack.new.items) ≡ machine.in_alt_pattern types patterns bounded symbols.arrow place (open_of before) head con (patterns_at parts.old) (stack_of stack.old.items)) }
+    ensures { IfOk result (λ m. stage_of m parts.new (stack_of stack.new) ≡ machine.in_alt_pattern types patterns bounded symbols.arrow place (open_of before) head con (patterns_at parts.old) (stack_of stack.old)) }
 {
     match whole_pattern(alloc, &mut parts.patterns)? {
         None => {
@@ -222,7 +221,7 @@ fn alt_end(
             Ok(Mode::InAltPattern(before, head, con))
         }
         Some(pattern) => {
-            push(stack, Frame::Branch(before, head, Some(con), pattern))?;
+            stack.push(Frame::Branch(before, head, Some(con), pattern))?;
             Ok(Mode::Want)
         }
     }
@@ -231,7 +230,7 @@ fn alt_end(
 /// In the pattern of an alternative.
 pub(crate) fn in_alt_pattern<'a>(
     alloc: Global,
-    stack: &mut SmallVec<Frame, 16>,
+    stack: &mut Stack<Frame>,
     parts: &mut Parts,
     symbol: Symbol<'a>,
     place: Place,
@@ -239,7 +238,7 @@ pub(crate) fn in_alt_pattern<'a>(
     head: Place,
     con: Name,
 ) -> Result<Mode, Memory>
-    ensures { IfOk result (λ m. stage_of m parts.new (stack_of stack.new.items) ≡ machine.in_alt_pattern types patterns bounded (symbol_view symbol.entry) place (open_of before) head con (patterns_at parts.old) (stack_of stack.old.items)) }
+    ensures { IfOk result (λ m. stage_of m parts.new (stack_of stack.new) ≡ machine.in_alt_pattern types patterns bounded (symbol_view symbol.entry) place (open_of before) head con (patterns_at parts.old) (stack_of stack.old)) }
 {
     match symbol {
         Symbol::Arrow => alt_end(alloc, stack, parts, place, before, head, con),

@@ -14,7 +14,6 @@ mod matches;
 mod operators;
 mod reader;
 mod readers;
-mod stack;
 mod start;
 mod step;
 

@@ -9,24 +9,23 @@ ghost use Rattle.cg_parse_exprs.specs.Walk.{is_match, next_at};
 use crate::bars::{Choice, bar_choice};
 use crate::close::{close, closes, fill, room};
 use crate::frame::{Frame, Mode, Open};
-use crate::stack::pop;
 use crate::start::stuck;
 use cg_base::{Items, Memory, Name, Place};
 use cg_build_exprs::{BuiltExpr, lists};
 use cg_core::At;
 use cg_parse_patterns::BuiltPattern;
-use smallvec::SmallVec;
+use cg_stack::Stack;
 use std::alloc::Global;
 
 /// At a bar that opens a match.
 fn on_new(
     alloc: Global,
-    stack: &mut SmallVec<Frame, 16>,
+    stack: &mut Stack<Frame>,
     column: u32,
     seen: Items<At>,
     subject: Option<BuiltExpr>,
 ) -> Result<Mode, Memory>
-    ensures { IfOk result (λ m. (ts : Types) (ps : Patterns) → mode_of m ts ps (stack_of stack.new.items) ≡ machine.on_new types patterns bounded column seen (view_of subject) (stack_of stack.old.items)) }
+    ensures { IfOk result (λ m. (ts : Types) (ps : Patterns) → mode_of m ts ps (stack_of stack.new) ≡ machine.on_new types patterns bounded column seen (view_of subject) (stack_of stack.old)) }
 {
     if room(stack)? < 12 {
         return Ok(Mode::Stuck);
@@ -78,12 +77,8 @@ fn next_alt(
 }
 
 /// At a bar that belongs to the match of the frame.
-fn on_match(
-    stack: &mut SmallVec<Frame, 16>,
-    frame: Frame,
-    tree: Option<BuiltExpr>,
-) -> Result<Mode, Memory>
-    ensures { IfOk result (λ m. (ts : Types) (ps : Patterns) → mode_of m ts ps (stack_of stack.new.items) ≡ next_at (frame_of frame) (view_of tree) (stack_of stack.old.items)) }
+fn on_match(stack: &mut Stack<Frame>, frame: Frame, tree: Option<BuiltExpr>) -> Result<Mode, Memory>
+    ensures { IfOk result (λ m. (ts : Types) (ps : Patterns) → mode_of m ts ps (stack_of stack.new) ≡ next_at (frame_of frame) (view_of tree) (stack_of stack.old)) }
 {
     match frame {
         Frame::Branch(before, place, con, pattern) => next_alt(before, place, con, pattern, tree),
@@ -94,15 +89,15 @@ fn on_match(
 /// At a bar that belongs to the open match outside so many others: all inside it is closed.
 fn joined(
     alloc: Global,
-    stack: &mut SmallVec<Frame, 16>,
+    stack: &mut Stack<Frame>,
     inside: usize,
     tree: Option<BuiltExpr>,
 ) -> Result<Mode, Memory>
-    ensures { IfOk result (λ m. (ts : Types) (ps : Patterns) → mode_of m ts ps (stack_of stack.new.items) ≡ machine.joined types patterns bounded inside (view_of tree) (stack_of stack.old.items)) }
+    ensures { IfOk result (λ m. (ts : Types) (ps : Patterns) → mode_of m ts ps (stack_of stack.new) ≡ machine.joined types patterns bounded inside (view_of tree) (stack_of stack.old)) }
 {
     let mut inside = inside;
     let mut tree = tree;
-    while let Some(frame) = pop(stack) {
+    while let Some(frame) = stack.pop() {
         if !is_match(&frame) {
             if closes(&frame) > 12 {
                 return stuck(stack, frame);
@@ -122,13 +117,13 @@ fn joined(
 /// At a bar, with what is observed behind the expression.
 pub(crate) fn on_bar(
     alloc: Global,
-    stack: &mut SmallVec<Frame, 16>,
+    stack: &mut Stack<Frame>,
     first: bool,
     place: Place,
     seen: Items<At>,
     tree: Option<BuiltExpr>,
 ) -> Result<Mode, Memory>
-    ensures { IfOk result (λ m. (ts : Types) (ps : Patterns) → mode_of m ts ps (stack_of stack.new.items) ≡ machine.on_bar types patterns bounded first place seen (view_of tree) (stack_of stack.old.items)) }
+    ensures { IfOk result (λ m. (ts : Types) (ps : Patterns) → mode_of m ts ps (stack_of stack.new) ≡ machine.on_bar types patterns bounded first place seen (view_of tree) (stack_of stack.old)) }
 {
     match bar_choice(stack, first, place.column) {
         Choice::New => {

@@ -1,5 +1,5 @@
 // The reader of expressions.
-#![tactic(auto, using(crate::specs::Stack::stack_none), unfolding(crate::specs::State::reader_state))]
+#![tactic(auto, using(crate::proofs::Walk::whole_is), unfolding(crate::specs::State::reader_state))]
 
 ghost use Rattle.std.specs.Prelude.{◌≡◌, List, IfOk, OnOk};
 ghost use Rattle.cg_symbols.specs.Views.{symbol_view};
@@ -12,12 +12,11 @@ ghost use Rattle.cg_build_exprs.specs.Views.{view_of};
 use crate::close::close;
 use crate::frame::{Frame, Mode};
 use crate::readers::Parts;
-use crate::stack::is_empty;
 use crate::step::mode_step;
 use cg_base::{Memory, Place};
 use cg_build_exprs::{BuiltExpr, build, lists};
+use cg_stack::Stack;
 use cg_symbols::Symbol;
-use smallvec::SmallVec;
 use std::alloc::Global;
 
 /// What ends where the reader stands: no expression, one that is too deep, or an expression. docs/LANGUAGE.md, "Expressions"
@@ -33,7 +32,7 @@ pub enum ExprEnd {
 /// that it has read.
 #[derive(Drop)]
 pub struct ExprReader {
-    stack: SmallVec<Frame, 16>,
+    stack: Stack<Frame>,
     mode: Mode,
     parts: Parts,
 }
@@ -56,13 +55,13 @@ fn mode_is_open(mode: &Mode, parts: &Parts) -> bool
 /// The expression, with all frames closed that need no token; no frame may be left.
 fn end_whole(
     alloc: Global,
-    stack: &mut SmallVec<Frame, 16>,
+    stack: &mut Stack<Frame>,
     tree: Option<BuiltExpr>,
 ) -> Result<ExprEnd, Memory>
-    ensures { IfOk result (λ e. end_of e ≡ end_whole (view_of tree) (stack_of stack.old.items)) }
+    ensures { IfOk result (λ e. end_of e ≡ end_whole (view_of tree) (stack_of stack.old)) }
 {
     let tree = close(alloc, stack, 12, tree)?;
-    if !is_empty(stack) {
+    if !stack.is_empty() {
         return Ok(ExprEnd::Unfinished);
     }
     match tree {
@@ -72,8 +71,8 @@ fn end_whole(
 }
 
 /// The expression that ends there, if one can.
-fn mode_end(alloc: Global, stack: &mut SmallVec<Frame, 16>, mode: Mode) -> Result<ExprEnd, Memory>
-    ensures { IfOk result (λ e. (ts : Types) (ps : Patterns) → end_of e ≡ machine.mode_end types patterns bounded (mode_of mode ts ps (stack_of stack.old.items))) }
+fn mode_end(alloc: Global, stack: &mut Stack<Frame>, mode: Mode) -> Result<ExprEnd, Memory>
+    ensures { IfOk result (λ e. (ts : Types) (ps : Patterns) → end_of e ≡ machine.mode_end types patterns bounded (mode_of mode ts ps (stack_of stack.old))) }
 {
     match mode {
         Mode::Have(tree) => end_whole(alloc, stack, tree),
@@ -95,7 +94,7 @@ impl ExprReader {
         ensures { reader_state result ≡ bounded_exprs.begin }
     {
         ExprReader {
-            stack: SmallVec::new(alloc),
+            stack: Stack::new(alloc),
             mode: Mode::Want,
             parts: Parts::new(alloc),
         }
@@ -105,7 +104,7 @@ impl ExprReader {
     pub fn begin(&mut self, alloc: Global)
         ensures { reader_state self.new ≡ bounded_exprs.begin }
     {
-        drop(std::mem::replace(&mut self.stack, SmallVec::new(alloc)));
+        drop(std::mem::replace(&mut self.stack, Stack::new(alloc)));
         drop(std::mem::replace(&mut self.mode, Mode::Want));
     }
 

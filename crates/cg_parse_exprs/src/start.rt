@@ -8,30 +8,29 @@ ghost use Rattle.cg_parse_exprs.specs.Stack.{types, patterns, Types, Patterns, W
 use crate::close::room;
 use crate::frame::{Frame, Mode, Owner, Prefix};
 use crate::readers::Parts;
-use crate::stack::{pop, push};
 use cg_base::{Memory, Name, Place};
 use cg_build_exprs::{build, lists};
 use cg_core::Op;
+use cg_stack::Stack;
 use cg_symbols::Symbol;
-use smallvec::SmallVec;
 use std::alloc::Global;
 
 /// Puts a frame back where nothing goes on with what it waits for.
-pub(crate) fn stuck(stack: &mut SmallVec<Frame, 16>, frame: Frame) -> Result<Mode, Memory>
+pub(crate) fn stuck(stack: &mut Stack<Frame>, frame: Frame) -> Result<Mode, Memory>
     ensures { IfOk result (λ m. (ts : Types) (ps : Patterns) (fs : List Within) → mode_of m ts ps fs ≡ machine.Stuck) }
 {
-    push(stack, frame)?;
+    stack.push(frame)?;
     Ok(Mode::Stuck)
 }
 
 /// At an upper name: where there is room it may have a payload.
 fn on_upper(
     alloc: Global,
-    stack: &mut SmallVec<Frame, 16>,
+    stack: &mut Stack<Frame>,
     place: Place,
     bytes: &[u8],
 ) -> Result<Mode, Memory>
-    ensures { IfOk result (λ m. (ts : Types) (ps : Patterns) → mode_of m ts ps (stack_of stack.new.items) ≡ machine.on_upper types patterns bounded place bytes.now (stack_of stack.old.items)) }
+    ensures { IfOk result (λ m. (ts : Types) (ps : Patterns) → mode_of m ts ps (stack_of stack.new) ≡ machine.on_upper types patterns bounded place bytes.now (stack_of stack.old)) }
 {
     let name = Name::new(alloc, bytes)?;
     if room(stack)? < 1 {
@@ -41,24 +40,24 @@ fn on_upper(
 }
 
 /// At an operator with one operand.
-fn on_prefix(stack: &mut SmallVec<Frame, 16>, place: Place, prefix: Prefix) -> Result<Mode, Memory>
-    ensures { IfOk result (λ m. (ts : Types) (ps : Patterns) → mode_of m ts ps (stack_of stack.new.items) ≡ machine.on_prefix types patterns bounded place (prefix_of prefix) (stack_of stack.old.items)) }
+fn on_prefix(stack: &mut Stack<Frame>, place: Place, prefix: Prefix) -> Result<Mode, Memory>
+    ensures { IfOk result (λ m. (ts : Types) (ps : Patterns) → mode_of m ts ps (stack_of stack.new) ≡ machine.on_prefix types patterns bounded place (prefix_of prefix) (stack_of stack.old)) }
 {
     if room(stack)? < 2 {
         return Ok(Mode::Stuck);
     }
-    push(stack, Frame::Operand(place, prefix))?;
+    stack.push(Frame::Operand(place, prefix))?;
     Ok(Mode::Want)
 }
 
 /// At `let`.
 fn on_let(
     alloc: Global,
-    stack: &mut SmallVec<Frame, 16>,
+    stack: &mut Stack<Frame>,
     parts: &mut Parts,
     place: Place,
 ) -> Result<Mode, Memory>
-    ensures { IfOk result (λ m. stage_of m parts.new (stack_of stack.new.items) ≡ machine.on_let types patterns bounded place (stack_of stack.old.items)) }
+    ensures { IfOk result (λ m. stage_of m parts.new (stack_of stack.new) ≡ machine.on_let types patterns bounded place (stack_of stack.old)) }
 {
     if room(stack)? < 12 {
         return Ok(Mode::Stuck);
@@ -68,21 +67,21 @@ fn on_let(
 }
 
 /// At `if`.
-fn on_if(stack: &mut SmallVec<Frame, 16>, place: Place) -> Result<Mode, Memory>
-    ensures { IfOk result (λ m. (ts : Types) (ps : Patterns) → mode_of m ts ps (stack_of stack.new.items) ≡ machine.on_if types patterns bounded place (stack_of stack.old.items)) }
+fn on_if(stack: &mut Stack<Frame>, place: Place) -> Result<Mode, Memory>
+    ensures { IfOk result (λ m. (ts : Types) (ps : Patterns) → mode_of m ts ps (stack_of stack.new) ≡ machine.on_if types patterns bounded place (stack_of stack.old)) }
 {
     if room(stack)? < 12 {
         return Ok(Mode::Stuck);
     }
-    push(stack, Frame::Condition(place))?;
+    stack.push(Frame::Condition(place))?;
     Ok(Mode::Want)
 }
 
 /// At the closing parenthesis of `()`.
-fn on_empty(stack: &mut SmallVec<Frame, 16>) -> Result<Mode, Memory>
-    ensures { IfOk result (λ m. (ts : Types) (ps : Patterns) → mode_of m ts ps (stack_of stack.new.items) ≡ machine.on_empty types patterns bounded (stack_of stack.old.items)) }
+fn on_empty(stack: &mut Stack<Frame>) -> Result<Mode, Memory>
+    ensures { IfOk result (λ m. (ts : Types) (ps : Patterns) → mode_of m ts ps (stack_of stack.new) ≡ machine.on_empty types patterns bounded (stack_of stack.old)) }
 {
-    match pop(stack) {
+    match stack.pop() {
         None => Ok(Mode::Stuck),
         Some(Frame::InParen(place)) => Ok(Mode::Have(build::unit(place))),
         Some(frame) => stuck(stack, frame),
@@ -92,12 +91,12 @@ fn on_empty(stack: &mut SmallVec<Frame, 16>) -> Result<Mode, Memory>
 /// Where an expression is wanted.
 pub(crate) fn start<'a>(
     alloc: Global,
-    stack: &mut SmallVec<Frame, 16>,
+    stack: &mut Stack<Frame>,
     parts: &mut Parts,
     symbol: Symbol<'a>,
     place: Place,
 ) -> Result<Mode, Memory>
-    ensures { IfOk result (λ m. stage_of m parts.new (stack_of stack.new.items) ≡ machine.start types patterns bounded (symbol_view symbol.entry) place (stack_of stack.old.items)) }
+    ensures { IfOk result (λ m. stage_of m parts.new (stack_of stack.new) ≡ machine.start types patterns bounded (symbol_view symbol.entry) place (stack_of stack.old)) }
 {
     match symbol {
         Symbol::Lower(bytes) => Ok(Mode::AfterLower(place, Name::new(alloc, bytes)?)),
@@ -106,7 +105,7 @@ pub(crate) fn start<'a>(
         Symbol::True => Ok(Mode::Have(build::boolean(place, true))),
         Symbol::False => Ok(Mode::Have(build::boolean(place, false))),
         Symbol::Opening => {
-            push(stack, Frame::InParen(place))?;
+            stack.push(Frame::InParen(place))?;
             Ok(Mode::Want)
         }
         Symbol::Closing => on_empty(stack),

@@ -11,14 +11,13 @@ use crate::ends::owned;
 use crate::frame::{Frame, Mode, Open, Owner};
 use crate::inside::{in_alt_pattern, in_args, in_pattern, in_sig};
 use crate::readers::Parts;
-use crate::stack::push;
 use crate::start::start;
 use cg_base::{Memory, Name, Place};
 use cg_build_exprs::{BuiltExpr, BuiltFields, build, lists, patterns};
 use cg_core::At;
 use cg_parse_patterns::BuiltPattern;
+use cg_stack::Stack;
 use cg_symbols::Symbol;
-use smallvec::SmallVec;
 use std::alloc::Global;
 
 /// Where an alternative is wanted.
@@ -44,7 +43,7 @@ fn want_alt<'a>(
 /// Behind the constructor of an alternative.
 fn after_con<'a>(
     alloc: Global,
-    stack: &mut SmallVec<Frame, 16>,
+    stack: &mut Stack<Frame>,
     parts: &mut Parts,
     symbol: Symbol<'a>,
     place: Place,
@@ -52,12 +51,12 @@ fn after_con<'a>(
     head: Place,
     con: Name,
 ) -> Result<Mode, Memory>
-    ensures { IfOk result (λ m. stage_of m parts.new (stack_of stack.new.items) ≡ machine.after_con types patterns bounded (symbol_view symbol.entry) place (open_of before) head con (stack_of stack.old.items)) }
+    ensures { IfOk result (λ m. stage_of m parts.new (stack_of stack.new) ≡ machine.after_con types patterns bounded (symbol_view symbol.entry) place (open_of before) head con (stack_of stack.old)) }
 {
     match symbol {
         Symbol::Arrow => {
             let pattern = patterns::pattern_unit(head);
-            push(stack, Frame::Branch(before, head, Some(con), pattern))?;
+            stack.push(Frame::Branch(before, head, Some(con), pattern))?;
             Ok(Mode::Want)
         }
         _ => {
@@ -70,17 +69,17 @@ fn after_con<'a>(
 
 /// Behind the name or the wildcard of an alternative.
 fn want_arrow<'a>(
-    stack: &mut SmallVec<Frame, 16>,
+    stack: &mut Stack<Frame>,
     symbol: Symbol<'a>,
     before: Open,
     head: Place,
     pattern: Option<BuiltPattern>,
 ) -> Result<Mode, Memory>
-    ensures { IfOk result (λ m. (ts : Types) (ps : Patterns) → mode_of m ts ps (stack_of stack.new.items) ≡ machine.want_arrow types patterns bounded (symbol_view symbol.entry) (open_of before) head (pattern_view pattern) (stack_of stack.old.items)) }
+    ensures { IfOk result (λ m. (ts : Types) (ps : Patterns) → mode_of m ts ps (stack_of stack.new) ≡ machine.want_arrow types patterns bounded (symbol_view symbol.entry) (open_of before) head (pattern_view pattern) (stack_of stack.old)) }
 {
     match symbol {
         Symbol::Arrow => {
-            push(stack, Frame::Branch(before, head, None, pattern))?;
+            stack.push(Frame::Branch(before, head, None, pattern))?;
             Ok(Mode::Want)
         }
         _ => Ok(Mode::Stuck),
@@ -135,17 +134,17 @@ fn alone(alloc: Global, fields: Option<BuiltFields>, at: At) -> Result<Option<Bu
 /// Behind a field's name.
 fn after_field<'a>(
     alloc: Global,
-    stack: &mut SmallVec<Frame, 16>,
+    stack: &mut Stack<Frame>,
     symbol: Symbol<'a>,
     owner: Owner,
     fields: Option<BuiltFields>,
     at: At,
 ) -> Result<Mode, Memory>
-    ensures { IfOk result (λ m. (ts : Types) (ps : Patterns) → mode_of m ts ps (stack_of stack.new.items) ≡ machine.after_field types patterns bounded (symbol_view symbol.entry) (owner_of owner) (fields_view fields) at (stack_of stack.old.items)) }
+    ensures { IfOk result (λ m. (ts : Types) (ps : Patterns) → mode_of m ts ps (stack_of stack.new) ≡ machine.after_field types patterns bounded (symbol_view symbol.entry) (owner_of owner) (fields_view fields) at (stack_of stack.old)) }
 {
     match symbol {
         Symbol::Equals => {
-            push(stack, Frame::InField(owner, fields, at))?;
+            stack.push(Frame::InField(owner, fields, at))?;
             Ok(Mode::Want)
         }
         Symbol::Comma => Ok(Mode::WantField(owner, alone(alloc, fields, at)?)),
@@ -160,13 +159,13 @@ fn after_field<'a>(
 /// One symbol more.
 pub(crate) fn mode_step<'a>(
     alloc: Global,
-    stack: &mut SmallVec<Frame, 16>,
+    stack: &mut Stack<Frame>,
     parts: &mut Parts,
     mode: Mode,
     symbol: Symbol<'a>,
     place: Place,
 ) -> Result<Mode, Memory>
-    ensures { IfOk result (λ m. stage_of m parts.new (stack_of stack.new.items) ≡ machine.mode_step types patterns bounded (stage_of mode parts.old (stack_of stack.old.items)) (symbol_view symbol.entry) place) }
+    ensures { IfOk result (λ m. stage_of m parts.new (stack_of stack.new) ≡ machine.mode_step types patterns bounded (stage_of mode parts.old (stack_of stack.old)) (symbol_view symbol.entry) place) }
 {
     match mode {
         Mode::Want => start(alloc, stack, parts, symbol, place),

@@ -1,21 +1,20 @@
 use Rattle.std.proofs.Common.{ap, ◌∙◌, sym, List}
-use Rattle.cg_parse_exprs.specs.Stack.{stack_of}
-use Rattle.cg_parse_exprs.specs.Walk.{opens, innermost}
+use Rattle.cg_parse_exprs.specs.Walk.{innermost}
 use Rattle.cg_parse_exprs.specs.declared.bars.Link.TheVariants.{Ends, Leaves, Bar}
 use Rattle.cg_parse_exprs.specs.declared.frame.Frame.{Frame}
-use Rattle.cg_parse_exprs.proofs.Walk.{down, bottom}
+use Rattle.cg_parse_exprs.proofs.Walk.{in_slice, down, bottom}
 use Rattle.cg_parse_exprs.proofs.bars.innermost.Goals as goal
 
 pub returns-in-Ends : goal.returns-in-Ends
 returns-in-Ends c =
     let frames : List Frame = c.as_slice-frames.result.now in
-    sym (ap (λ fs. innermost (opens (stack_of fs))) (sym c.as_slice-frames.ensures) ∙ c.loop-at.invariant
+    sym (ap innermost (in_slice c.as_slice-frames.result.now c.args.stack.now c.as_slice-frames.ensures) ∙ c.loop-at.invariant
     ∙ ap innermost (down frames c.loop-at.at c.index-frames-at.result Ends c.loop-at-test.true c.loop-at.auto.at c.index-frames-at.is c.in-Ends.ensures))
 
 pub returns-in-Bar : goal.returns-in-Bar
 returns-in-Bar c =
     let frames : List Frame = c.as_slice-frames.result.now in
-    sym (ap (λ fs. innermost (opens (stack_of fs))) (sym c.as_slice-frames.ensures) ∙ c.loop-at.invariant
+    sym (ap innermost (in_slice c.as_slice-frames.result.now c.args.stack.now c.as_slice-frames.ensures) ∙ c.loop-at.invariant
     ∙ ap innermost (down frames c.loop-at.at c.index-frames-at.result (Bar c.in-Bar.column) c.loop-at-test.true c.loop-at.auto.at c.index-frames-at.is c.in-Bar.ensures))
 
 pub loop-at-preserved : goal.loop-at-preserved
@@ -25,5 +24,5 @@ loop-at-preserved c =
 
 pub returns : goal.returns
 returns c =
-    sym (ap (λ fs. innermost (opens (stack_of fs))) (sym c.as_slice-frames.ensures) ∙ c.loop-at.invariant
+    sym (ap innermost (in_slice c.as_slice-frames.result.now c.args.stack.now c.as_slice-frames.ensures) ∙ c.loop-at.invariant
     ∙ ap innermost (bottom c.as_slice-frames.result.now c.loop-at.at c.loop-at-test.false))

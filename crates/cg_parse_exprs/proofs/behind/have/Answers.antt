@@ -9,8 +9,8 @@ use Rattle.cg_parse_exprs.proofs.behind.have.Goals as goal
 
 pub returns-in_default : goal.returns-in_default
 returns-in_default c =
-    answered c.have_more.result (λ m. stage_of m c.have_more.new.parts (stack_of c.have_more.new.stack.items))
-    (machine.have types patterns bounded (symbol_view c.args.symbol) c.args.place (view_of c.args.tree) (stack_of c.args.stack.now.items))
-    (behind (symbol_view c.args.symbol) c.args.place (view_of c.args.tree) (stack_of c.args.stack.now.items))
+    answered c.have_more.result (λ m. stage_of m c.have_more.new.parts (stack_of c.have_more.new.stack))
+    (machine.have types patterns bounded (symbol_view c.args.symbol) c.args.place (view_of c.args.tree) (stack_of c.args.stack.now))
+    (behind (symbol_view c.args.symbol) c.args.place (view_of c.args.tree) (stack_of c.args.stack.now))
     c.have_more.ensures
-    (default c.args.symbol c.args.place (view_of c.args.tree) (stack_of c.args.stack.now.items) c.in_default.not-Dot c.in_default.not-Brace)
+    (default c.args.symbol c.args.place (view_of c.args.tree) (stack_of c.args.stack.now) c.in_default.not-Dot c.in_default.not-Brace)

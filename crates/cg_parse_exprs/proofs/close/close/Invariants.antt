@@ -7,8 +7,8 @@ use Rattle.cg_parse_exprs.proofs.close.close.Given as goal
 
 abbrev pub invariant-loop-tree : goal.invariant-loop-tree
 invariant-loop-tree l =
-    machine.closed types patterns bounded l.fn.loosest (view_of l.fn.tree) (stack_of l.fn.stack.items)
-    ≡ machine.closed types patterns bounded l.loosest (view_of l.tree) (stack_of l.stack.items)
+    machine.closed types patterns bounded l.fn.loosest (view_of l.fn.tree) (stack_of l.fn.stack)
+    ≡ machine.closed types patterns bounded l.loosest (view_of l.tree) (stack_of l.stack)
 
 abbrev pub decreases-loop-tree : goal.decreases-loop-tree
-decreases-loop-tree l = length (stack_of l.stack.items)
+decreases-loop-tree l = length (stack_of l.stack)

@@ -7,8 +7,8 @@ use Rattle.cg_parse_exprs.proofs.matches.joined.Given as goal
 
 abbrev pub invariant-loop-frame : goal.invariant-loop-frame
 invariant-loop-frame l =
-    machine.joined types patterns bounded l.fn.inside (view_of l.fn.tree) (stack_of l.fn.stack.items)
-    ≡ machine.joined types patterns bounded l.inside (view_of l.tree) (stack_of l.stack.items)
+    machine.joined types patterns bounded l.fn.inside (view_of l.fn.tree) (stack_of l.fn.stack)
+    ≡ machine.joined types patterns bounded l.inside (view_of l.tree) (stack_of l.stack)
 
 abbrev pub decreases-loop-frame : goal.decreases-loop-frame
-decreases-loop-frame l = length (stack_of l.stack.items)
+decreases-loop-frame l = length (stack_of l.stack)
