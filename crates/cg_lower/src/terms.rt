@@ -23,7 +23,7 @@ use std::alloc::Global;
 use std::mem;
 
 /// Where the value of a term stands: a number, the argument, or a local.
-#[derive(Clone, Copy, Debug, PartialEq, Eq)]
+#[derive(Clone, Copy)]
 pub(crate) enum Place {
     Number(u64),
     Argument,

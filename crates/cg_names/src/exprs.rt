@@ -15,7 +15,7 @@ use crate::fault::NamingFault;
 use crate::patterns::pattern_scope;
 use crate::scope::Scope;
 use crate::types::{check_count, check_type, check_types};
-use cg_base::Place;
+use cg_base::{Items, Name, Place};
 use cg_core::At;
 use cg_declared::{Declarations, library_function};
 use cg_surface::{Alt, Bind, FExpr, SExpr, SForm, STy};
@@ -36,20 +36,12 @@ pub fn check_expr<'a>(
 {
     match &expr.form {
         SForm::Name(name, types) => {
-            check_name(
-                alloc,
-                declared,
-                vars,
-                scope,
-                expr.place,
-                name.bytes(),
-                types.as_slice(),
-            )
+            check_name(alloc, declared, vars, scope, expr.place, name, types)
         }
         SForm::Number(_) | SForm::Bool(_) | SForm::Unit | SForm::Con(_, None) => Ok(()),
-        SForm::Paren(inner) | SForm::Upcast(inner) => check_expr(
-            alloc, declared, vars, scope, inner,
-        ),
+        SForm::Paren(inner) | SForm::Upcast(inner) => {
+            check_expr(alloc, declared, vars, scope, inner)
+        }
         SForm::Sig(inner, ty) => check_annotated(alloc, declared, vars, scope, inner, ty),
         SForm::Tuple(parts) => check_exprs(alloc, declared, vars, scope, parts.as_slice()),
         SForm::Fields(fields) => check_record(alloc, declared, vars, scope, fields.as_slice()),
@@ -59,34 +51,15 @@ pub fn check_expr<'a>(
         SForm::Member(inner, _) | SForm::Unary(_, inner) => {
             check_expr(alloc, declared, vars, scope, inner)
         }
-        SForm::Put(record, fields) => {
-            check_put(alloc, declared, vars, scope, record, fields.as_slice())
+        SForm::Put(inner, fields) => {
+            check_put(alloc, declared, vars, scope, inner, fields.as_slice())
         }
-        SForm::Let(binds, body) => {
-            check_let(alloc, declared, vars, scope, binds.as_slice(), body)
-        }
+        SForm::Let(binds, body) => check_let(alloc, declared, vars, scope, binds.as_slice(), body),
         SForm::If(condition, seen, yes, no) => {
-            check_if(
-                alloc,
-                declared,
-                vars,
-                scope,
-                condition,
-                seen.as_slice(),
-                yes,
-                no,
-            )
+            check_if(alloc, declared, vars, scope, condition, seen, yes, no)
         }
         SForm::Match(subject, seen, choices) => {
-            check_match(
-                alloc,
-                declared,
-                vars,
-                scope,
-                subject,
-                seen.as_slice(),
-                choices.as_slice(),
-            )
+            check_match(alloc, declared, vars, scope, subject, seen, choices)
         }
     }
 }
@@ -98,14 +71,14 @@ fn check_name(
     vars: &Scope<'_>,
     scope: &Scope<'_>,
     place: Place,
-    name: &[u8],
-    types: &[STy],
+    name: &Name,
+    types: &Items<STy>,
 ) -> Result<(), NamingFault>
     requires { IsIndexed declared.now }
     ensures { Says (mention_faults (entries_of declared.now) scope.now place name.now (types_length (to_types (map written_of types.now))) ++ types_faults (entries_of declared.now) vars.now (to_types (map written_of types.now))) result }
 {
-    check_mention(declared, scope, place, name, types.len())?;
-    check_types(alloc, declared, vars, types)
+    check_mention(declared, scope, place, name.bytes(), types.len())?;
+    check_types(alloc, declared, vars, types.as_slice())
 }
 
 // The first fault of an expression with its type.
@@ -191,7 +164,7 @@ fn check_if<'a>(
     vars: &Scope<'_>,
     scope: &mut Scope<'a>,
     condition: &'a SExpr,
-    seen: &[At],
+    seen: &Items<At>,
     yes: &'a SExpr,
     no: &'a SExpr,
 ) -> Result<(), NamingFault>
@@ -200,7 +173,7 @@ fn check_if<'a>(
     ensures scope { OnOk result (scope.new ≡ scope.old) }
 {
     check_expr(alloc, declared, vars, scope, condition)?;
-    check_seen(scope, seen)?;
+    check_seen(scope, seen.as_slice())?;
     check_two(alloc, declared, vars, scope, yes, no)
 }
 
@@ -212,16 +185,16 @@ fn check_match<'a>(
     vars: &Scope<'_>,
     scope: &mut Scope<'a>,
     subject: &'a SExpr,
-    seen: &[At],
-    choices: &'a [Alt],
+    seen: &Items<At>,
+    choices: &'a Items<Alt>,
 ) -> Result<(), NamingFault>
     requires { IsIndexed declared.now }
     ensures says { Says (expr_faults (entries_of declared.now) vars.now scope.old (expr_of subject.now) ++ seen_faults scope.old seen.now ++ match_faults (entries_of declared.now) vars.now scope.old (to_alts (map alt_of choices.now))) result }
     ensures scope { OnOk result (scope.new ≡ scope.old) }
 {
     check_expr(alloc, declared, vars, scope, subject)?;
-    check_seen(scope, seen)?;
-    check_choices(alloc, declared, vars, scope, choices)
+    check_seen(scope, seen.as_slice())?;
+    check_choices(alloc, declared, vars, scope, choices.as_slice())
 }
 
 // The fault of a name with so many type arguments: a variable has none, and hides a function.

@@ -1,5 +1,5 @@
 // Reading items, one token at a time.
-ghost use Rattle.std.specs.Prelude.{◌≡◌, List, Option, Some, None, IfOk, OnOk, if◌then◌else◌};
+ghost use Rattle.std.specs.Prelude.{◌≡◌, List, Option, Some, None, IfOk, if◌then◌else◌};
 ghost use Rattle.cg_lexer.specs.Tokens.{lexeme};
 ghost use Rattle.cg_surface.specs.Programs.{Entry};
 ghost use Rattle.cg_symbols.specs.Symbols.{equals, seen};
@@ -7,6 +7,7 @@ ghost use Rattle.cg_symbols.specs.Views.{symbol_view};
 ghost use Rattle.cg_parser.specs.Bounded.{bounded};
 ghost use Rattle.cg_parser.specs.Machine as machine;
 ghost use Rattle.cg_parser.specs.Views.{types, patterns, exprs, items_of, Read, parts_of, state_of};
+ghost use Rattle.cg_parser.specs.declared.phase.Phase.TheVariants.{InSynonym, InSignature, InBody};
 
 use crate::add::{add, end_body, end_signature, end_synonym};
 use crate::kinds::{are_letters, kinds_of, no_kinds};
@@ -15,7 +16,7 @@ use cg_base::{Bound, Items, Memory, Name, Place};
 use cg_core::At;
 use cg_lexer::Token;
 use cg_parse_patterns::PatternEnd;
-use cg_surface::{Item, Program};
+use cg_surface::{Item, Pat, Program};
 use cg_symbols::{Symbol, symbol_at};
 use std::alloc::Global;
 
@@ -46,7 +47,10 @@ pub(crate) fn finish(
             let end = parts.exprs.finish(alloc)?;
             end_body(done, at, param, end)
         }
-        _ => Ok(false),
+        phase => {
+            drop(phase);
+            Ok(false)
+        }
     }
 }
 
@@ -285,16 +289,49 @@ fn in_param<'a>(
     }
 }
 
-/// In the type of a synonym or of a signature.
-fn in_type<'a>(
+/// In the type of a synonym.
+fn in_synonym<'a>(
     alloc: Global,
     parts: &mut Parts,
+    at: At,
+    params: Items<At>,
     symbol: Symbol<'a>,
     place: Place,
-) -> Result<(), Memory>
-    ensures { OnOk result ((parts_of parts.new).types ≡ types.step (parts_of parts.old).types (record { symbol = symbol_view symbol.entry; place = place })) }
+) -> Result<Phase, Memory>
+    ensures { IfOk result (λ m. (done : Option (List Entry)) → state_of done m (parts_of parts.new) ≡ machine.inside types patterns exprs bounded (state_of done (InSynonym at params) (parts_of parts.old)) (symbol_view symbol.entry) place) }
 {
-    parts.types.step(alloc, symbol, place)
+    parts.types.step(alloc, symbol, place)?;
+    Ok(Phase::InSynonym(at, params))
+}
+
+/// In the type of a signature.
+fn in_signature<'a>(
+    alloc: Global,
+    parts: &mut Parts,
+    at: At,
+    vars: Vars,
+    symbol: Symbol<'a>,
+    place: Place,
+) -> Result<Phase, Memory>
+    ensures { IfOk result (λ m. (done : Option (List Entry)) → state_of done m (parts_of parts.new) ≡ machine.inside types patterns exprs bounded (state_of done (InSignature at vars) (parts_of parts.old)) (symbol_view symbol.entry) place) }
+{
+    parts.types.step(alloc, symbol, place)?;
+    Ok(Phase::InSignature(at, vars))
+}
+
+/// In a body.
+fn in_body<'a>(
+    alloc: Global,
+    parts: &mut Parts,
+    at: At,
+    param: Option<Pat>,
+    symbol: Symbol<'a>,
+    place: Place,
+) -> Result<Phase, Memory>
+    ensures { IfOk result (λ m. (done : Option (List Entry)) → state_of done m (parts_of parts.new) ≡ machine.inside types patterns exprs bounded (state_of done (InBody at param) (parts_of parts.old)) (symbol_view symbol.entry) place) }
+{
+    parts.exprs.step(alloc, symbol, place)?;
+    Ok(Phase::InBody(at, param))
 }
 
 /// At a token past column 1.
@@ -311,10 +348,7 @@ fn inside<'a>(
         Phase::Between | Phase::Failed => Ok(Phase::Failed),
         Phase::AfterType => after_type(alloc, symbol, place),
         Phase::InParams(at, params) => in_params(alloc, parts, at, params, symbol, place),
-        Phase::InSynonym(at, params) => {
-            in_type(alloc, parts, symbol, place)?;
-            Ok(Phase::InSynonym(at, params))
-        }
+        Phase::InSynonym(at, params) => in_synonym(alloc, parts, at, params, symbol, place),
         Phase::AfterName(at) => after_name(alloc, parts, at, symbol, place),
         Phase::AfterColon(at) => after_colon(alloc, parts, at, symbol, place),
         Phase::AfterAll(at) => after_all(alloc, at, symbol, place),
@@ -323,15 +357,9 @@ fn inside<'a>(
         Phase::WantKinds(at, vars, name, q) => Ok(want_kinds(at, vars, name, q, symbol)),
         Phase::AfterKinds(at, vars, bound, q) => after_kinds(at, vars, bound, q, symbol),
         Phase::WantDot(at, vars) => Ok(want_dot(alloc, parts, at, vars, symbol)),
-        Phase::InSignature(at, vars) => {
-            in_type(alloc, parts, symbol, place)?;
-            Ok(Phase::InSignature(at, vars))
-        }
+        Phase::InSignature(at, vars) => in_signature(alloc, parts, at, vars, symbol, place),
         Phase::InParam(at) => in_param(alloc, parts, at, symbol, place),
-        Phase::InBody(at, param) => {
-            parts.exprs.step(alloc, symbol, place)?;
-            Ok(Phase::InBody(at, param))
-        }
+        Phase::InBody(at, param) => in_body(alloc, parts, at, param, symbol, place),
     }
 }
 

@@ -1,4 +1,4 @@
-//! Reads a source: from its bytes to the program that they spell, or to the first place where no program goes on
+//! Reads a source (`parse`): from its bytes to the program that they spell, or to the first place where no program goes on
 //! (docs/LANGUAGE.md, "Grammar"). The parts of items are read by the readers of types, patterns and expressions.
 #![tactic(auto)]
 

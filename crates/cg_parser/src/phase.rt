@@ -11,11 +11,23 @@ use cg_surface::Pat;
 use std::alloc::Global;
 
 /// The readers of the parts of an item.
-#[derive(Drop)]
 pub(crate) struct Parts {
     pub(crate) types: TypeReader,
     pub(crate) patterns: PatternReader,
     pub(crate) exprs: ExprReader,
+}
+
+impl Drop for Parts {
+    fn drop(self) {
+        let Parts {
+            types,
+            patterns,
+            exprs,
+        } = self;
+        drop(types);
+        drop(patterns);
+        drop(exprs);
+    }
 }
 
 impl Parts {

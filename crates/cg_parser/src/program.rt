@@ -75,8 +75,10 @@ pub fn parse(alloc: Global, bytes: &[u8]) -> Result<Program, ParseFault>
             continue;
         }
         if is_wrong_bar(&phase, &parts) {
+            drop(phase);
             return Err(ParseFault::S4(token.place));
         }
+        drop(phase);
         return Err(ParseFault::S3(token.place));
     }
 }

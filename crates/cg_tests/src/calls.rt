@@ -142,7 +142,7 @@ fn c_calls_succeed(rt: HostRuntime) -> Result<(), Fail> {
     };
     let (left, right) = (COpnd::Number(1), COpnd::Number(2));
     let stmts = op_stmts(alloc, Op::Add, Word::U64, to, left, right)?;
-    assert!(rt; matches!(stmts.as_slice(), [CStmt::Assign(_, _)]));
+    assert!(rt; matches!(stmts.as_slice(), [CStmt::Assign(..)]));
     let text = b"#include <stdint.h>\n#include \"cogent.h\"\n";
     let Ok(program) = read_c(alloc, text) else {
         panic!(rt; "no program")

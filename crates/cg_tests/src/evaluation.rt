@@ -73,8 +73,8 @@ fn expect(
     if !is_plain(kernel) || fun as usize >= kernel.funs.len() {
         panic!(rt; "not a function of a plain source");
     }
-    match eval(alloc, checked, fun, Value::Num(arg), steps) {
-        Ok((Value::Num(value), cost)) => assert_eq!(rt; Some((value, cost)), expected),
+    match &eval(alloc, checked, fun, Value::Num(arg), steps) {
+        Ok((Value::Num(value), cost)) => assert_eq!(rt; Some((*value, *cost)), expected),
         Ok(_) => panic!(rt; "not a word"),
         Err(EvalFault::StepLimit) => assert_eq!(rt; None, expected),
         Err(EvalFault::Memory) => panic!(rt; "no memory"),
@@ -166,7 +166,7 @@ fn values_are_copied_and_words_printed(rt: HostRuntime) -> Result<(), Fail> {
         Name::new(alloc, b"Some")?,
         Box::new(alloc, Value::Fields(fields))?,
     );
-    assert!(rt; matches!(value.copy(alloc)?, Value::Variant(_, _)));
+    assert!(rt; matches!(value.copy(alloc)?, Value::Variant(..)));
     let text = print_value(alloc, &Value::Num(4_294_967_295), &Ty::Word(Word::U32))?;
     assert_eq!(rt; text.as_slice(), b"4294967295".as_slice());
     Ok(())
