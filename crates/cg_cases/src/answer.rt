@@ -47,7 +47,7 @@ fn holds(answer: &Answer, name: &Name, bytes: &[u8]) -> bool {
 
 /// Whether an answer is the one that its case wants, with the files afterwards.
 pub fn is_wanted(case: &Case, answer: &Answer) -> bool {
-    if !same_text(case.wanted.as_slice(), answer.text.as_bytes()) {
+    if !same_text(case.wanted.as_slice(), answer.text.as_slice()) {
         return false;
     }
     for (name, bytes) in &case.files {

@@ -14,7 +14,7 @@ use std::alloc::{AllocError, Global};
 /// What a call answers: a text, and the files afterwards, where the call may change any.
 #[derive(Drop)]
 pub struct Answer {
-    pub text: String,
+    pub text: Vec<u8>,
     pub files: Option<MemoryFiles>,
 }
 
@@ -156,14 +156,13 @@ fn commanded(alloc: Global, words: &[String], case: &Case) -> Result<Answer, All
     let mut files = held(alloc, case.files.as_slice(), case.failing.as_slice())?;
     let mut out = MemorySink::new(alloc, case.unwritten.as_slice().to_vec(alloc)?);
     let code = cogent(alloc, words, &mut files, &mut out).code();
-    let mut text = format!(in alloc; "{code}")?;
+    let status = format!(in alloc; "{code}")?;
+    let mut text = status.as_bytes().to_vec(alloc)?;
     if out.bytes().is_empty() {
-        text.push_str("\n")?;
+        text.push(b'\n')?;
     } else {
-        text.push_str(" ")?;
-        for byte in out.bytes() {
-            text.push(char::from(*byte))?;
-        }
+        text.push(b' ')?;
+        text.extend_from_slice(out.bytes())?;
     }
     Ok(Answer {
         text,
@@ -175,14 +174,13 @@ fn commanded(alloc: Global, words: &[String], case: &Case) -> Result<Answer, All
 pub fn answer_of(alloc: Global, case: &Case) -> Result<Answer, AllocError> {
     match &case.called {
         Called::Command(words) => commanded(alloc, words.as_slice(), case),
-        Called::Call(name, words) => Ok(Answer {
-            text: called(
-                alloc,
-                name.as_slice(),
-                words.as_slice(),
-                source_of(case.files.as_slice()),
-            )?,
-            files: None,
-        }),
+        Called::Call(name, words) => {
+            let source = source_of(case.files.as_slice());
+            let text = called(alloc, name.as_slice(), words.as_slice(), source)?;
+            Ok(Answer {
+                text: text.as_bytes().to_vec(alloc)?,
+                files: None,
+            })
+        }
     }
 }

@@ -30,8 +30,10 @@ fn run_case(
     }
     counts.differences = counts.differences.saturating_add(1);
     let line = case.line;
-    let text = answer.text;
-    write!(told, "{name}:{line}: answered {text}")?;
+    write!(told, "{name}:{line}: answered ")?;
+    for byte in &answer.text {
+        told.push(char::from(*byte))?;
+    }
     Ok(())
 }
 
