@@ -1,5 +1,5 @@
-//! Tests that cross crates: the two evaluations, C texts, orders of graphs, and each call that takes memory once where
-//! there is plenty.
+//! Tests that cross crates and that a case (docs/CASES.md) can't say: the two evaluations, C texts, orders of graphs, an outside that
+//! fails at some calls, and each call that takes memory once where there is plenty.
 #![tactic(auto)]
 
 #[cfg(test)]
@@ -8,5 +8,7 @@ mod calls;
 mod evaluation;
 #[cfg(test)]
 mod orders;
+#[cfg(test)]
+mod outside;
 #[cfg(test)]
 mod reading;

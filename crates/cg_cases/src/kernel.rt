@@ -2,11 +2,10 @@
 // Behind `@` stands a place; a place alone is where a variable is bound.
 use cg_base::{Bound, Items, Name, Part, Place, Sigil, Ty};
 use cg_core::{At, FieldTerm, Form, Fun, KFun, Kernel, Seen, Term, TyArg};
-use std::alloc::Global;
-use std::test::Fail;
+use std::alloc::{AllocError, Global};
 
 /// The text of a kernel.
-pub(crate) fn kernel_text(alloc: Global, kernel: &Kernel) -> Result<String, Fail> {
+pub fn kernel_text(alloc: Global, kernel: &Kernel) -> Result<String, AllocError> {
     let mut text = String::new(alloc);
     for fun in kernel.funs.as_slice() {
         push_function(&mut text, fun)?;
@@ -15,7 +14,7 @@ pub(crate) fn kernel_text(alloc: Global, kernel: &Kernel) -> Result<String, Fail
 }
 
 // A function: its name, type variables and type, and the place of its parameter where it has a body.
-fn push_function(text: &mut String, fun: &KFun) -> Result<(), Fail> {
+fn push_function(text: &mut String, fun: &KFun) -> Result<(), AllocError> {
     push_at(text, &fun.at)?;
     for bound in fun.vars.as_slice() {
         push_bound(text, bound)?;
@@ -32,38 +31,38 @@ fn push_function(text: &mut String, fun: &KFun) -> Result<(), Fail> {
     Ok(())
 }
 
-fn push_place(text: &mut String, place: Place) -> Result<(), Fail> {
+fn push_place(text: &mut String, place: Place) -> Result<(), AllocError> {
     let line = place.line;
     let column = place.column;
     write!(text, "{line}:{column}")?;
     Ok(())
 }
 
-fn push_binder(text: &mut String, place: Place) -> Result<(), Fail> {
+fn push_binder(text: &mut String, place: Place) -> Result<(), AllocError> {
     text.push_str(" ")?;
     push_place(text, place)
 }
 
-fn push_name(text: &mut String, name: &Name) -> Result<(), Fail> {
+fn push_name(text: &mut String, name: &Name) -> Result<(), AllocError> {
     for byte in name.bytes() {
         text.push(char::from(*byte))?;
     }
     Ok(())
 }
 
-fn push_at(text: &mut String, at: &At) -> Result<(), Fail> {
+fn push_at(text: &mut String, at: &At) -> Result<(), AllocError> {
     push_name(text, &at.name)?;
     text.push_str("@")?;
     push_place(text, at.place)
 }
 
-fn push_mention(text: &mut String, at: &At) -> Result<(), Fail> {
+fn push_mention(text: &mut String, at: &At) -> Result<(), AllocError> {
     text.push_str(" ")?;
     push_at(text, at)
 }
 
 // A type variable, with its permissions.
-fn push_bound(text: &mut String, bound: &Bound) -> Result<(), Fail> {
+fn push_bound(text: &mut String, bound: &Bound) -> Result<(), AllocError> {
     text.push_str(" ")?;
     push_name(text, &bound.name)?;
     text.push_str(":")?;
@@ -79,14 +78,14 @@ fn push_bound(text: &mut String, bound: &Bound) -> Result<(), Fail> {
     Ok(())
 }
 
-fn push_written(text: &mut String, written: &TyArg) -> Result<(), Fail> {
+fn push_written(text: &mut String, written: &TyArg) -> Result<(), AllocError> {
     text.push_str(" ")?;
     push_type(text, &written.ty)?;
     text.push_str("@")?;
     push_place(text, written.place)
 }
 
-fn push_sigil(text: &mut String, sigil: Sigil) -> Result<(), Fail> {
+fn push_sigil(text: &mut String, sigil: Sigil) -> Result<(), AllocError> {
     match sigil {
         Sigil::R => text.push_str(".r")?,
         Sigil::W => text.push_str(".w")?,
@@ -96,7 +95,7 @@ fn push_sigil(text: &mut String, sigil: Sigil) -> Result<(), Fail> {
 }
 
 #[cycle(push_type)]
-fn push_type(text: &mut String, ty: &Ty) -> Result<(), Fail> {
+fn push_type(text: &mut String, ty: &Ty) -> Result<(), AllocError> {
     match ty {
         Ty::Var(at) => write!(text, "a{at}")?,
         Ty::Seen(at) => write!(text, "a{at}!")?,
@@ -132,7 +131,7 @@ fn push_abstract(
     name: &Name,
     args: &Items<Ty>,
     sigil: Sigil,
-) -> Result<(), Fail> {
+) -> Result<(), AllocError> {
     text.push_str("(")?;
     push_name(text, name)?;
     push_sigil(text, sigil)?;
@@ -145,7 +144,7 @@ fn push_abstract(
 }
 
 #[cycle(push_type)]
-fn push_parts(text: &mut String, parts: &Items<Part>) -> Result<(), Fail> {
+fn push_parts(text: &mut String, parts: &Items<Part>) -> Result<(), AllocError> {
     for part in parts.as_slice() {
         push_name(text, &part.name)?;
         text.push_str(" : ")?;
@@ -156,7 +155,7 @@ fn push_parts(text: &mut String, parts: &Items<Part>) -> Result<(), Fail> {
 }
 
 #[cycle(push_term)]
-fn push_term(text: &mut String, depth: usize, term: &Term<Place>) -> Result<(), Fail> {
+fn push_term(text: &mut String, depth: usize, term: &Term<Place>) -> Result<(), AllocError> {
     for _ in 0..depth {
         text.push_str(" ")?;
     }
@@ -193,7 +192,7 @@ fn word_of(form: &Form<Place>) -> &'static str {
 }
 
 // What a form holds beside its terms.
-fn push_details(text: &mut String, form: &Form<Place>) -> Result<(), Fail> {
+fn push_details(text: &mut String, form: &Form<Place>) -> Result<(), AllocError> {
     match form {
         Form::Var(at) => write!(text, " {at}")?,
         Form::Bool(value) => write!(text, " {value}")?,
@@ -227,7 +226,7 @@ fn push_details(text: &mut String, form: &Form<Place>) -> Result<(), Fail> {
 }
 
 // A function, with its type arguments.
-fn push_instance(text: &mut String, fun: Fun, args: &Items<TyArg>) -> Result<(), Fail> {
+fn push_instance(text: &mut String, fun: Fun, args: &Items<TyArg>) -> Result<(), AllocError> {
     match fun {
         Fun::User(at) => write!(text, " {at}")?,
         Fun::Lib(lib) => write!(text, " {lib:?}")?,
@@ -239,7 +238,7 @@ fn push_instance(text: &mut String, fun: Fun, args: &Items<TyArg>) -> Result<(),
 }
 
 // Observed variables, and where what is observed in is bound.
-fn push_observers(text: &mut String, seen: &Items<Seen>, binder: Place) -> Result<(), Fail> {
+fn push_observers(text: &mut String, seen: &Items<Seen>, binder: Place) -> Result<(), AllocError> {
     for one in seen.as_slice() {
         let var = one.var;
         write!(text, " {var}@")?;
@@ -248,7 +247,7 @@ fn push_observers(text: &mut String, seen: &Items<Seen>, binder: Place) -> Resul
     push_binder(text, binder)
 }
 
-fn push_fields(text: &mut String, fields: &Items<FieldTerm<Place>>) -> Result<(), Fail> {
+fn push_fields(text: &mut String, fields: &Items<FieldTerm<Place>>) -> Result<(), AllocError> {
     for field in fields.as_slice() {
         text.push_str(" ")?;
         push_name(text, &field.name)?;
@@ -257,7 +256,7 @@ fn push_fields(text: &mut String, fields: &Items<FieldTerm<Place>>) -> Result<()
 }
 
 #[cycle(push_term)]
-fn push_subterms(text: &mut String, depth: usize, form: &Form<Place>) -> Result<(), Fail> {
+fn push_subterms(text: &mut String, depth: usize, form: &Form<Place>) -> Result<(), AllocError> {
     match form {
         Form::Var(_) | Form::Unit | Form::Bool(_) | Form::Lit(_) | Form::Fun(_, _) => {}
         Form::Con(_, part)
@@ -289,7 +288,7 @@ fn push_operands(
     text: &mut String,
     depth: usize,
     operands: &Items<Term<Place>>,
-) -> Result<(), Fail> {
+) -> Result<(), AllocError> {
     for operand in operands.as_slice() {
         push_term(text, depth, operand)?;
     }
@@ -301,7 +300,7 @@ fn push_values(
     text: &mut String,
     depth: usize,
     fields: &Items<FieldTerm<Place>>,
-) -> Result<(), Fail> {
+) -> Result<(), AllocError> {
     for field in fields.as_slice() {
         push_term(text, depth, &field.term)?;
     }

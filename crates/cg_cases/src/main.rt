@@ -1,0 +1,44 @@
+//! The cases: what the program answers in thousands of calls, as files in `data/` that a person or a script writes
+//! (docs/CASES.md). Each file that the words name is gone through; a line is printed for each difference, and last how many there are.
+#![tactic(auto)]
+
+mod answer;
+mod call;
+mod case;
+mod kernel;
+mod reader;
+mod text;
+
+use crate::reader::run_all;
+use std::process::ExitCode;
+use std::rt::Env;
+use std::{env, fs};
+
+/// How many cases there were, and how many were answered otherwise.
+#[derive(Clone, Copy)]
+pub struct Counts {
+    pub cases: u64,
+    pub differences: u64,
+}
+
+fn main(rt: HostRuntime) -> anyhow::Result<ExitCode> {
+    let alloc = rt.alloc();
+    let mut counts = Counts {
+        cases: 0,
+        differences: 0,
+    };
+    let mut told = String::new(alloc);
+    for word in env::args(&rt)?.skip(1) {
+        let bytes = fs::read(&rt, word.as_str())?;
+        run_all(alloc, word.as_str(), &bytes, &mut counts, &mut told)?;
+    }
+    let cases = counts.cases;
+    let differences = counts.differences;
+    print!(rt; "{told}")?;
+    println!(rt; "{cases} cases, {differences} differences")?;
+    Ok(if differences == 0 {
+        ExitCode::SUCCESS
+    } else {
+        ExitCode::FAILURE
+    })
+}
