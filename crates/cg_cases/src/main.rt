@@ -5,6 +5,7 @@
 mod answer;
 mod call;
 mod case;
+mod ctext;
 mod kernel;
 mod reader;
 mod text;

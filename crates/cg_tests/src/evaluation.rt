@@ -46,8 +46,8 @@ fn checked_program(rt: &impl Abort, alloc: Global, program: &Program) -> Result<
     }
 }
 
-/// A source, read, resolved and checked.
-pub(crate) fn checked_source(
+// A source, read, resolved and checked.
+fn checked_source(
     rt: &impl Abort,
     alloc: Global,
     source: &str,
@@ -80,80 +80,6 @@ fn expect(
         Err(EvalFault::Memory) => panic!(rt; "no memory"),
     }
     Ok(())
-}
-
-#[test]
-fn sums_wrap_and_cost_their_nodes(rt: HostRuntime) -> Result<(), Fail> {
-    let alloc = rt.alloc();
-    let checked = checked_source(&rt, alloc, "f : U32 -> U32\nf x = x + 1\n")?;
-    expect(
-        &rt,
-        alloc,
-        &checked,
-        0,
-        41,
-        1_099_511_627_776,
-        Some((42, 3)),
-    )?;
-    expect(&rt, alloc, &checked, 0, 4_294_967_295, 3, Some((0, 3)))?;
-    expect(&rt, alloc, &checked, 0, 41, 2, None)?;
-    expect(&rt, alloc, &checked, 0, 41, 0, None)
-}
-
-#[test]
-fn calls_and_lets_cost_their_nodes(rt: HostRuntime) -> Result<(), Fail> {
-    let alloc = rt.alloc();
-    let source = "g : U32 -> U32\ng x = x + x\nf : U32 -> U32\nf x = let y = g x in g y\n";
-    let checked = checked_source(&rt, alloc, source)?;
-    expect(&rt, alloc, &checked, 1, 3, 13, Some((12, 13)))?;
-    expect(&rt, alloc, &checked, 1, 3, 12, None)?;
-    expect(&rt, alloc, &checked, 0, 3, 3, Some((6, 3)))
-}
-
-#[test]
-fn a_callee_sees_its_argument_alone(rt: HostRuntime) -> Result<(), Fail> {
-    let alloc = rt.alloc();
-    let source =
-        "g : U32 -> U32\ng x = let z = x + 1 in z + x\nf : U32 -> U32\nf x = let y = x + 100 in let w = g x in w + y + x\n";
-    let checked = checked_source(&rt, alloc, source)?;
-    expect(&rt, alloc, &checked, 1, 5, 20, Some((121, 20)))
-}
-
-#[test]
-fn a_chain_of_all_functions_is_evaluated(rt: HostRuntime) -> Result<(), Fail> {
-    let alloc = rt.alloc();
-    let mut source = String::from_str(alloc, "f0 : U32 -> U32\nf0 x = x + 1\n")?;
-    for at in 1..=4_095_u32 {
-        let before = at - 1;
-        source.push_str(&format!(in alloc; "f{at} : U32 -> U32\nf{at} x = f{before} x\n")?)?;
-    }
-    let checked = checked_source(&rt, alloc, &source)?;
-    expect(&rt, alloc, &checked, 4_095, 1, 12_288, Some((2, 12_288)))?;
-    expect(&rt, alloc, &checked, 4_095, 1, 12_287, None)
-}
-
-#[test]
-fn a_million_nodes_are_evaluated(rt: HostRuntime) -> Result<(), Fail> {
-    let alloc = rt.alloc();
-    let mut source = String::from_str(alloc, "f0 : U32 -> U32\nf0 x = x + 1\n")?;
-    for at in 1..=17_u32 {
-        let before = at - 1;
-        source.push_str(&format!(in alloc;
-            "f{at} : U32 -> U32\nf{at} x = let y = f{before} x in f{before} y\n"
-        )?)?;
-    }
-    let checked = checked_source(&rt, alloc, &source)?;
-    // Each function calls the one before twice, at 7 nodes of its own: 10 * 2^17 - 7 nodes.
-    expect(
-        &rt,
-        alloc,
-        &checked,
-        17,
-        5,
-        1_310_713,
-        Some((131_077, 1_310_713)),
-    )?;
-    expect(&rt, alloc, &checked, 17, 5, 1_310_712, None)
 }
 
 #[test]
@@ -207,8 +133,8 @@ fn the_c_of_a_function_is_made(rt: HostRuntime) -> Result<(), Fail> {
     Ok(())
 }
 
-/// The C text of a plain source.
-pub(crate) fn printed(alloc: Global, checked: &Checked) -> Result<Vec<u8>, Fail>
+// The C text of a plain source.
+fn printed(alloc: Global, checked: &Checked) -> Result<Vec<u8>, Fail>
     requires plain { IsTrue (plain_kernel (kernel_of (kernel_in checked.now))) }
 {
     let program = lower(alloc, checked)?;
