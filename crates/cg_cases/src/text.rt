@@ -156,7 +156,7 @@ impl Maker {
             };
             return Ok(());
         }
-        if !byte.is_ascii_digit() || count > 1_000_000 {
+        if !byte.is_ascii_digit() || count > 10_000_000 {
             return Err(TextFault::Escape);
         }
         self.repeat = Repeat::Count(
