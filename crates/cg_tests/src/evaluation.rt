@@ -47,11 +47,7 @@ fn checked_program(rt: &impl Abort, alloc: Global, program: &Program) -> Result<
 }
 
 // A source, read, resolved and checked.
-fn checked_source(
-    rt: &impl Abort,
-    alloc: Global,
-    source: &str,
-) -> Result<Checked, Fail> {
+fn checked_source(rt: &impl Abort, alloc: Global, source: &str) -> Result<Checked, Fail> {
     match parse(alloc, source.as_bytes()) {
         Ok(program) => checked_program(rt, alloc, &program),
         Err(_) => panic!(rt; "not spelled"),
