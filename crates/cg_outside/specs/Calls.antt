@@ -1,4 +1,5 @@
--- Calls in memory are numbered from 1, and some numbers are told to fail. The numbers stay at 2^64 - 1.
+-- What a call does to the counts of faults, and which calls in memory fail: they are numbered from 1, and some numbers are told to fail. The
+-- numbers stay at 2^64 - 1.
 use Rattle.std.specs.Prelude.{◌≡◌, ℕ, List, Bool, true, false, nat_eq, Ok, Err}
 use Rattle.std.specs.List.{list_any}
 use Rattle.std.specs.declared.result.Result.{Result}

@@ -2,7 +2,7 @@
 ghost use Rattle.std.specs.Prelude.{◌≡◌, ◌^◌, ◌<◌, ◌++◌, [], None, Some, MatchOption, IfOk, OnOk, IsErrOf};
 ghost use Rattle.std.specs.FinMap.{get, insert};
 ghost use Rattle.cg_outside.specs.Held.{IsReadOf, HoldsPrefix, TookPrefix};
-ghost use Rattle.cg_outside.specs.Causes.{HasCause, HasRisen, next_count};
+ghost use Rattle.cg_outside.specs.Causes.{next_count};
 ghost use Rattle.cg_outside.specs.Calls.{FailsWhere, CountsFault, RaisesCount};
 ghost use Rattle.cg_outside.specs.Entries.{held_of};
 
@@ -68,12 +68,11 @@ impl Files for MemoryFiles {
         requires { most < 2 ^ 32 }
         ensures bytes { IfOk result (λ bytes. IsReadOf (Some (memory_held self.old)) name.now most bytes.items) }
         ensures held { memory_held self.new ≡ memory_held self.old }
-        ensures cause { HasCause name.now (failed_reads_of self.old) (failed_reads_of self.new) result }
+        ensures cause { CountsFault name.now (failed_reads_of self.old) (failed_reads_of self.new) result }
         ensures writes { failed_writes_of self.new ≡ failed_writes_of self.old }
 
         // What follows is said of files in memory alone.
         ensures told { FailsWhere (read_fails self.old name.now) result }
-        ensures counted { CountsFault name.now (failed_reads_of self.old) (failed_reads_of self.new) result }
         ensures calls { calls_of self.new ≡ next_count (calls_of self.old) }
         ensures failing { failing_of self.new ≡ failing_of self.old }
     {
@@ -94,14 +93,13 @@ impl Files for MemoryFiles {
         ensures failed { IsErrOf result FileFault.Failed →
             HoldsPrefix name.now bytes.now (Some (memory_held self.old)) (Some (memory_held self.new)) }
         ensures memory { IsErrOf result FileFault.Memory → memory_held self.new ≡ memory_held self.old }
-        ensures cause { HasCause name.now (failed_writes_of self.old) (failed_writes_of self.new) result }
+        ensures cause { CountsFault name.now (failed_writes_of self.old) (failed_writes_of self.new) result }
         ensures reads { failed_reads_of self.new ≡ failed_reads_of self.old }
 
         // What follows is said of files in memory alone.
         ensures told { FailsWhere (told_to_fail self.old) result }
         ensures emptied { IsErrOf result FileFault.Failed →
             memory_held self.new ≡ insert (memory_held self.old) name.now [] }
-        ensures counted { CountsFault name.now (failed_writes_of self.old) (failed_writes_of self.new) result }
         ensures calls { calls_of self.new ≡ next_count (calls_of self.old) }
         ensures failing { failing_of self.new ≡ failing_of self.old }
     {
@@ -166,12 +164,11 @@ impl Sink for MemorySink {
         ensures failed { IsErrOf result FileFault.Failed →
             TookPrefix bytes.now (Some (memory_taken self.old)) (Some (memory_taken self.new)) }
         ensures memory { IsErrOf result FileFault.Memory → memory_taken self.new ≡ memory_taken self.old }
-        ensures cause { HasRisen (sink_faults_of self.old) (sink_faults_of self.new) result }
+        ensures cause { RaisesCount (sink_faults_of self.old) (sink_faults_of self.new) result }
 
         // What follows is said of an output in memory alone.
         ensures told { FailsWhere (sink_told_to_fail self.old) result }
         ensures kept { IsErrOf result FileFault.Failed → memory_taken self.new ≡ memory_taken self.old }
-        ensures counted { RaisesCount (sink_faults_of self.old) (sink_faults_of self.new) result }
         ensures calls { sink_calls_of self.new ≡ next_count (sink_calls_of self.old) }
         ensures failing { sink_failing_of self.new ≡ sink_failing_of self.old }
     {

@@ -4,7 +4,7 @@ ghost use Rattle.std.specs.declared.option.Option.{Option};
 ghost use Rattle.std.specs.Io.KnownBytes.{append_known};
 ghost use Rattle.cg_outside.specs.declared.outside.FileFault.TheVariants.{Memory};
 ghost use Rattle.cg_outside.specs.Held.{Held, IsReadOf, with_file, HoldsPrefix, TookPrefix};
-ghost use Rattle.cg_outside.specs.Causes.{HasCause, HasRisen};
+ghost use Rattle.cg_outside.specs.Calls.{CountsFault, RaisesCount};
 
 use cg_base::Memory as OutOfMemory;
 use std::alloc::{AllocError, AllocFailed, Global};
@@ -47,10 +47,10 @@ pub trait Files {
     /// What they hold, where that is told.
     ghost held: { Self → Option Held };
 
-    /// How many reads of each name have failed. No call makes it fall.
+    /// How many reads of each name have failed: a failed one adds one, and no other call changes it.
     ghost failed_reads: { Self → List ℕ → ℕ };
 
-    /// How many writes of each name have failed. No call makes it fall.
+    /// How many writes of each name have failed: a failed one adds one, and no other call changes it.
     ghost failed_writes: { Self → List ℕ → ℕ };
 
     /// All bytes of a file, or where there are more than `most`, the first `most + 1`. A file that isn't held may be
@@ -59,7 +59,7 @@ pub trait Files {
         requires { most < 2 ^ 32 }
         ensures bytes { IfOk result (λ bytes. IsReadOf (held self.old) name.now most bytes.items) }
         ensures held { held self.new ≡ held self.old }
-        ensures cause { HasCause name.now (failed_reads self.old) (failed_reads self.new) result }
+        ensures cause { CountsFault name.now (failed_reads self.old) (failed_reads self.new) result }
         ensures writes { failed_writes self.new ≡ failed_writes self.old };
 
     /// Makes a file's contents these bytes, and leaves all other files. `Failed` comes only where the count of writes
@@ -69,7 +69,7 @@ pub trait Files {
         ensures failed { IsErrOf result FileFault.Failed →
             HoldsPrefix name.now bytes.now (held self.old) (held self.new) }
         ensures memory { IsErrOf result FileFault.Memory → held self.new ≡ held self.old }
-        ensures cause { HasCause name.now (failed_writes self.old) (failed_writes self.new) result }
+        ensures cause { CountsFault name.now (failed_writes self.old) (failed_writes self.new) result }
         ensures reads { failed_reads self.new ≡ failed_reads self.old };
 }
 
@@ -78,7 +78,7 @@ pub trait Sink {
     /// The bytes taken so far, where they are told.
     ghost taken: { Self → Option (List ℕ) };
 
-    /// How many calls have failed. No call makes it fall, and it stays at 2^64 - 1.
+    /// How many calls have failed: a failed one adds one, and no other call changes it. It stays at 2^64 - 1.
     ghost faults: { Self → ℕ };
 
     /// Appends these bytes. `Failed` comes only where the count of faults rose; a prefix of the bytes is then appended.
@@ -87,5 +87,5 @@ pub trait Sink {
         ensures failed { IsErrOf result FileFault.Failed →
             TookPrefix bytes.now (taken self.old) (taken self.new) }
         ensures memory { IsErrOf result FileFault.Memory → taken self.new ≡ taken self.old }
-        ensures cause { HasRisen (faults self.old) (faults self.new) result };
+        ensures cause { RaisesCount (faults self.old) (faults self.new) result };
 }
