@@ -1,0 +1,5 @@
+pub mod Joining
+pub mod Following
+pub mod Deciding
+pub mod Topping
+pub mod Samples
