@@ -1,6 +1,8 @@
 // Real files and the real output: the trusted edge. No contract can say what they hold, so they tell nothing of it.
-ghost use Rattle.std.specs.Prelude.{◌≡◌, ◌+◌, ◌<◌, ◌≤◌, ◌^◌, None, length, vec_len, IfOk};
+ghost use Rattle.std.specs.Prelude.{◌≡◌, ◌+◌, ◌<◌, ◌≤◌, ◌^◌, None, length, vec_len, IfOk, IsTrue};
+ghost use Rattle.std.specs.IoError.{error_kind};
 ghost use Rattle.cg_outside.specs.Failures.{times};
+ghost use Rattle.cg_cli.specs.Loops.{told_as, ReadsTurn, ReadsFront, WritesWhole};
 
 use cg_outside::{Failures, FileFault, Files, Sink};
 use std::alloc::Global;
@@ -12,7 +14,9 @@ use std::{fs, io};
 const CHUNK: usize = 4096;
 
 /// What an error of std's is where nothing has changed yet.
-fn fault_of(error: &io::Error) -> FileFault {
+fn fault_of(error: &io::Error) -> FileFault
+    ensures { result ≡ told_as (error_kind error.now) }
+{
     if error.kind() == ErrorKind::OutOfMemory {
         FileFault::Memory
     } else {
@@ -20,30 +24,42 @@ fn fault_of(error: &io::Error) -> FileFault {
     }
 }
 
-/// All bytes that a reader gives, or the first `most + 1` of them.
+/// One turn of a read: appends what the reader gives, at most `room` bytes, and answers how many these are. None is the
+/// end of what it has.
+fn read_turn<R: Read>(reader: &mut R, bytes: &mut Vec<u8>, room: usize) -> Result<usize, FileFault>
+    requires { 0 < room }
+    ensures { ReadsTurn room (R.remaining reader.old) (R.remaining reader.new) bytes.old.items bytes.new.items result }
+{
+    let mut chunk = [0u8; CHUNK];
+    match reader.read(&mut chunk[..CHUNK.min(room)]) {
+        Ok(count) => {
+            bytes.extend_from_slice(&chunk[..count])?;
+            Ok(count)
+        }
+        Err(error) => Err(fault_of(&error)),
+    }
+}
+
+/// All bytes that a reader gives, or the first `most + 1` of them. Where it can't, the reader has lost what was read.
 fn read_front<R: Read>(alloc: Global, reader: &mut R, most: usize) -> Result<Vec<u8>, FileFault>
     requires { most < 2 ^ 32 }
-    ensures { IfOk result (λ bytes. length bytes.items ≤ most + 1) }
+    ensures { ReadsFront most (R.remaining reader.old) (R.remaining reader.new) result }
 {
     let mut bytes = Vec::new(alloc);
-    let mut chunk = [0u8; CHUNK];
-    while bytes.len() <= most {
-        let room = CHUNK.min(most + 1 - bytes.len());
-        let count = match reader.read(&mut chunk[..room]) {
-            Ok(count) => count,
-            Err(error) => return Err(fault_of(&error)),
-        };
-        if count == 0 {
-            break;
+    'turns: while bytes.len() <= most {
+        let room = most + 1 - bytes.len();
+        if read_turn(reader, &mut bytes, room)? == 0 {
+            return Ok(bytes);
         }
-        bytes.extend_from_slice(&chunk[..count])?;
     }
     Ok(bytes)
 }
 
 /// Writes all the bytes. A turn that takes none has failed, and want of memory is told as such only before the first
 /// byte was taken.
-fn write_whole<W: Write>(writer: &mut W, bytes: &[u8]) -> Result<(), FileFault> {
+fn write_whole<W: Write>(writer: &mut W, bytes: &[u8]) -> Result<(), FileFault>
+    ensures { WritesWhole bytes.now (W.contents writer.old) (W.contents writer.new) result }
+{
     let mut at = 0;
     while at < bytes.len() {
         match writer.write(&bytes[at..]) {
@@ -160,20 +176,122 @@ impl<'a, P: Print> Sink for RealOutput<'a, P> {
 #[cfg(test)]
 mod tests {
     use super::*;
+    use std::fmt::Display;
+    use std::io::Error;
     use std::test::Fail;
+
+    /// So many bytes. The chunks that a read asks for differ.
+    fn pattern(alloc: Global, count: usize) -> Result<Vec<u8>, FileFault> {
+        let mut bytes = Vec::new(alloc);
+        for i in 0..count {
+            bytes.push((i % 251) as u8)?;
+        }
+        Ok(bytes)
+    }
+
+    /// A writer that takes few bytes a turn, and whose memory is wanting after so many turns.
+    #[derive(Drop)]
+    struct Sips {
+        taken: Vec<u8>,
+        turns: usize,
+    }
+
+    impl Write for Sips {
+        fn write(&mut self, buf: &[u8]) -> io::Result<usize> {
+            if self.turns == 0 {
+                return Err(Error::from(ErrorKind::OutOfMemory));
+            }
+            self.turns -= 1;
+            let count = buf.len().min(7);
+            self.taken.extend_from_slice(&buf[..count])?;
+            Ok(count)
+        }
+
+        fn flush(&mut self) -> io::Result<()> {
+            Ok(())
+        }
+    }
+
+    /// A system that prints nothing.
+    #[derive(Drop)]
+    struct Broken(ErrorKind);
+
+    impl Print for Broken {
+        fn print<D: Display + Drop>(&self, _value: D) -> io::Result<()> {
+            Err(Error::from(self.0))
+        }
+
+        fn println<D: Display + Drop>(&self, _value: D) -> io::Result<()> {
+            Err(Error::from(self.0))
+        }
+
+        fn write_all(&self, _bytes: &[u8]) -> io::Result<()> {
+            Err(Error::from(self.0))
+        }
+    }
+
+    /// Whether a write of a name fails; the count of its failed writes is then one more.
+    fn write_fails<F: Files>(files: &mut F, name: &str) -> bool
+        ensures { IsTrue result → F.failed_writes files.new name.now ≡ F.failed_writes files.old name.now + 1 }
+    {
+        matches!(files.write(name, b"one two three"), Err(FileFault::Failed))
+    }
+
+    /// Whether a read of a name fails; the count of its failed reads is then one more.
+    fn read_fails<F: Files>(alloc: Global, files: &mut F, name: &str) -> bool
+        ensures { IsTrue result → F.failed_reads files.new name.now ≡ F.failed_reads files.old name.now + 1 }
+    {
+        matches!(files.read(alloc, name, 100), Err(FileFault::Failed))
+    }
 
     #[test]
     fn real_files_read_what_was_written(rt: HostRuntime) -> Result<(), Fail> {
-        let mut files = RealFiles::new(rt.alloc(), &rt);
-        files.write("real.txt", b"one two three")?;
-        let whole = files.read(rt.alloc(), "real.txt", 100)?;
-        assert_eq!(rt; whole.as_slice(), b"one two three".as_slice());
-        let front = files.read(rt.alloc(), "real.txt", 2)?;
-        assert_eq!(rt; front.as_slice(), b"one".as_slice());
-        let absent = files.read(rt.alloc(), "absent.txt", 2);
-        assert!(rt; matches!(absent, Err(FileFault::Failed)));
-        let nowhere = files.write("absent/real.txt", b"x");
-        assert_eq!(rt; nowhere, Err(FileFault::Failed));
+        let alloc = rt.alloc();
+        let bytes = pattern(alloc, 10_000)?;
+        let mut files = RealFiles::new(alloc, &rt);
+        files.write("real.bin", &bytes)?;
+        let whole = files.read(alloc, "real.bin", 10_000)?;
+        assert!(rt; whole.as_slice() == bytes.as_slice());
+        let front = files.read(alloc, "real.bin", 5_000)?;
+        assert_eq!(rt; front.len(), 5_001);
+        assert!(rt; bytes.starts_with(&front));
+        files.write("real.bin", b"one two three")?;
+        let shorter = files.read(alloc, "real.bin", 10_000)?;
+        assert!(rt; shorter.as_slice() == b"one two three".as_slice());
+        Ok(())
+    }
+
+    #[test]
+    fn real_files_fail_where_the_system_does(rt: HostRuntime) {
+        let alloc = rt.alloc();
+        let mut files = RealFiles::new(alloc, &rt);
+        assert!(rt; write_fails(&mut files, "/dev/full"));
+        assert!(rt; write_fails(&mut files, "absent/real.bin"));
+        assert!(rt; read_fails(alloc, &mut files, "absent.bin"));
+        // A directory can be opened and not read.
+        assert!(rt; read_fails(alloc, &mut files, "."));
+    }
+
+    #[test]
+    fn a_piece_is_written_in_turns(rt: HostRuntime) -> Result<(), Fail> {
+        let alloc = rt.alloc();
+        let bytes = pattern(alloc, 10_000)?;
+        for (turns, taken, answer) in [
+            (10_000, 10_000, Ok(())),
+            (3, 21, Err(FileFault::Failed)),
+            (0, 0, Err(FileFault::Memory)),
+        ] {
+            let mut sips = Sips {
+                taken: Vec::new(alloc),
+                turns,
+            };
+            assert_eq!(rt; write_whole(&mut sips, &bytes), answer);
+            assert_eq!(rt; sips.taken.len(), taken);
+            assert!(rt; bytes.starts_with(&sips.taken));
+        }
+        let mut room = [0u8; 100];
+        let full = write_whole(&mut room.as_mut_slice(), &bytes);
+        assert_eq!(rt; full, Err(FileFault::Failed));
         Ok(())
     }
 
@@ -183,5 +301,18 @@ mod tests {
         out.write(b"printed\n")?;
         assert_eq!(rt; out.faults, 0);
         Ok(())
+    }
+
+    #[test]
+    fn real_output_counts_its_faults(rt: HostRuntime) {
+        for (kind, answer, faults) in [
+            (ErrorKind::StorageFull, FileFault::Failed, 1),
+            (ErrorKind::OutOfMemory, FileFault::Memory, 0),
+        ] {
+            let broken = Broken(kind);
+            let mut out = RealOutput::new(&broken);
+            assert_eq!(rt; out.write(b"lost"), Err(answer));
+            assert_eq!(rt; out.faults, faults);
+        }
     }
 }
