@@ -244,20 +244,36 @@ mod tests {
         matches!(files.read(alloc, name, 100), Err(FileFault::Failed))
     }
 
+    /// Whether a read of a name gives just these bytes.
+    fn reads<F: Files>(alloc: Global, files: &mut F, most: usize, bytes: &[u8]) -> bool
+        requires { most < 2 ^ 32 }
+    {
+        match files.read(alloc, "real.bin", most) {
+            Ok(read) => read.as_slice() == bytes,
+            Err(_) => false,
+        }
+    }
+
+    /// Whether a writer of so many turns takes just these bytes of a piece, with this answer.
+    fn takes(piece: &[u8], turns: usize, taken: Vec<u8>, answer: Result<(), FileFault>) -> bool {
+        let mut sips = Sips {
+            taken: Vec::new(*taken.allocator()),
+            turns,
+        };
+        write_whole(&mut sips, piece) == answer && sips.taken == taken
+    }
+
     #[test]
     fn real_files_read_what_was_written(rt: HostRuntime) -> Result<(), Fail> {
         let alloc = rt.alloc();
         let bytes = pattern(alloc, 10_000)?;
+        let front = pattern(alloc, 5_001)?;
         let mut files = RealFiles::new(alloc, &rt);
         files.write("real.bin", &bytes)?;
-        let whole = files.read(alloc, "real.bin", 10_000)?;
-        assert!(rt; whole.as_slice() == bytes.as_slice());
-        let front = files.read(alloc, "real.bin", 5_000)?;
-        assert_eq!(rt; front.len(), 5_001);
-        assert!(rt; bytes.starts_with(&front));
-        files.write("real.bin", b"one two three")?;
-        let shorter = files.read(alloc, "real.bin", 10_000)?;
-        assert!(rt; shorter.as_slice() == b"one two three".as_slice());
+        assert!(rt; reads(alloc, &mut files, 10_000, &bytes));
+        assert!(rt; reads(alloc, &mut files, 5_000, &front));
+        files.write("real.bin", &front)?;
+        assert!(rt; reads(alloc, &mut files, 10_000, &front));
         Ok(())
     }
 
@@ -276,21 +292,10 @@ mod tests {
     fn a_piece_is_written_in_turns(rt: HostRuntime) -> Result<(), Fail> {
         let alloc = rt.alloc();
         let bytes = pattern(alloc, 10_000)?;
-        for (turns, taken, answer) in [
-            (10_000, 10_000, Ok(())),
-            (3, 21, Err(FileFault::Failed)),
-            (0, 0, Err(FileFault::Memory)),
-        ] {
-            let mut sips = Sips {
-                taken: Vec::new(alloc),
-                turns,
-            };
-            assert_eq!(rt; write_whole(&mut sips, &bytes), answer);
-            assert_eq!(rt; sips.taken.len(), taken);
-            assert!(rt; bytes.starts_with(&sips.taken));
-        }
-        let mut room = [0u8; 100];
-        let full = write_whole(&mut room.as_mut_slice(), &bytes);
+        assert!(rt; takes(&bytes, 10_000, pattern(alloc, 10_000)?, Ok(())));
+        assert!(rt; takes(&bytes, 3, pattern(alloc, 21)?, Err(FileFault::Failed)));
+        assert!(rt; takes(&bytes, 0, Vec::new(alloc), Err(FileFault::Memory)));
+        let full = write_whole(&mut [0u8; 100].as_mut_slice(), &bytes);
         assert_eq!(rt; full, Err(FileFault::Failed));
         Ok(())
     }
