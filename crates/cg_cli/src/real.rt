@@ -1,5 +1,5 @@
 // Real files and the real output: the trusted edge. No contract can say what they hold, so they tell nothing of it.
-ghost use Rattle.std.specs.Prelude.{◌≡◌, ◌+◌, ◌<◌, ◌≤◌, ◌^◌, None, length, vec_len, IfOk, IsTrue};
+ghost use Rattle.std.specs.Prelude.{◌≡◌, ◌+◌, ◌<◌, ◌≤◌, ◌^◌, [], None, length, vec_len, IfOk, IsTrue};
 ghost use Rattle.std.specs.IoError.{error_kind};
 ghost use Rattle.cg_outside.specs.Failures.{times};
 ghost use Rattle.cg_cli.specs.Loops.{told_as, ReadsTurn, ReadsFront, WritesWhole};
@@ -83,7 +83,10 @@ pub struct RealFiles<'a, R: FileSystem> {
 
 impl<'a, R: FileSystem> RealFiles<'a, R> {
     /// The files that a system reaches; no call has failed yet.
-    pub fn new(alloc: Global, system: &'a R) -> RealFiles<'a, R> {
+    pub fn new(alloc: Global, system: &'a R) -> RealFiles<'a, R>
+        ensures reads { result.reads ≡ [] }
+        ensures writes { result.writes ≡ [] }
+    {
         RealFiles {
             alloc,
             system,
@@ -154,7 +157,9 @@ pub struct RealOutput<'a, P: Print> {
 
 impl<'a, P: Print> RealOutput<'a, P> {
     /// The output that a system prints to; no call has failed yet.
-    pub fn new(system: &'a P) -> RealOutput<'a, P> {
+    pub fn new(system: &'a P) -> RealOutput<'a, P>
+        ensures { result.faults ≡ 0 }
+    {
         RealOutput { system, faults: 0 }
     }
 }
