@@ -38,8 +38,8 @@ ReadsFront most old new (Ok bytes) = IsFrontOf most old new bytes.items
 ReadsFront most old new (Err Failed) = LosesAtMost most old new
 ReadsFront most old new (Err Memory) = LosesAtMost (most + 1) old new
 
--- a writer takes all the bytes; or it has failed, and took some first ones but not all; or memory was wanting, and it took nothing. No bytes
--- are always taken.
+-- a writer takes all the bytes; or it has failed, and took a prefix that is short of them; or memory was wanting, and it took nothing. A
+-- piece that is empty is always taken.
 abbrev pub WritesWhole : {T : Type 0} → List ℕ → Option (List ℕ) → Option (List ℕ) → Result T FileFault → Type 0
 WritesWhole bytes old new (Ok _) = Appends old new bytes
 WritesWhole bytes old new (Err Failed) = (n : ℕ) × (n < length bytes) × Appends old new (take n bytes)
