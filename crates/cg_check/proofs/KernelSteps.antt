@@ -20,6 +20,7 @@ use Rattle.cg_derive.proofs.KeptSteps.{small_body}
 use Rattle.cg_check.specs.View.{unit_of, Agrees, IsJudged, IsChecked}
 use Rattle.cg_check.proofs.OnePass.{none_fails, all_hold}
 use Rattle.cg_check.proofs.Main.{kernels, kept, first_fault}
+use Rattle.cg_check.proofs.SmallLaws.{small_is_ranged}
 
 no_fault : (o : Option Fault) → verdict o ≡ Ok tt → o ≡ None
 no_fault None h = refl
@@ -65,4 +66,4 @@ pub is_checked : (kernel : Kernel) (checked : Checked) → IsSmallKernel (kernel
 is_checked kernel checked small accepted same cores trees =
     record { accepted = accepted; same = same; cores = cores; trees = trees; kept = kept_of kernel (cores_in checked) (trees_in checked) small accepted cores trees }
 
-pub ruleset kernel_steps = (judged, kept_of, is_checked, from_here, small_body)
+pub ruleset kernel_steps = (judged, kept_of, is_checked, from_here, small_body, small_is_ranged)

@@ -1,11 +1,13 @@
 // The check of a kernel: its functions in turn.
 #![tactic(auto, using(crate::proofs::KernelSteps::kernel_steps))]
 
-ghost use Rattle.std.specs.Prelude.{◌≡◌, ◌||◌, length, map, IfOk, Some, Ok};
+ghost use Rattle.std.specs.Prelude.{◌≡◌, ◌||◌, true, length, map, IfOk, Some, Ok};
 ghost use Rattle.cg_base.specs.Types.{type_of};
 ghost use Rattle.cg_core.specs.Kernels.{the_term, function_of, body_of, kernel_of, maybe_body_of};
 ghost use Rattle.cg_faults.specs.declared.rule.Rule.TheVariants.{K3};
 ghost use Rattle.cg_core.specs.Small.{IsSmall, IsSmallBody, IsSmallKernel};
+ghost use Rattle.cg_lawful.specs.Lawful.{IsLawfulKernel};
+ghost use Rattle.cg_check.specs.Small.{is_small_kernel};
 ghost use Rattle.cg_check.specs.Pass.{need, last as last_of, check_body as body_pass, check_function as function_pass, check_kernel};
 ghost use Rattle.cg_typing.specs.Accepted.{IsAcceptedKernel};
 ghost use Rattle.cg_check.specs.View.{bounds_of, unit_of, Agrees, IsJudged, IsChecked, Judges};
@@ -20,11 +22,12 @@ use cg_kinds::kinds_of;
 use cg_typing::Checked;
 use std::alloc::Global;
 
-/// Judges a kernel of small terms (docs/LANGUAGE.md, "Typing"). Ok exactly where it is accepted: the kernel with the
+/// Judges a lawful kernel that is small (docs/LANGUAGE.md, "Typing"). Ok exactly where it is accepted: the kernel with the
 /// core of each body and its derivation, which has the occurrence marks. `Rule` comes exactly where some event of it
 /// fails, with the rule and the place of the first that does; and `Memory` for want of memory.
 pub fn check(alloc: Global, kernel: Kernel) -> Result<Checked, Refusal>
-    requires small { IsSmallKernel (kernel_of kernel) }
+    requires lawful { IsLawfulKernel (kernel_of kernel) }
+    requires small { is_small_kernel (kernel_of kernel) ≡ true }
     ensures { Judges kernel result }
 {
     judge(alloc, &kernel.funs)?;
@@ -41,6 +44,7 @@ fn judge(alloc: Global, functions: &Items<KFun>) -> Result<(), Refusal>
 
 // What is kept of a kernel that is accepted.
 fn kept(alloc: Global, kernel: Kernel) -> Result<Checked, Memory>
+    requires lawful { IsLawfulKernel (kernel_of kernel) }
     requires small { IsSmallKernel (kernel_of kernel) }
     requires accepted { IsAcceptedKernel (kernel_of kernel) }
     ensures { IfOk result (λ checked. IsChecked kernel checked) }

@@ -2,17 +2,20 @@
 ghost use Rattle.std.specs.Prelude.{◌≡◌, map};
 ghost use Rattle.std.specs.Option.{option_copied};
 ghost use Rattle.cg_core.specs.Kernels.{kernel_of};
+ghost use Rattle.cg_lawful.specs.Lawful.{IsLawfulKernel};
 ghost use Rattle.cg_typing.specs.Kept.{AreKept, maybe_core, maybe_tree};
+ghost use Rattle.cg_typing.specs.Once.{lawful_once};
 
 use cg_base::Items;
 use cg_core::{Deriv, Kernel, Term, Typed};
 
-/// A kernel that is accepted, with the core and the derivation of each of its bodies (docs/LANGUAGE.md, "Typing").
+/// A lawful kernel that is accepted, with the core and the derivation of each of its bodies (docs/LANGUAGE.md, "Typing").
 #[derive(Drop)]
 pub struct Checked {
     kernel: Kernel,
     cores: Items<Option<Term<Typed>>>,
     derivs: Items<Option<Deriv>>,
+    ghost lawful: { IsLawfulKernel (kernel_of kernel) } by { lawful_once (kernel_of kernel) },
     ghost kept: { ∥ AreKept (kernel_of kernel) (kernel_of kernel) (map maybe_core cores) (map maybe_tree derivs) ∥₁ },
 }
 
@@ -25,6 +28,7 @@ impl Checked {
         cores: Items<Option<Term<Typed>>>,
         derivs: Items<Option<Deriv>>,
     ) -> Checked
+        requires lawful { IsLawfulKernel (kernel_of kernel) }
         requires kept { AreKept (kernel_of kernel) (kernel_of kernel) (map maybe_core cores) (map maybe_tree derivs) }
         ensures kernel { kernel_in result ≡ kernel }
         ensures cores { cores_in result ≡ cores }

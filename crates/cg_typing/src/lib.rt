@@ -7,4 +7,4 @@ mod checked;
 mod law;
 
 pub use checked::Checked;
-pub use law::{linear_goes_one_way, splits_lose_nothing};
+pub use law::{checked_sources_hold, linear_goes_one_way, splits_lose_nothing};
