@@ -1,5 +1,5 @@
 -- Evaluation of a plain source is never stuck.
-use Rattle.std.proofs.Common.{◌≡◌, ℕ, zero, suc, ◌<◌, Bool, true, false, ◌&&◌, Option, Some, None, List, [], ◌∷◌, length, map, refl, sym, ap, ◌∙◌, arith}
+use Rattle.std.proofs.Common.{◌≡◌, ◌↔◌, ℕ, zero, suc, ◌<◌, Bool, true, false, ◌&&◌, Option, Some, None, List, [], ◌∷◌, length, map, refl, sym, ap, ◌∙◌, arith}
 use Rattle.std.specs.List.{list_all}
 use Rattle.std.proofs.lemmas.Bool.{ltb-true}
 use Rattle.std.proofs.lemmas.Grind.{not_there}
@@ -17,7 +17,8 @@ use Rattle.cg_typing.specs.declared.checked.Checked.{Checked}
 use Rattle.cg_typing.specs.Holds.{kernel_in, cores_in, trees_in}
 use Rattle.cg_typing.specs.Kept.{maybe_core, maybe_tree, IsKeptMaybe, AreKept}
 use Rattle.cg_value.specs.Values.{Val, function}
-use Rattle.cg_eval.specs.Evaluation.{Outcome, spent, stuck, gives, bind, Table, Context, only, Run, enter, apply, node_shape, with_fuel, evaluate}
+use Rattle.cg_eval.specs.Evaluation.{Outcome, spent, stuck, gives, bind, Table, Context, only, Run, enter, apply, node_shape, with_fuel, evaluate, outcome, evaluation, cost_of}
+use Rattle.cg_eval.specs.Laws.{PlainIsNeverStuck}
 use Rattle.cg_eval.specs.Machine.{table_of}
 use Rattle.cg_eval.specs.Plain.{plain, plain_shape, plain_operands, plain_called, plain_body, plain_function, plain_kernel, is_word_to_word}
 
@@ -146,3 +147,17 @@ pub never_stuck : (checked : Checked) (i : ℕ) (x : Val) (l : ℕ) → plain_ke
 never_stuck checked i x l p h e =
     let functions = kernel_of (kernel_in checked) in
     not_there checked.kept (λ k. apply_fine (length functions) (table_of (cores_in checked)) (λ j w. kept_plain (length functions) functions functions (cores_in checked) (trees_in checked) j k p w) i x l h e)
+
+-- what gives no value and isn't stuck is spent
+only_spent : (table : Table) (n : ℕ) (o : Outcome) → Fine o → cost_of table n o ≡ None → o ≡ spent
+only_spent table n spent f e = refl
+only_spent table n stuck f e = absurd (f refl)
+only_spent table n (gives v l) f e = absurd (cc)
+
+none_is_spent : (table : Table) (n : ℕ) (f x : Val) → Fine (outcome table n f x) → (evaluation table n f x ≡ None) ↔ (outcome table n f x ≡ spent)
+unfolding evaluation
+none_is_spent table n f x fine = (only_spent table n (outcome table n f x) fine, λ e. ap (cost_of table n) e)
+
+pub plain_is_never_stuck : PlainIsNeverStuck
+plain_is_never_stuck checked i n x p h =
+    let fine = never_stuck checked i x n p h in (fine, none_is_spent (table_of (cores_in checked)) n (function (User i) []) x fine)

@@ -1,5 +1,5 @@
 -- The steps of the evaluator, as equations.
-use Rattle.std.proofs.Common.{◌≡◌, ℕ, suc, ◌+◌, ◌-◌, ◌<◌, ◌≤◌, List, [], ◌∷◌, ◌++◌, take, length, map, Some, None, get_or, refl, sym, ap, ◌∙◌, arith, Bor, Box, Vec, subst}
+use Rattle.std.proofs.Common.{◌≡◌, ℕ, suc, ◌+◌, ◌-◌, ◌<◌, ◌≤◌, List, [], ◌∷◌, ◌++◌, take, length, map, Some, get_or, refl, sym, ap, ◌∙◌, arith, Bor, Box, Vec, subst}
 use Rattle.std.proofs.lemmas.List.{map-append, length-map}
 use Rattle.std.proofs.Math.Seq.{take-append_seam}
 use Rattle.std.specs.declared.alloc.Global.{Global}
@@ -18,7 +18,7 @@ use Rattle.cg_value.specs.declared.value.Value.{Value}
 use Rattle.cg_value.specs.Values.{Val, value_of}
 use Rattle.cg_eval.specs.declared.machine.Frame.{Frame}
 use Rattle.cg_eval.specs.declared.machine.Frame.TheVariants.{Right, Sum, Argument, Call, Body, Leave, Back}
-use Rattle.cg_eval.specs.Evaluation.{Outcome, spent, stuck, gives, bind, pay, Table, Context, push, sum_at, evaluate, node, node_shape, apply, evaluation, cost_of}
+use Rattle.cg_eval.specs.Evaluation.{Outcome, spent, stuck, gives, bind, pay, Table, Context, push, sum_at, evaluate, node, node_shape, apply, evaluation, IsSpent, cost_of}
 use Rattle.cg_eval.specs.Machine.{Cont, resume, after, on, rest_from, rest}
 use Rattle.cg_eval.proofs.Fixed.{at_node, at_none, Within, apply_within}
 
@@ -74,9 +74,9 @@ module _ (table : Table) where
   unfolding evaluation
   eval_gives n f x v l e = ap (cost_of table n) e
 
-  pub eval_spent : (n : ℕ) (f x : Val) → apply table (evaluate table) f x n ≡ spent → evaluation table n f x ≡ None
+  pub eval_spent : (n : ℕ) (f x : Val) → apply table (evaluate table) f x n ≡ spent → IsSpent table n f x
   unfolding evaluation
-  eval_spent n f x e = ap (cost_of table n) e
+  eval_spent n f x e = record { out = e; none = ap (cost_of table n) e }
 
   left_of : (n : ℕ) (o : Outcome) (v : Val) (l : ℕ) → Within n o → o ≡ gives v l → l ≤ n
   left_of n o v l w e = let h : Within n (gives v l) = subst (Within n) e w in h

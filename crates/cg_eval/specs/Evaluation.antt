@@ -1,6 +1,6 @@
 -- Evaluation: what a term gives on values, and what that costs (the paper's value semantics, section 3; docs/LANGUAGE.md,
 -- "Evaluation"). A budget is handed on from part to part: each node takes 1 of it. Nothing here has a heap or a stack.
-use Rattle.std.specs.Prelude.{ℕ, zero, suc, ◌+◌, ◌-◌, ◌%◌, ◌^◌, Bool, List, [], ◌∷◌, ◌++◌, cond, nat_lt, Option, Some, None, get_or}
+use Rattle.std.specs.Prelude.{◌≡◌, ℕ, zero, suc, ◌+◌, ◌-◌, ◌%◌, ◌^◌, Bool, List, [], ◌∷◌, ◌++◌, cond, nat_lt, Option, Some, None, get_or}
 use Rattle.cg_base.specs.declared.fun.Fun.{Fun}
 use Rattle.cg_base.specs.declared.fun.Fun.TheVariants.{User, Lib}
 use Rattle.cg_base.specs.Types.{Tau, word}
@@ -111,9 +111,19 @@ module _ (table : Table) where
   cost_of n stuck = None
   cost_of n (gives v left) = Some (v, n - left)
 
+  -- what comes of a function, a value and a budget of n
+  abbrev pub outcome : ℕ → Val → Val → Outcome
+  outcome n f x = apply evaluate f x n
+
   -- What a function gives on a value, and the cost, where that is at most n; else none.
   unfoldable pub evaluation : ℕ → Val → Val → Option (Val × ℕ)
-  evaluation n f x = cost_of n (apply evaluate f x n)
+  evaluation n f x = cost_of n (outcome n f x)
+
+  -- A budget of n is not enough for a function and a value: it is spent before there is a value, and nothing is asked for that
+  -- has no meaning.
+  pub record IsSpent (n : ℕ) (f x : Val) : Type 0 where
+    pub out : outcome n f x ≡ spent
+    pub none : evaluation n f x ≡ None
 
   -- the same with so much fuel
   unfoldable pub fuelled : ℕ → ℕ → Val → Val → Option (Val × ℕ)

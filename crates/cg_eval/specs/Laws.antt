@@ -1,7 +1,13 @@
 -- The laws of evaluation.
-use Rattle.std.specs.Prelude.{◌≡◌, ℕ, ◌≤◌, Some}
-use Rattle.cg_value.specs.Values.{Val}
-use Rattle.cg_eval.specs.Evaluation.{Table, evaluation, fuelled}
+use Rattle.std.specs.Prelude.{◌≡◌, ◌≢◌, ◌↔◌, ℕ, ◌≤◌, ◌<◌, IsTrue, Some, None, [], length}
+use Rattle.cg_base.specs.declared.fun.Fun.TheVariants.{User}
+use Rattle.cg_core.specs.Kernels.{kernel_of}
+use Rattle.cg_typing.specs.declared.checked.Checked.{Checked}
+use Rattle.cg_typing.specs.Holds.{kernel_in, cores_in}
+use Rattle.cg_value.specs.Values.{Val, function}
+use Rattle.cg_eval.specs.Evaluation.{spent, stuck, Table, outcome, evaluation, fuelled}
+use Rattle.cg_eval.specs.Machine.{table_of}
+use Rattle.cg_eval.specs.Plain.{plain_kernel}
 
 -- a result is within its budget, and every budget from its cost on gives the same at the same cost
 abbrev pub MoreBudget : Type 0
@@ -13,3 +19,10 @@ abbrev pub FuelIsFree : Type 0
 FuelIsFree = (table : Table) (fuel n k : ℕ) (f x v : Val)
     → (evaluation table n f x ≡ Some (v, k) → k ≤ fuel → fuelled table fuel n f x ≡ Some (v, k))
     × (fuelled table fuel n f x ≡ Some (v, k) → evaluation table n f x ≡ Some (v, k))
+
+-- In a checked source that is plain no call is stuck, so a call gives no value exactly where its budget is spent.
+abbrev pub PlainIsNeverStuck : Type 0
+PlainIsNeverStuck = (checked : Checked) (i n : ℕ) (x : Val)
+    → IsTrue (plain_kernel (kernel_of (kernel_in checked))) → i < length (kernel_of (kernel_in checked))
+    → (outcome (table_of (cores_in checked)) n (function (User i) []) x ≢ stuck)
+    × ((evaluation (table_of (cores_in checked)) n (function (User i) []) x ≡ None) ↔ (outcome (table_of (cores_in checked)) n (function (User i) []) x ≡ spent))

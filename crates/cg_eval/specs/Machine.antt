@@ -1,5 +1,5 @@
 -- What a state of the evaluator will give: a frame stands for what is done with the value that it waits for.
-use Rattle.std.specs.Prelude.{◌≡◌, ℕ, ◌+◌, ◌*◌, ◌<◌, List, [], ◌∷◌, length, map, take, Option, Some, None, Result, Ok, Err, false}
+use Rattle.std.specs.Prelude.{◌≡◌, ℕ, ◌+◌, ◌*◌, ◌<◌, List, [], ◌∷◌, length, map, take, Option, Some, Result, Ok, Err, false}
 use Rattle.cg_base.specs.declared.fun.Fun.{Fun}
 use Rattle.cg_base.specs.Types.{type_of}
 use Rattle.cg_core.specs.declared.at.TyArg.{TyArg}
@@ -19,7 +19,7 @@ use Rattle.cg_eval.specs.declared.machine.Focus.TheVariants.{Want, Have}
 use Rattle.cg_eval.specs.declared.machine.Frame.{Frame}
 use Rattle.cg_eval.specs.declared.machine.Frame.TheVariants.{Right, Sum, Argument, Call, Body, Leave, Back}
 use Rattle.cg_eval.specs.declared.machine.Machine.{Machine}
-use Rattle.cg_eval.specs.Evaluation.{Outcome, spent, stuck, gives, bind, Table, Context, push, sum_at, evaluate, apply, evaluation}
+use Rattle.cg_eval.specs.Evaluation.{Outcome, spent, stuck, gives, bind, Table, Context, push, sum_at, evaluate, apply, outcome, evaluation, IsSpent}
 
 -- The functions of a source, by the cores that are kept of it. None is abstract yet.
 abbrev pub table_of : List (Option (Term Typed)) → Table
@@ -94,8 +94,8 @@ Gave o (Err Memory) = Unit {0}
 -- a call with a budget of n: its value and cost, or why there are none
 abbrev pub Exact : Table → ℕ → Val → Val → Result (Value × ℕ) Halt → Type 0
 Exact table n f x (Ok r) = evaluation table n f x ≡ Some (value_of r.0, r.1)
-Exact table n f x (Err StepLimit) = evaluation table n f x ≡ None
-Exact table n f x (Err Stuck) = apply table (evaluate table) f x n ≡ stuck
+Exact table n f x (Err StepLimit) = IsSpent table n f x
+Exact table n f x (Err Stuck) = outcome table n f x ≡ stuck
 Exact table n f x (Err Memory) = Unit {0}
 
 -- a function without type arguments, as a value
@@ -104,9 +104,9 @@ Mentions fun args (Ok v) = (args ≡ []) × (value_of v ≡ function fun [])
 Mentions fun args (Err Stuck) = 0 < length args
 Mentions fun args (Err _) = ⊥
 
--- What the evaluator answers: the value and its cost exactly where there are such; that the steps are too few exactly where
--- there are none; and want of memory is free.
-abbrev pub Answers : Option (Val × ℕ) → Result (Value × ℕ) EvalFault → Type 0
-Answers o (Ok r) = o ≡ Some (value_of r.0, r.1)
-Answers o (Err fault.StepLimit) = o ≡ None
-Answers o (Err fault.Memory) = Unit {0}
+-- What the evaluator answers of a call with a budget of n: the value and its cost exactly where there are such; that the steps
+-- are too few exactly where they are spent, and not where evaluation is stuck; and want of memory is free.
+abbrev pub Answers : Table → ℕ → Val → Val → Result (Value × ℕ) EvalFault → Type 0
+Answers table n f x (Ok r) = evaluation table n f x ≡ Some (value_of r.0, r.1)
+Answers table n f x (Err fault.StepLimit) = IsSpent table n f x
+Answers table n f x (Err fault.Memory) = Unit {0}

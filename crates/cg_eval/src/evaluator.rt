@@ -6,7 +6,6 @@ ghost use Rattle.cg_base.specs.declared.fun.Fun.TheVariants.{User};
 ghost use Rattle.cg_core.specs.Kernels.{kernel_of};
 ghost use Rattle.cg_typing.specs.Holds.{cores_in, kernel_in};
 ghost use Rattle.cg_value.specs.Values.{value_of, function};
-ghost use Rattle.cg_eval.specs.Evaluation.{evaluation};
 ghost use Rattle.cg_eval.specs.Machine.{table_of, Answers, Exact};
 ghost use Rattle.cg_eval.specs.Plain.{plain_kernel};
 
@@ -41,8 +40,9 @@ fn call(
 }
 
 /// The value that a function of a plain source gives on an argument, and the cost of that, in evaluated nodes, which is
-/// at most `steps` (the paper's value semantics, section 3; docs/LANGUAGE.md, "Evaluation"). `StepLimit` exactly where the cost
-/// is above `steps`; `Memory` for want of memory. It keeps a stack of its own.
+/// at most `steps` (the paper's value semantics, section 3; docs/LANGUAGE.md, "Evaluation"). `StepLimit` exactly where the steps
+/// are spent before there is a value, which is never said where evaluation is stuck; `Memory` for want of memory. It keeps a
+/// stack of its own.
 pub fn eval(
     alloc: Global,
     checked: &Checked,
@@ -52,7 +52,7 @@ pub fn eval(
 ) -> Result<(Value, u64), EvalFault>
     requires plain { IsTrue (plain_kernel (kernel_of (kernel_in checked.now))) }
     requires there { fun < length (kernel_of (kernel_in checked.now)) }
-    ensures { Answers (evaluation (table_of (cores_in checked.now)) steps (function (User fun) []) (value_of arg)) result }
+    ensures { Answers (table_of (cores_in checked.now)) steps (function (User fun) []) (value_of arg) result }
 {
     let fun = Value::Fun(Fun::User(fun), Items::new(alloc));
     match call(alloc, checked, fun, arg, steps) {

@@ -12,5 +12,5 @@ mod words;
 
 pub use evaluator::eval;
 pub use fault::EvalFault;
-pub use law::{fuel_is_free, more_budget};
+pub use law::{fuel_is_free, more_budget, plain_is_never_stuck};
 pub use plain::is_plain;
