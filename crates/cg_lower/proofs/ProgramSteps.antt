@@ -56,8 +56,8 @@ no_more checked i h =
     (λ t e. not_there checked.kept (λ k. past (kernel_of (kernel_in checked)) (kernel_of (kernel_in checked)) (cores_in checked) (trees_in checked) i t k h e))
 
 -- the positions as many as the functions of the kernel
-pub counted : (checked : Checked) (kernel : Kernel) (count n : ℕ) → kernel ≡ kernel_in checked → n ≡ length kernel.funs → count ≡ n → count ≡ length (kernel_of (kernel_in checked))
-counted checked kernel count n e f g = g ∙ f ∙ sym (length-map kernel.funs function_of) ∙ ap (λ k. length (kernel_of k)) e
+pub counted : (checked : Checked) (kernel : Kernel) (count : ℕ) → kernel ≡ kernel_in checked → count ≡ length kernel.funs → count ≡ length (kernel_of (kernel_in checked))
+counted checked kernel count e f = f ∙ sym (length-map kernel.funs function_of) ∙ ap (λ k. length (kernel_of k)) e
 
 pub no_more_than : (checked : Checked) (count : ℕ) → count ≡ length (kernel_of (kernel_in checked)) → HasNoMore (bodies_of (cores_in checked)) count
 no_more_than checked count e i h = no_more checked i (omega (arith, e, h))

@@ -1,7 +1,7 @@
 // The C program of a plain source.
 #![tactic(auto, using(crate::proofs::ProgramSteps::program_steps))]
 
-ghost use Rattle.std.specs.Prelude.{◌≡◌, ◌++◌, [], length, map, IfOk, OnOk};
+ghost use Rattle.std.specs.Prelude.{◌≡◌, ◌<◌, ◌^◌, ◌++◌, [], length, map, IfOk, OnOk};
 ghost use Rattle.cg_core.specs.Kernels.{kernel_of};
 ghost use Rattle.cg_ctree.specs.Trees.{function_of, program_of};
 ghost use Rattle.cg_typing.specs.Holds.{cores_in, kernel_in};
@@ -49,15 +49,14 @@ fn functions_of(alloc: Global, checked: &Checked, order: &[u32]) -> Result<Items
 /// The C program of a checked source that is plain: a function for each function of the source, in which each sum and each
 /// call has a local of its own, callees before callers (docs/LANGUAGE.md, "Lowering"). Where evaluation gives a value at
 /// cost k, the C function returns it within 32k + 32 steps, and the program can be printed. Forms that no plain source has are
-/// lowered to the number 0. The one error is want of memory, also where there are more than 2^32 functions.
+/// lowered to the number 0. The one error is want of memory.
 pub fn lower(alloc: Global, checked: &Checked) -> Result<CProgram, Memory>
+    requires few { length (kernel_of (kernel_in checked.now)) < 2 ^ 32 }
     ensures made { IfOk result (λ p. program_of p ≡ lowered (bodies_of (cores_in checked.now)) (length (kernel_of (kernel_in checked.now)))) }
     ensures simulates { IfOk result (λ p. Simulates checked.now (program_of p)) }
     ensures printable { IfOk result (λ p. CanBePrinted checked.now (program_of p)) }
 {
-    let Ok(count) = u32::try_from(checked.kernel().funs.len()) else {
-        return Err(Memory);
-    };
+    let count = checked.kernel().funs.len() as u32;
     let ranks = ranks_of(alloc, checked, count)?;
     let order = in_order(alloc, &ranks, count)?;
     Ok(CProgram {

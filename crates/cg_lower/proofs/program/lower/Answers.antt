@@ -10,24 +10,24 @@ use Rattle.cg_lower.proofs.program.lower.Goals as goal
 
 pub ranks_of-requires : goal.ranks_of-requires
 ranks_of-requires c =
-    let n = counted c.args.checked.now c.kernel.result.now c.in-Ok.count c.len.result c.kernel.ensures c.len.ensures c.in-Ok.ensures.1 in
-    record { whole = no_more_than c.args.checked.now c.in-Ok.count n }
+    let n = counted c.args.checked.now c.kernel.result.now c.len-count.result c.kernel.ensures c.len-count.ensures in
+    record { whole = no_more_than c.args.checked.now c.len-count.result n }
 
 pub returns-clause-made : goal.returns-clause-made
 returns-clause-made c =
-    let n = counted c.args.checked.now c.kernel.result.now c.in-Ok.count c.len.result c.kernel.ensures c.len.ensures c.in-Ok.ensures.1 in
-    let o = order_is (bodies_of (cores_in c.args.checked.now)) c.in-Ok.count (no_more_than c.args.checked.now c.in-Ok.count n) in
+    let n = counted c.args.checked.now c.kernel.result.now c.len-count.result c.kernel.ensures c.len-count.ensures in
+    let o = order_is (bodies_of (cores_in c.args.checked.now)) c.len-count.result (no_more_than c.args.checked.now c.len-count.result n) in
     grind (arith, c.in_ok-functions_of.ensures, c.in_ok-order.ensures, c.in_ok-ranks.ensures, c.deref.ensures)
 
 pub returns-clause-simulates : goal.returns-clause-simulates
 returns-clause-simulates c =
-    let n = counted c.args.checked.now c.kernel.result.now c.in-Ok.count c.len.result c.kernel.ensures c.len.ensures c.in-Ok.ensures.1 in
-    let o = order_is (bodies_of (cores_in c.args.checked.now)) c.in-Ok.count (no_more_than c.args.checked.now c.in-Ok.count n) in
-    let f = few_in_order c.args.checked.now c.deref.result.now c.in_ok-order.order.items c.in_ok-ranks.ranks.items c.in-Ok.count n c.in_ok-functions_of.ensures.few c.deref.ensures.value c.in_ok-order.ensures c.in_ok-ranks.ensures in
-    simulated c.args.checked.now (program_of (record { structs = c.new.result; funs = c.in_ok-functions_of.field-0 })) c.in-Ok.count n (omega (arith, c.in-Ok.ensures.0, c.in-Ok.ensures.1)) (returns-clause-made c) f
+    let n = counted c.args.checked.now c.kernel.result.now c.len-count.result c.kernel.ensures c.len-count.ensures in
+    let o = order_is (bodies_of (cores_in c.args.checked.now)) c.len-count.result (no_more_than c.args.checked.now c.len-count.result n) in
+    let f = few_in_order c.args.checked.now c.deref.result.now c.in_ok-order.order.items c.in_ok-ranks.ranks.items c.len-count.result n c.in_ok-functions_of.ensures.few c.deref.ensures.value c.in_ok-order.ensures c.in_ok-ranks.ensures in
+    simulated c.args.checked.now (program_of (record { structs = c.new.result; funs = c.in_ok-functions_of.field-0 })) c.len-count.result n (omega (arith, n, c.requires.few)) (returns-clause-made c) f
 
 pub returns-clause-printable : goal.returns-clause-printable
 returns-clause-printable c =
-    let n = counted c.args.checked.now c.kernel.result.now c.in-Ok.count c.len.result c.kernel.ensures c.len.ensures c.in-Ok.ensures.1 in
-    let f = few_in_order c.args.checked.now c.deref.result.now c.in_ok-order.order.items c.in_ok-ranks.ranks.items c.in-Ok.count n c.in_ok-functions_of.ensures.few c.deref.ensures.value c.in_ok-order.ensures c.in_ok-ranks.ensures in
-    printable_at c.args.checked.now (program_of (record { structs = c.new.result; funs = c.in_ok-functions_of.field-0 })) c.in-Ok.count n (omega (arith, c.in-Ok.ensures.0, c.in-Ok.ensures.1)) (returns-clause-made c) f
+    let n = counted c.args.checked.now c.kernel.result.now c.len-count.result c.kernel.ensures c.len-count.ensures in
+    let f = few_in_order c.args.checked.now c.deref.result.now c.in_ok-order.order.items c.in_ok-ranks.ranks.items c.len-count.result n c.in_ok-functions_of.ensures.few c.deref.ensures.value c.in_ok-order.ensures c.in_ok-ranks.ensures in
+    printable_at c.args.checked.now (program_of (record { structs = c.new.result; funs = c.in_ok-functions_of.field-0 })) c.len-count.result n (omega (arith, n, c.requires.few)) (returns-clause-made c) f
