@@ -1,10 +1,12 @@
 // Evaluation of plain sources, and their C.
-ghost use Rattle.std.specs.Prelude.{IsTrue};
+ghost use Rattle.std.specs.Prelude.{IfOk, IsTrue};
 ghost use Rattle.cg_core.specs.Kernels.{kernel_of};
+ghost use Rattle.cg_ctree.specs.Trees.{program_of as c_program_of};
 ghost use Rattle.cg_lawful.specs.Lawful.{IsLawfulKernel};
 ghost use Rattle.cg_lawful_laws.specs.Shaped.{IsShaped};
 ghost use Rattle.cg_surface.specs.Programs.{program_of};
 ghost use Rattle.cg_eval.specs.Plain.{plain_kernel};
+ghost use Rattle.cg_lower.specs.Printables.{CanBePrinted};
 ghost use Rattle.cg_typing.specs.Holds.{kernel_in};
 
 use cg_base::{Items, Name, Ty, Word};
@@ -12,6 +14,7 @@ use cg_check::{check, is_small};
 use cg_cmachine::{RunFault, run_words};
 use cg_core::Kernel;
 use cg_ctext::print_c;
+use cg_ctree::CProgram;
 use cg_eval::{EvalFault, eval, is_plain};
 use cg_lower::{lower, lower_function};
 use cg_parser::parse;
@@ -78,6 +81,16 @@ fn expect(
     Ok(())
 }
 
+/// The C of a source that has no more functions than a source may have.
+fn lowered(rt: &impl Abort, alloc: Global, checked: &Checked) -> Result<CProgram, Fail>
+    ensures { IfOk result (λ p. CanBePrinted checked.now (c_program_of p)) }
+{
+    if checked.kernel().funs.len() > 4096 {
+        panic!(rt; "more functions than a source may have");
+    }
+    Ok(lower(alloc, checked)?)
+}
+
 #[test]
 fn values_are_copied_and_words_printed(rt: HostRuntime) -> Result<(), Fail> {
     let alloc = rt.alloc();
@@ -100,7 +113,7 @@ fn the_c_of_a_source_gives_the_same(rt: HostRuntime) -> Result<(), Fail> {
     let source = "f : U32 -> U32\nf x = let y = g x in g y\ng : U32 -> U32\ng x = x + x\n";
     let checked = checked_source(&rt, alloc, source)?;
     expect(&rt, alloc, &checked, 0, 3, 13, Some((12, 13)))?;
-    let program = lower(alloc, &checked)?;
+    let program = lowered(&rt, alloc, &checked)?;
     assert_eq!(rt;
         program.funs.get(0).map(|first| first.name.bytes()),
         Some(b"f1".as_slice())
@@ -130,10 +143,10 @@ fn the_c_of_a_function_is_made(rt: HostRuntime) -> Result<(), Fail> {
 }
 
 // The C text of a plain source.
-fn printed(alloc: Global, checked: &Checked) -> Result<Vec<u8>, Fail>
+fn printed(rt: &impl Abort, alloc: Global, checked: &Checked) -> Result<Vec<u8>, Fail>
     requires plain { IsTrue (plain_kernel (kernel_of (kernel_in checked.now))) }
 {
-    let program = lower(alloc, checked)?;
+    let program = lowered(rt, alloc, checked)?;
     Ok(print_c(alloc, &program)?)
 }
 
@@ -144,7 +157,7 @@ fn the_c_of_a_source_is_printed(rt: HostRuntime) -> Result<(), Fail> {
     if !is_plain(checked.kernel()) {
         panic!(rt; "not a plain source");
     }
-    let text = printed(alloc, &checked)?;
+    let text = printed(&rt, alloc, &checked)?;
     let expected = b"#include <stdint.h>
 #include \"cogent.h\"
 

@@ -1,7 +1,5 @@
 use Rattle.std.proofs.Common.{sym, ◌∙◌}
-use Rattle.cg_core.specs.Kernels.{kernel_of}
-use Rattle.cg_check.proofs.SmallLaws.{small_is_ranged}
 use Rattle.cg_tests.proofs.evaluation.checked_kernel.Goals as goal
 
 pub check-requires : goal.check-requires
-check-requires g c = record { small = small_is_ranged (kernel_of c.args.kernel) c.requires (sym c.is_small.ensures ∙ c.if-not-is_small.false) }
+check-requires g c = record { lawful = c.requires; small = sym c.is_small.ensures ∙ c.if-not-is_small.false }
