@@ -90,7 +90,7 @@ sum_gives word to l r = record { steps = 1; within = omega arith; runs = sum_run
 
 pub op_code_computes : OpCodeComputes
 op_code_computes Add word to l r = sum_gives word to l r
-op_code_computes _ word to l r = tt
+op_code_computes _ word to l r = refl
 
 pub computed_where : (op : Op) (word : Word) (to : CPath) (l r : COpnd) (made : Result (List CStmt) Memory) → IfOk made (λ stmts. map stmt_of stmts ≡ op_code op word to l r)
     → IfOk made (λ stmts. Computes op word to l r (map stmt_of stmts))

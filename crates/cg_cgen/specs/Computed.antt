@@ -34,11 +34,12 @@ pub record Gives (word : Word) (to : CPath) (left right : COpnd) (f : ℕ → �
   pub runs : (calls : Calls) (n : ℕ) (t : CTy) (frame : Frame) (rest a b : ℕ) → IsNumber word frame left a → IsNumber word frame right b → IsVariable word frame to
       → run_block calls n t (to_block code) frame (steps + rest) ≡ done (goes (set to.base (f a b) frame)) rest
 
--- statements do what an operator of a word does on numbers: a sum is taken modulo 2^n at a word of n bits
+-- Statements do what an operator of a word does on numbers: a sum is taken modulo 2^n at a word of n bits. Of an operator that has
+-- no C so far there are none: C for it wants a row here.
 abbrev pub Computes : Op → Word → CPath → COpnd → COpnd → List Stmt → Type 0
 Computes Add word to left right code = Gives word to left right (λ a b. (a + b) % 2 ^ bits word) code
-Computes _ word to left right code = Unit {0}
+Computes _ word to left right code = code ≡ []
 
--- the C of each operator does what the operator does
+-- the C of each operator does what the operator does, and an operator without a row has none
 abbrev pub OpCodeComputes : Type 0
 OpCodeComputes = (op : Op) (word : Word) (to : CPath) (left right : COpnd) → Computes op word to left right (op_code op word to left right)
