@@ -1,17 +1,19 @@
 -- From the parts of the two runs of a function to what is said of them.
-use Rattle.std.proofs.Common.{◌≡◌, ℕ, zero, suc, List, [], ◌∷◌, Option, Some, None, Ok, Err, length, map, refl, sym, ap, ◌∙◌, subst, rules}
+use Rattle.std.proofs.Common.{◌≡◌, ℕ, zero, suc, List, [], ◌∷◌, inl, inr, Option, Some, Result, Ok, Err, length, map, refl, sym, ap, ◌∙◌, subst, rules}
 use Rattle.cg_base.specs.declared.fun.Fun.TheVariants.{User}
+use Rattle.std.specs.Prelude.{IfOk, string_bytes}
+use Rattle.cg_base.specs.declared.memory.Memory.{Memory}
 use Rattle.cg_base.specs.declared.place.Place.{Place}
 use Rattle.cg_core.specs.declared.term.Term.{Term}
 use Rattle.cg_core.specs.declared.term.Typed.{Typed}
-use Rattle.cg_core.specs.Kernels.{kernel_of}
+use Rattle.cg_core.specs.Kernels.{Function, kernel_of}
 use Rattle.cg_cread.specs.Answers.{Answers}
 use Rattle.cg_cread.specs.declared.fault.CFault.TheVariants.{Text}
 use Rattle.cg_ctext.specs.Printed.{printed}
 use Rattle.cg_ctree.specs.declared.tree.CProgram.{CProgram}
 use Rattle.cg_ctree.specs.Spells.{CSpells}
 use Rattle.cg_ctree.specs.Trees.{Program, program_of}
-use Rattle.cg_eval.specs.Evaluation.{Table, evaluation}
+use Rattle.cg_eval.specs.Evaluation.{Table, evaluation, IsSpent}
 use Rattle.cg_eval.specs.Machine.{table_of}
 use Rattle.cg_lower.specs.Lowered.{lowered}
 use Rattle.cg_lower.specs.Plainly.{Simulates}
@@ -22,12 +24,16 @@ use Rattle.cg_typing.specs.Kept.{maybe_core}
 use Rattle.cg_value.specs.declared.value.Value.{the_lemmas}
 use Rattle.cg_value.specs.declared.value.Value.TheVariants.{Num}
 use Rattle.cg_value.specs.Values.{Val, value_of, number, function}
-use Rattle.cg_driver.specs.declared.report.Report.{Report}
-use Rattle.cg_driver.specs.declared.status.Status.TheVariants.{Done, StepLimit}
+use Rattle.cg_steps.specs.declared.report.Report.{Report}
+use Rattle.cg_steps.specs.declared.status.Status.{Status}
+use Rattle.cg_steps.specs.declared.status.Status.TheVariants.{Done, Refused, Usage, ReadFault, WriteFault, Memory as NoMemory, StepLimit, HeapRefused, CertRefused, TooLarge}
+use Rattle.cg_steps.specs.Steps.{refuses, goes}
 use Rattle.cg_driver.specs.Executed.{cores_of, Emits, Gives, Machines, Executes}
 use Rattle.cg_driver.specs.Judged.{functions_in, HoldsCores}
 use Rattle.cg_driver.specs.Lines.{report, step_limit_line}
-use Rattle.cg_driver.specs.Reports.{IsLine, Reports}
+use Rattle.cg_steps.specs.Parts.{IsLine, Reports, Rules}
+use Rattle.cg_driver.specs.Commands.{Judges, evaluated, ran_lines}
+use Rattle.cg_driver.specs.Found.{Found, functions, with_value}
 use Rattle.cg_driver.specs.Run.{bodies_in, table_in, emitted}
 use Rattle.cg_driver.proofs.Saying.{line_says}
 
@@ -74,27 +80,58 @@ pub runs : (checked : Checked) (at arg : ℕ) (v : Val) (cost result taken n : �
     → (r : Report) → IsLine Done (report (number n) (number result) cost taken [] [] []) r → (steps : ℕ) → Gives checked at arg steps v cost → Reports (Executes (functions_in checked) at arg steps) r
 runs checked at arg v cost result taken n cores m is r line steps gives =
     let same : n ≡ result = is result m.equal in
-    line_says (Executes (functions_in checked) at arg steps) Done (report (number n) (number result) cost taken [] [] []) r line (record {
-      cores = cores_of checked;
-      derived = cores;
-      value = n;
-      cost = cost;
-      evaluates = ap (λ (t : Table). evaluation t steps (function (User at) []) (number arg)) (sym (table_same (cores_in checked))) ∙ gives ∙ ap (λ x. Some (x, cost)) (m.equal ∙ ap number (sym same));
-      program = m.program;
-      spelled = m.spelled;
-      result = result;
-      taken = taken;
-      left = m.left;
-      ends = m.ends;
-      counted = m.counted;
-      equal = sym same;
-      lines = refl;
-    })
-
-pub runs_out : (checked : Checked) (at arg steps : ℕ) → HoldsCores checked → evaluation (table_of (cores_in checked)) steps (function (User at) []) (value_of (Num arg)) ≡ None
-    → (r : Report) → IsLine StepLimit (step_limit_line steps) r → Reports (Executes (functions_in checked) at arg steps) r
-runs_out checked at arg steps cores none r line =
-    line_says (Executes (functions_in checked) at arg steps) StepLimit (step_limit_line steps) r line (
-      record { cores = cores_of checked; derived = cores; none = ap (λ (t : Table). evaluation t steps (function (User at) []) (number arg)) (sym (table_same (cores_in checked))) ∙ ap (evaluation (table_of (cores_in checked)) steps (function (User at) [])) (sym (word_value arg)) ∙ none },
-      refl,
+    line_says (Executes (functions_in checked) at arg steps) Done (report (number n) (number result) cost taken [] [] []) r line (
+      n,
+      cost,
+      record {
+        cores = cores_of checked;
+        derived = cores;
+        gives = ap (λ (t : Table). evaluation t steps (function (User at) []) (number arg)) (sym (table_same (cores_in checked))) ∙ gives ∙ ap (λ x. Some (x, cost)) (m.equal ∙ ap number (sym same));
+      },
+      record {
+        cores = cores_of checked;
+        derived = cores;
+        program = m.program;
+        spelled = m.spelled;
+        result = result;
+        taken = taken;
+        left = m.left;
+        ends = m.ends;
+        counted = m.counted;
+        equal = sym same;
+        lines = refl;
+      },
     )
+
+pub runs_out : (checked : Checked) (at arg steps : ℕ) → HoldsCores checked → IsSpent (table_of (cores_in checked)) steps (function (User at) []) (value_of (Num arg))
+    → Executes (functions_in checked) at arg steps StepLimit (step_limit_line steps)
+runs_out checked at arg steps cores out = (
+  record {
+    cores = cores_of checked;
+    derived = cores;
+    spent = subst (λ (t : Table). IsSpent t steps (function (User at) []) (number arg)) (table_same (cores_in checked)) (subst (IsSpent (table_of (cores_in checked)) steps (function (User at) [])) (word_value arg) out);
+  },
+  refl,
+)
+
+-- what both runs say is what the last judgement of `run` comes to
+pub executed : (fs : List Function) (at arg steps : ℕ) (f : Found) → functions f ≡ fs → f.at ≡ at → f.argument ≡ arg → (r : Result Report Memory) → IfOk r (Reports (Executes fs at arg steps))
+    → Rules Judges ran_lines (evaluated steps ∷ []) f r
+executed fs at arg steps f same there given (Err e) h = tt
+executed fs at arg steps f same there given (Ok r) h = from r.status refl (moved h)
+  where
+    moved : Executes fs at arg steps r.status (string_bytes r.text) → Executes (functions f) f.at f.argument steps r.status (string_bytes r.text)
+    moved h = subst (λ x. Executes x f.at f.argument steps r.status (string_bytes r.text)) (sym same) (subst (λ x. Executes fs x f.argument steps r.status (string_bytes r.text)) (sym there)
+        (subst (λ x. Executes fs at x steps r.status (string_bytes r.text)) (sym given) h))
+
+    from : (s : Status) → r.status ≡ s → Executes (functions f) f.at f.argument steps s (string_bytes r.text) → Rules Judges ran_lines (evaluated steps ∷ []) f (Ok r)
+    from Done is h = (goes (with_value h.0 h.1 f), inr (with_value h.0 h.1 f, (h.0, h.1, refl, h.2), refl), (is, h.3))
+    from StepLimit is h = (refuses StepLimit (string_bytes r.text), inl (tt, (refl, h.1, h.0)), (is, refl))
+    from Refused is h = absurd h
+    from Usage is h = absurd h
+    from ReadFault is h = absurd h
+    from WriteFault is h = absurd h
+    from NoMemory is h = absurd h
+    from HeapRefused is h = absurd h
+    from CertRefused is h = absurd h
+    from TooLarge is h = absurd h

@@ -1,86 +1,167 @@
--- From the parts of a call to what is said.
+-- From what the functions for judgements answer to what the judgements come to.
 use Rattle.std.proofs.Common.{◌≡◌, inl, inr, ◌<◌, ◌≤◌, ◌+◌, ◌^◌, ℕ, Bool, true, false, cond, List, [], ◌∷◌, Option, Some, None, Result, Ok, Err, length, map, refl, sym, ap, ◌∙◌, subst, arith}
 use Rattle.std.specs.Prelude.{codes, IfOk, string_bytes, nat_lt, not, position, bytes_eq}
-use Rattle.std.specs.Io.KnownBytes.{append_known}
 use Rattle.std.specs.List.{position_or_len}
-use Rattle.std.proofs.lemmas.Bool.{ltb-true}
-use Rattle.std.proofs.lemmas.Slice.Eq.{bytes_eq-Decides}
 use Rattle.cg_base.specs.declared.limit.Limit.{Limit}
+use Rattle.cg_base.specs.declared.limit.Limit.TheVariants as limits
+use Rattle.cg_base.specs.declared.memory.Memory.{Memory}
 use Rattle.cg_base.specs.declared.place.Place.{Place}
 use Rattle.cg_base.specs.Places.{most}
+use Rattle.cg_check.specs.Small.{is_small_kernel}
 use Rattle.cg_core.specs.declared.kernel.KFun.{KFun}
 use Rattle.cg_core.specs.declared.kernel.Kernel.{Kernel}
 use Rattle.cg_core.specs.Kernels.{Function, function_of, kernel_of}
+use Rattle.cg_desugar.specs.Desugar.{functions_of, functions_limit, NamesStand, WithinLimits}
+use Rattle.cg_desugar.specs.Faults.{NameFault, program_faults}
+use Rattle.cg_desugar.specs.Mentions.{mentions}
+use Rattle.cg_desugar.specs.Order.{AreOrdered, AreGrowing}
+use Rattle.cg_desugar.specs.Takes.{missing_fields}
+use Rattle.cg_circles.specs.Circles.{NoCircle}
 use Rattle.cg_eval.specs.Plain.{plain_kernel}
 use Rattle.cg_heaptext.specs.HeapText.{HeapText}
-use Rattle.cg_desugar.specs.Desugar.{functions_of, NamesStand, WithinLimits}
-use Rattle.cg_resolve.specs.Answers.{Answers as Resolves}
-use Rattle.cg_resolve.specs.declared.fault.Fault.TheVariants.{Limit as Passes}
-use Rattle.cg_surface.specs.Programs.{Entry, program_depth}
+use Rattle.cg_names.specs.Says.{IsFirst}
+use Rattle.cg_takes.specs.Says as takes
 use Rattle.cg_parser.specs.Grammar.{Spells}
 use Rattle.cg_parser.specs.Answers.{depth_limit}
 use Rattle.cg_parser_laws.proofs.ItemFaults.{spelled_ordered}
 use Rattle.cg_parser_laws.proofs.ItemTakes.{spelled_growing}
+use Rattle.cg_resolve.specs.Answers.{IsCircleAt, Passes}
+use Rattle.cg_steps.specs.declared.report.Report.{Report}
+use Rattle.cg_steps.specs.declared.report.Step.{Step}
+use Rattle.cg_steps.specs.declared.report.Step.TheVariants.{Goes, Ends}
+use Rattle.cg_steps.specs.declared.status.Status.{Status}
+use Rattle.cg_steps.specs.declared.status.Status.TheVariants.{Refused, HeapRefused, TooLarge}
+use Rattle.cg_steps.specs.Steps.{refuses, goes, Settles}
+use Rattle.cg_steps.specs.Parts.{IsLine, Reports, Steps, Judged}
+use Rattle.cg_steps.proofs.Joining.{then_settles}
+use Rattle.cg_surface.specs.Programs.{Entry, program_depth}
 use Rattle.cg_typing.specs.Accepted.{IsAcceptedKernel}
 use Rattle.cg_typing.specs.declared.checked.Checked.{Checked}
 use Rattle.cg_typing.specs.Holds.{kernel_in}
-use Rattle.cg_outside.specs.declared.outside.FileFault.{FileFault}
-use Rattle.cg_outside.specs.Causes.{HasCause}
-use Rattle.cg_outside.specs.Held.{Held, IsReadOf}
-use Rattle.cg_words.specs.Words.{Command, check, run}
-use Rattle.cg_driver.specs.declared.report.Report.{Report}
-use Rattle.cg_driver.specs.declared.report.Step.{Step}
-use Rattle.cg_driver.specs.declared.report.Step.TheVariants.{Goes, Ends as Ended}
-use Rattle.cg_driver.specs.declared.status.Status.{Status}
-use Rattle.cg_driver.specs.declared.status.Status.TheVariants.{Done, Refused, Usage, ReadFault, WriteFault, Memory, StepLimit, HeapRefused, CertRefused, TooLarge}
-use Rattle.cg_driver.specs.Answer.{source_limit, heap_limit, Accepted, SpellsWithin, HasKernel, RefusesSyntax, RefusesNames, Refuses, not_spelled, not_named, not_small, not_accepted, too_deep, too_great as passes_limit, RefusesSource, Judges, entry_at, of_source, not_plain, no_entry, IsReady, out_of_range}
-use Rattle.cg_driver.specs.Judged.{functions_in, IsCheckedKernel, IsCheckedProgram, IsCheckedSource, RefusesKernel, RefusesProgram, IsEntry, RefusesBytes}
-use Rattle.cg_driver.specs.Lines.{fault_line, limit_name, limit_line, out_of_range_line}
-use Rattle.cg_driver.specs.Reports.{IsLine, Reports, Steps}
-use Rattle.cg_driver.specs.Running.{SaysChecked, SaysSource}
-use Rattle.cg_driver.specs.Says.{SaysCheck, of_heap, SaysRun, SaysOf, Answers, Ends}
+use Rattle.cg_driver.specs.Accepted.{IsAcceptedSource}
+use Rattle.cg_driver.specs.Commands.{Judgement, RefusesSyntax, Judges, kernel_rules, resolving_rules, program_rules, source_rules, entry_rules, heap_rules, entry_at}
+use Rattle.cg_driver.specs.Found.{Found, with_program, with_entry, with_argument, functions, source_limit, heap_limit}
+use Rattle.cg_driver.specs.Judged.{functions_in, IsCheckedKernel, IsCheckedProgram, IsCheckedSource, Keeps, RefusesKernel, RefusesProgram, RefusesSource, RefusesEntry, RefusesBytes, IsEntry, IsArgument}
+use Rattle.cg_driver.specs.Lines.{fault_line, name_rule, not_built_line, not_accepted_line, no_entry_line, no_heap_text_line, out_of_range_line, limit_name, limit_line}
 
 -- a report of a line says what the line says
 pub line_says : (Q : Status → List ℕ → Type 0) (wanted : Status) (line : List ℕ) (r : Report) → IsLine wanted line r → Q wanted line → Reports Q r
 line_says Q wanted line r is q = subst (λ s. Q s (string_bytes r.text)) (sym is.0) (subst (λ t. Q wanted t) (sym is.1) q)
 
--- what follows from what a report or a step says
-pub follows : {E : Type 0} (P Q : Status → List ℕ → Type 0) → ((s : Status) (text : List ℕ) → P s text → Q s text) → (r : Result Report E) → IfOk r (Reports P) → IfOk r (Reports Q)
-follows P Q step (Ok r) said = step r.status (string_bytes r.text) said
-follows P Q step (Err e) said = tt
-
 pub each : {E : Type 0} (P Q : Report → Type 0) → ((r : Report) → P r → Q r) → (r : Result Report E) → IfOk r P → IfOk r Q
 each P Q step (Ok r) h = step r h
 each P Q step (Err e) h = tt
 
+-- the same, where memory may have run out
+pub line_told : {E : Type 0} (Q : Status → List ℕ → Type 0) (wanted : Status) (line : List ℕ) → Q wanted line → (r : Result Report E) → IfOk r (IsLine wanted line) → IfOk r (Reports Q)
+line_told Q wanted line q r h = each (IsLine wanted line) (Reports Q) (λ x is. line_says Q wanted line x is q) r h
+
 pub steps_follow : {T E : Type 0} (P Q : T → Type 0) (S U : Status → List ℕ → Type 0) → ((x : T) → P x → Q x) → ((s : Status) (text : List ℕ) → S s text → U s text)
     → (r : Result (Step T) E) → IfOk r (Steps P S) → IfOk r (Steps Q U)
-steps_follow P Q S U goes ends (Ok (Goes x)) said = goes x said
-steps_follow P Q S U goes ends (Ok (Ended r)) said = ends r.status (string_bytes r.text) said
-steps_follow P Q S U goes ends (Err e) said = tt
+steps_follow P Q S U on out (Ok (Goes x)) said = on x said
+steps_follow P Q S U on out (Ok (Ends r)) said = out r.status (string_bytes r.text) said
+steps_follow P Q S U on out (Err e) said = tt
+
+-- what a function for judgements answers is what they come to
+pub steps_judged : {T : Type 0} (P : T → Type 0) (S : Status → List ℕ → Type 0) (K : T → Found → Type 0) (js : List Judgement) (f : Found)
+    → ((x : T) → P x → (next : Found) × Settles Judges js f (goes next) × K x next) → ((s : Status) (text : List ℕ) → S s text → Settles Judges js f (refuses s text))
+    → (r : Result (Step T) Memory) → IfOk r (Steps P S) → Judged Judges K js f r
+steps_judged P S K js f on out (Ok (Goes x)) said = on x said
+steps_judged P S K js f on out (Ok (Ends r)) said = out r.status (string_bytes r.text) said
+steps_judged P S K js f on out (Err e) said = tt
+
+-- ---- kernels
+
+pub unsmall_refused : (file : List ℕ) (fs : List Function) → is_small_kernel fs ≡ false → RefusesKernel file fs Refused (not_built_line file)
+unsmall_refused file fs is f same = inl (tt, (refl, refl, ap is_small_kernel same ∙ is))
+
+pub untyped_refused : (file : List ℕ) (fs : List Function) → is_small_kernel fs ≡ true → (IsAcceptedKernel fs → ⊥) → RefusesKernel file fs Refused (not_accepted_line file)
+untyped_refused file fs is never f same = inr (f, (refl, ap is_small_kernel same ∙ is), inl (tt, (refl, refl, λ a. never (subst IsAcceptedKernel same a))))
+
+-- ---- programs
+
+-- names in order, and all within its limits
+resolved : (file : List ℕ) (p : List Entry) → NamesStand p → WithinLimits p → (f : Found) → f.program ≡ p → Settles Judges (resolving_rules file) f (goes f)
+resolved file p names within f same =
+    let stand = subst NamesStand (sym same) names in
+    let limits = subst WithinLimits (sym same) within in
+    inr (
+      f,
+      (refl, stand.names),
+      inr (
+        f,
+        (refl, stand.circles),
+        inr (
+          f,
+          (refl, stand.fields),
+          inr (f, (refl, limits.0), inr (f, (refl, limits.1), inr (f, (refl, limits.2), inr (f, (refl, limits.3), refl)))),
+        ),
+      ),
+    )
+
+pub kernel_refused : (file : List ℕ) (p : List Entry) (fs : List Function) → NamesStand p → WithinLimits p → fs ≡ functions_of p
+    → (s : Status) (text : List ℕ) → RefusesKernel file fs s text → RefusesProgram file p s text
+kernel_refused file p fs names within is s text j ordered growing f same =
+    then_settles Judges (resolving_rules file) (kernel_rules file) f f (refuses s text) (resolved file p names within f same) (j f (ap functions_of same ∙ sym is))
+
+pub kernel_checked : (p : List Entry) (fs : List Function) → NamesStand p → WithinLimits p → fs ≡ functions_of p
+    → (checked : Checked) → IsCheckedKernel fs checked → IsCheckedProgram p checked
+kernel_checked p fs names limits is checked c = record { names = names; limits = limits; kernel = subst (λ f. IsCheckedKernel f checked) is c }
+
+module _ (file : List ℕ) (p : List Entry) where
+  -- the first fault N1, N2 or N4
+  pub misnamed : (fault : NameFault) → IsFirst fault (program_faults p) → RefusesProgram file p Refused (name_rule file fault)
+  misnamed fault first ordered growing f same =
+      inl (tt, (refl, record { ordered = subst (λ q. AreOrdered (program_faults q)) (sym same) ordered; fault = fault; first = subst (λ q. IsFirst fault (program_faults q)) (sym same) first; line = refl }))
+
+  pub circular : (place : Place) → program_faults p ≡ [] → IsCircleAt p place → RefusesProgram file p Refused (fault_line file place (codes "N3 circle of mentions"))
+  circular place none first ordered growing f same =
+      inr (f, (refl, ap program_faults same ∙ none), inl (tt, (refl, record { place = place; first = subst (λ q. IsCircleAt q place) (sym same) first; line = refl })))
+
+  pub untakable : (place : Place) → program_faults p ≡ [] → NoCircle (mentions p) → takes.IsFirst place (missing_fields p) → RefusesProgram file p Refused (fault_line file place (codes "N5 take of no field"))
+  untakable place none straight first ordered growing f same =
+      inr (
+        f,
+        (refl, ap program_faults same ∙ none),
+        inr (
+          f,
+          (refl, subst (λ q. NoCircle (mentions q)) (sym same) straight),
+          inl (
+            tt,
+            (
+              refl,
+              record {
+                growing = subst (λ q. AreGrowing (missing_fields q)) (sym same) growing;
+                place = place;
+                first = subst (λ q. takes.IsFirst place (missing_fields q)) (sym same) first;
+                line = refl;
+              },
+            ),
+          ),
+        ),
+      )
+
+  -- the first limit that is passed
+  passes : (limit : Limit) → NamesStand p → Passes p limit → (f : Found) → f.program ≡ p → Settles Judges (program_rules file) f (refuses TooLarge (limit_line (limit_name limit)))
+  passes limit names found f same = go limit (subst NamesStand (sym same) names) (subst (λ q. Passes q limit) (sym same) found)
+    where
+      go : (limit : Limit) → NamesStand f.program → Passes f.program limit → Settles Judges (program_rules file) f (refuses TooLarge (limit_line (limit_name limit)))
+      go limits.Functions s h = inr (f, (refl, s.names), inr (f, (refl, s.circles), inr (f, (refl, s.fields), inl (tt, (refl, refl, h)))))
+      go limits.Fields s h = inr (f, (refl, s.names), inr (f, (refl, s.circles), inr (f, (refl, s.fields), inr (f, (refl, h.0), inl (tt, (refl, refl, h.1))))))
+      go limits.Ty s h = inr (f, (refl, s.names), inr (f, (refl, s.circles), inr (f, (refl, s.fields), inr (f, (refl, h.0), inr (f, (refl, h.1), inl (tt, (refl, refl, h.2)))))))
+      go limits.Depth s h = inr (f, (refl, s.names), inr (f, (refl, s.circles), inr (f, (refl, s.fields), inr (f, (refl, h.0), inr (f, (refl, h.1), inr (f, (refl, h.2), inl (tt, (refl, refl, h.3))))))))
+      go limits.Source s h = absurd h
+      go limits.Nesting s h = absurd h
+      go limits.Instances s h = absurd h
+      go limits.Core s h = absurd h
+      go limits.Heap s h = absurd h
+      go limits.Certificate s h = absurd h
+
+  pub limited : (limit : Limit) (name : List ℕ) → name ≡ limit_name limit → NamesStand p → Passes p limit → RefusesProgram file p TooLarge (limit_line name)
+  limited limit name is names found ordered growing f same =
+      subst (λ n. Settles Judges (program_rules file) f (refuses TooLarge (limit_line n))) (sym is) (passes limit names found f same)
 
 -- ---- sources
-
--- a program whose names are in order, and in which all is within its limits, is judged as its kernel is
-pub kernel_checked : (p : List Entry) (functions : List Function) → NamesStand p → WithinLimits p → functions ≡ functions_of p
-    → (checked : Checked) → IsCheckedKernel functions checked → IsCheckedProgram p checked
-kernel_checked p functions names limits is checked c = record { names = names; limits = limits; kernel = subst (λ f. IsCheckedKernel f checked) is c }
-
-pub kernel_refused : (file : List ℕ) (p : List Entry) (functions : List Function) → NamesStand p → WithinLimits p → functions ≡ functions_of p
-    → (s : Status) (text : List ℕ) → RefusesKernel file functions s text → RefusesProgram file p s text
-kernel_refused file p functions names limits is Refused text j = inr (names, limits, subst (λ f. RefusesKernel file f Refused text) is j)
-kernel_refused file p functions names limits is s text j = absurd j
-
--- a fault of names and a limit, as they are told
-pub names_say : {E : Type 0} (file : List ℕ) (p : List Entry) (place : Place) (rule : List ℕ) → RefusesNames file p (fault_line file place rule)
-    → (r : Result Report E) → IfOk r (IsLine Refused (fault_line file place rule)) → IfOk r (Reports (RefusesProgram file p))
-names_say file p place rule s r h =
-    each (IsLine Refused (fault_line file place rule)) (Reports (RefusesProgram file p)) (λ x is. line_says (RefusesProgram file p) Refused (fault_line file place rule) x is (inl s)) r h
-
-pub limit_says : {E : Type 0} (file : List ℕ) (p : List Entry) (limit : Limit) (name : List ℕ) → name ≡ limit_name limit → Resolves p (Err (Passes limit))
-    → (r : Result Report E) → IfOk r (IsLine TooLarge (limit_line name)) → IfOk r (Reports (RefusesProgram file p))
-limit_says file p limit name is found r h =
-    each (IsLine TooLarge (limit_line name)) (Reports (RefusesProgram file p)) (λ x line. line_says (RefusesProgram file p) TooLarge (limit_line name) x line (limit, found, ap limit_line is)) r h
 
 -- a source is judged as the one program that it spells within the depth
 pub program_checked : (source : List ℕ) (p : List Entry) → length source ≤ source_limit → Spells source p → program_depth p ≤ depth_limit
@@ -90,76 +171,79 @@ program_checked source p short spelled deep checked c =
       accepted = record {
         program = p;
         short = short;
-        resolved = record { spelled = record { spells = spelled; within = deep }; names = c.names; limits = c.limits };
+        resolved = record { spelled = spelled; shallow = deep; names = c.names; limits = c.limits };
         small = c.kernel.small;
         typed = c.kernel.accepted;
         kernel = c.kernel.same;
       };
       cores = c.kernel.cores;
+      few = subst (λ fs. length fs ≤ functions_limit) (sym c.kernel.same) c.limits.0;
     }
 
-module _ (file source : List ℕ) (p : List Entry) (short : length source ≤ source_limit) (spelled : Spells source p) (deep : program_depth p ≤ depth_limit)
-    (only : (q : List Entry) → Spells source q → q ≡ p) where
-  told : length source < most
-  told = omega (arith, short)
+pub program_refused : (file source : List ℕ) (p : List Entry) → length source ≤ source_limit → Spells source p → program_depth p ≤ depth_limit
+    → (s : Status) (text : List ℕ) → RefusesProgram file p s text → RefusesSource file source s text
+program_refused file source p short spelled deep s text j f same =
+    let told : length source < most = omega (arith, short) in
+    let next = with_program p f in
+    inr (
+      f,
+      (refl, subst (λ x. length x ≤ source_limit) (sym same) short),
+      inr (
+        next,
+        (p, refl, subst (λ x. Spells x p) (sym same) spelled),
+        inr (
+          next,
+          (refl, deep),
+          j (spelled_ordered source p told spelled) (spelled_growing source p told spelled) next refl,
+        ),
+      ),
+    )
 
-  spelling : SpellsWithin source p
-  spelling = record { spells = spelled; within = deep }
+pub long_refused : (file source : List ℕ) → source_limit < length source → RefusesSource file source TooLarge (limit_line (codes "source"))
+long_refused file source long f same = inl (tt, (refl, refl, subst (λ x. source_limit < length x) (sym same) long))
 
-  kernel : NamesStand p → WithinLimits p → HasKernel source p
-  kernel names limits = record { spelled = spelling; names = names; limits = limits }
+pub syntax_refused : (file source text : List ℕ) → length source ≤ source_limit → RefusesSyntax file source text → RefusesSource file source Refused text
+syntax_refused file source text short s f same =
+    inr (f, (refl, subst (λ x. length x ≤ source_limit) (sym same) short), inl (tt, (refl, subst (λ x. RefusesSyntax file x text) (sym same) s)))
 
-  -- the kernel of the source is the one that is accepted, where one is
-  never_accepted : (IsAcceptedKernel (functions_of p) → ⊥) → Accepted source → ⊥
-  never_accepted never accepted = never (subst (λ q. IsAcceptedKernel (functions_of q)) (only accepted.0 accepted.1) accepted.2.typed)
+pub deep_refused : (file source : List ℕ) → length source ≤ source_limit → (p : List Entry) × Spells source p × (depth_limit < program_depth p) × ((q : List Entry) → Spells source q → q ≡ p)
+    → RefusesSource file source TooLarge (limit_line (codes "nesting"))
+deep_refused file source short beyond f same =
+    inr (f, (refl, subst (λ x. length x ≤ source_limit) (sym same) short), inr (with_program beyond.0 f, (beyond.0, refl, subst (λ x. Spells x beyond.0) (sym same) beyond.1), inl (tt, (refl, refl, beyond.2))))
 
-  untyped : (text : List ℕ) → NamesStand p → WithinLimits p → RefusesKernel file (functions_of p) Refused text → Refuses file source text
-  untyped text names limits (inl j) = not_small p (kernel names limits) j.0 j.1
-  untyped text names limits (inr j) = not_accepted p (kernel names limits) j.0 (never_accepted j.1) j.2
+-- the rules of a source that is accepted all go
+pub accepted_settles : (file source : List ℕ) (fs : List Function) (a : IsAcceptedSource source fs) (f : Found) → f.source ≡ source → Settles Judges (source_rules file) f (goes (with_program a.program f))
+accepted_settles file source fs a f same =
+    let next = with_program a.program f in
+    inr (
+      f,
+      (refl, subst (λ x. length x ≤ source_limit) (sym same) a.short),
+      inr (
+        next,
+        (a.program, refl, subst (λ x. Spells x a.program) (sym same) a.resolved.spelled),
+        inr (
+          next,
+          (refl, a.resolved.shallow),
+          then_settles Judges (resolving_rules file) (kernel_rules file) next next (goes next) (resolved file a.program a.resolved.names a.resolved.limits next refl)
+              (inr (next, (refl, a.small), inr (next, (refl, a.typed), refl))),
+        ),
+      ),
+    )
 
-  refused : (text : List ℕ) → RefusesProgram file p Refused text → Refuses file source text
-  refused text (inl j) = not_named p spelling (record { names = spelled_ordered source p told spelled; takes = spelled_growing source p told spelled }) j
-  refused text (inr j) = untyped text j.0 j.1 j.2
+pub source_judged : (file source : List ℕ) (f : Found) → f.source ≡ source → (r : Result (Step Checked) Memory) → IfOk r (Steps (IsCheckedSource source) (RefusesSource file source)) → Judged Judges Keeps (source_rules file) f r
+source_judged file source f same r said =
+    steps_judged (IsCheckedSource source) (RefusesSource file source) Keeps (source_rules file) f
+    (λ checked c. (
+      with_program c.accepted.program f,
+      accepted_settles file source (functions_in checked) c.accepted f same,
+      record { same = sym c.accepted.kernel; cores = c.cores; few = c.few },
+    ))
+    (λ s text j. j f same) r said
 
-  pub program_refused : (s : Status) (text : List ℕ) → RefusesProgram file p s text → RefusesSource file source s text
-  program_refused Refused text j = (short, refused text j)
-  program_refused TooLarge text j = passes_limit short p spelling j
-  program_refused s text j = absurd j
-
-deep : (file source : List ℕ) (p : List Entry) → length source ≤ source_limit → Spells source p → depth_limit < program_depth p
-    → (r : Report) → IsLine TooLarge (limit_line (codes "nesting")) r → Reports (RefusesSource file source) r
-deep file source p short spelled beyond r is = line_says (RefusesSource file source) TooLarge (limit_line (codes "nesting")) r is (too_deep short p spelled beyond refl)
-
--- a fault of syntax, as it is told
-pub syntax_says : {E : Type 0} (file source : List ℕ) (place : Place) (rule : List ℕ) → length source ≤ source_limit → RefusesSyntax file source (fault_line file place rule)
-    → (r : Result Report E) → IfOk r (IsLine Refused (fault_line file place rule)) → IfOk r (Reports (RefusesSource file source))
-syntax_says file source place rule short s r h =
-    each (IsLine Refused (fault_line file place rule)) (Reports (RefusesSource file source))
-    (λ x is. line_says (RefusesSource file source) Refused (fault_line file place rule) x is (short, not_spelled s)) r h
-
-pub deep_says : {E : Type 0} (file source : List ℕ) → length source ≤ source_limit → (p : List Entry) × Spells source p × (depth_limit < program_depth p) × ((q : List Entry) → Spells source q → q ≡ p)
-    → (r : Result Report E) → IfOk r (IsLine TooLarge (limit_line (codes "nesting"))) → IfOk r (Reports (RefusesSource file source))
-deep_says file source short beyond r h =
-    each (IsLine TooLarge (limit_line (codes "nesting"))) (Reports (RefusesSource file source)) (deep file source beyond.0 short beyond.1 beyond.2) r h
-
--- what is judged of the bytes that were read is what `check` says
-pub checked_says : (file source : List ℕ) (held : Option Held) (before now : List ℕ → ℕ) → IsReadOf held file source_limit source
-    → (s : Status) (text : List ℕ) → Judges file source s text → SaysCheck file held before now s text
-checked_says file source held before now r Done text j = (source, r, j)
-checked_says file source held before now r Refused text j = (source, r, j)
-checked_says file source held before now r TooLarge text j = (source, r, j)
-checked_says file source held before now r Usage text j = absurd j
-checked_says file source held before now r ReadFault text j = absurd j
-checked_says file source held before now r WriteFault text j = absurd j
-checked_says file source held before now r Memory text j = absurd j
-checked_says file source held before now r StepLimit text j = absurd j
-checked_says file source held before now r HeapRefused text j = absurd j
-checked_says file source held before now r CertRefused text j = absurd j
-
--- ---- runs
+-- ---- entries
 
 -- the entry among the functions of the program and among what they stand for
-pub entry_mapped : (name : List ℕ) (fs : List KFun) → position (λ f. bytes_eq f.at.name name) fs ≡ entry_at name (map function_of fs)
+entry_mapped : (name : List ℕ) (fs : List KFun) → position (λ f. bytes_eq f.at.name name) fs ≡ entry_at name (map function_of fs)
 entry_mapped name fs = λ i. cond (nat_lt (lens fs i) (longs fs i)) (Some (lens fs i)) None
   where
     lens : (fs : List KFun) → position_or_len (λ f. bytes_eq f.at.name name) fs ≡ position_or_len (λ f. bytes_eq f.at.name name) (map function_of fs)
@@ -179,107 +263,52 @@ entry_found name checked kernel fs o k f e =
 pub plain_is : (checked : Checked) (kernel : Kernel) (b r : Bool) → kernel ≡ kernel_in checked → r ≡ plain_kernel (kernel_of kernel) → r ≡ b → plain_kernel (functions_in checked) ≡ b
 plain_is checked kernel b r k e f = sym (ap (λ x. plain_kernel (kernel_of x)) k) ∙ sym e ∙ f
 
--- an entry stands among the functions
-pub entry_there : (entry : List ℕ) (functions : List Function) (at : ℕ) → IsEntry entry functions at → at < length functions
-entry_there entry functions at e = go (nat_lt (position_or_len (λ f. bytes_eq f.at.name entry) functions) (length functions)) refl e.named
-  where
-    go : (b : Bool) → nat_lt (position_or_len (λ f. bytes_eq f.at.name entry) functions) (length functions) ≡ b
-        → cond b (Some (position_or_len (λ f. bytes_eq f.at.name entry) functions)) None ≡ Some at → at < length functions
-    go true h k =
-        let same : position_or_len (λ f. bytes_eq f.at.name entry) functions ≡ at = cc in
-        let lt : position_or_len (λ f. bytes_eq f.at.name entry) functions < length functions = ltb-true _ _ h in
-        subst (λ x. x < length functions) same lt
-    go false h k = absurd (cc)
+pub unplain_refused : (file entry : List ℕ) (fs : List Function) → plain_kernel fs ≡ false → RefusesEntry file entry fs Refused (not_built_line file)
+unplain_refused file entry fs is f same = inl (tt, (refl, refl, ap plain_kernel same ∙ is))
 
--- a number that passes its type
-pub too_great : (heap bytes : List ℕ) → length bytes ≤ heap_limit → (n : ℕ) × HeapText bytes n × (2 ^ 32 ≤ n) → (r : Report) → IsLine HeapRefused (out_of_range_line heap) r → Reports (RefusesBytes heap bytes) r
-too_great heap bytes short h r is = line_says (RefusesBytes heap bytes) HeapRefused (out_of_range_line heap) r is (short, out_of_range h.0 h.1 h.2 refl)
+pub absent_refused : (file entry : List ℕ) (fs : List Function) → plain_kernel fs ≡ true → entry_at entry fs ≡ None → RefusesEntry file entry fs Refused (no_entry_line file)
+absent_refused file entry fs is none f same = inr (f, (refl, ap plain_kernel same ∙ is), inl (tt, (refl, refl, ap (entry_at entry) same ∙ none)))
 
-ready : (source entry : List ℕ) (checked : Checked) (at : ℕ) → IsCheckedSource source checked → IsEntry entry (functions_in checked) at → IsReady source entry (functions_in checked) at
-ready source entry checked at c e = record { accepted = c.accepted; plain = e.plain; named = e.named }
+-- a state in which the entry was found
+pub record HasEntry (fs : List Function) (at : ℕ) (next : Found) : Type 0 where
+  pub same : functions next ≡ fs
+  pub found : next.at ≡ at
 
-module _ (file entry heap : List ℕ) (steps : ℕ) (source : List ℕ) (held : Option Held) (before now : List ℕ → ℕ) where
-  pub refused_says : (s : Status) (text : List ℕ) → RefusesSource file source s text → SaysSource file entry heap steps source held before now s text
-  refused_says Refused text j = of_source j.0 j.1
-  refused_says TooLarge text j = inl j
-  refused_says Done text j = absurd j
-  refused_says Usage text j = absurd j
-  refused_says ReadFault text j = absurd j
-  refused_says WriteFault text j = absurd j
-  refused_says Memory text j = absurd j
-  refused_says StepLimit text j = absurd j
-  refused_says HeapRefused text j = absurd j
-  refused_says CertRefused text j = absurd j
+pub entry_judged : (file entry : List ℕ) (fs : List Function) (f : Found) → functions f ≡ fs → (r : Result (Step ℕ) Memory) → IfOk r (Steps (IsEntry entry fs) (RefusesEntry file entry fs))
+    → Judged Judges (λ at next. HasEntry fs at next) (entry_rules file entry) f r
+entry_judged file entry fs f same r said =
+    steps_judged (IsEntry entry fs) (RefusesEntry file entry fs) (λ at next. HasEntry fs at next) (entry_rules file entry) f
+    (λ at e. (
+      with_entry at f,
+      inr (f, (refl, ap plain_kernel same ∙ e.plain), inr (with_entry at f, (at, refl, ap (entry_at entry) same ∙ e.named), refl)),
+      record { same = same; found = refl },
+    ))
+    (λ s text j. j f same) r said
 
-  pub accepted_says : (checked : Checked) → IsCheckedSource source checked
-      → (s : Status) (text : List ℕ) → SaysChecked file entry heap steps (functions_in checked) held before now s text → SaysSource file entry heap steps source held before now s text
-  accepted_says checked c Refused text (inl j) = not_plain (functions_in checked) c.accepted j.0 j.1
-  accepted_says checked c Refused text (inr j) = no_entry (functions_in checked) c.accepted j.0 j.1 j.2
-  accepted_says checked c ReadFault text j = (functions_in checked, j.0, ready source entry checked j.0 c j.1, j.2.0, j.2.1)
-  accepted_says checked c TooLarge text j = inr (record { functions = functions_in checked; at = j.0; ready = ready source entry checked j.0 c j.1; bytes = j.2.0; read = j.2.1; judged = j.2.2 })
-  accepted_says checked c Done text j = record { functions = functions_in checked; at = j.0; ready = ready source entry checked j.0 c j.1; bytes = j.2.0; read = j.2.1; judged = j.2.2 }
-  accepted_says checked c StepLimit text j = record { functions = functions_in checked; at = j.0; ready = ready source entry checked j.0 c j.1; bytes = j.2.0; read = j.2.1; judged = j.2.2 }
-  accepted_says checked c HeapRefused text j = record { functions = functions_in checked; at = j.0; ready = ready source entry checked j.0 c j.1; bytes = j.2.0; read = j.2.1; judged = j.2.2 }
-  accepted_says checked c Usage text j = absurd j.2.2
-  accepted_says checked c WriteFault text j = absurd j.2.2
-  accepted_says checked c Memory text j = absurd j.2.2
-  accepted_says checked c CertRefused text j = absurd j.2.2
+-- ---- heap files
 
--- no count falls in a call on one name
-never_falls : {T : Type 0} (name : List ℕ) (old new : List ℕ → ℕ) (r : Result T FileFault) → HasCause name old new r → (other : List ℕ) → old other ≤ new other
-never_falls name old new r h other = go (bytes_eq other name) refl
-  where
-    go : (b : Bool) → bytes_eq other name ≡ b → old other ≤ new other
-    go true e = subst (λ x. old x ≤ new x) (sym ((bytes_eq-Decides other name).0 e)) h.later
-    go false e = omega (arith, h.others other (λ same. let yes : bytes_eq other name ≡ true = (bytes_eq-Decides other name).1 same in absurd (cc)))
+pub heap_long_refused : (heap bytes : List ℕ) → heap_limit < length bytes → RefusesBytes heap bytes TooLarge (limit_line (codes "heap"))
+heap_long_refused heap bytes long f same = inl (tt, (refl, refl, subst (λ x. heap_limit < length x) (sym same) long))
 
-pub read_says : {T : Type 0} (file entry heap : List ℕ) (steps : ℕ) (source : List ℕ) (held : Option Held) (before mid now : List ℕ → ℕ) (read : Result T FileFault)
-    → IsReadOf held file source_limit source → HasCause file before mid read
-    → (s : Status) (text : List ℕ) → SaysSource file entry heap steps source held mid now s text → SaysRun file entry heap steps held before now s text
-read_says file entry heap steps source held before mid now read r h ReadFault text j =
-    of_heap source r j.0 j.1 j.2 (omega (arith, never_falls file before mid read h heap, j.3)) j.4
-read_says file entry heap steps source held before mid now read r h Refused text j = (source, r, j)
-read_says file entry heap steps source held before mid now read r h TooLarge text j = (source, r, j)
-read_says file entry heap steps source held before mid now read r h Done text j = (source, r, j)
-read_says file entry heap steps source held before mid now read r h StepLimit text j = (source, r, j)
-read_says file entry heap steps source held before mid now read r h HeapRefused text j = (source, r, j)
-read_says file entry heap steps source held before mid now read r h Usage text j = (source, r, j)
-read_says file entry heap steps source held before mid now read r h WriteFault text j = (source, r, j)
-read_says file entry heap steps source held before mid now read r h Memory text j = (source, r, j)
-read_says file entry heap steps source held before mid now read r h CertRefused text j = (source, r, j)
+pub no_text_refused : (heap bytes : List ℕ) → length bytes ≤ heap_limit → ((n : ℕ) → HeapText bytes n → ⊥) → RefusesBytes heap bytes HeapRefused (no_heap_text_line heap)
+no_text_refused heap bytes short none f same =
+    inr (f, (refl, subst (λ x. length x ≤ heap_limit) (sym same) short), inl (tt, (refl, refl, λ n h. none n (subst (λ x. HeapText x n) same h))))
 
--- ---- the answer
+pub too_great_refused : (heap bytes : List ℕ) → length bytes ≤ heap_limit → (n : ℕ) × HeapText bytes n × (2 ^ 32 ≤ n) → RefusesBytes heap bytes HeapRefused (out_of_range_line heap)
+too_great_refused heap bytes short h f same =
+    inr (f, (refl, subst (λ x. length x ≤ heap_limit) (sym same) short), inr (with_argument h.0 f, (h.0, refl, subst (λ x. HeapText x h.0) (sym same) h.1), inl (tt, (refl, refl, h.2))))
 
--- nothing is said with status 4 or 5
-no_write_fault : (c : Option Command) (held : Option Held) (before now : List ℕ → ℕ) (text : List ℕ) → SaysOf c held before now WriteFault text → ⊥
-no_write_fault None held before now text j = let e : WriteFault ≡ Usage = j.0 in cc
-no_write_fault (Some (check file)) held before now text j = j.2
-no_write_fault (Some (run file entry heap steps)) held before now text j = j.2.judged
+-- a state in which the argument was found
+pub record HasArgument (f : Found) (n : ℕ) (next : Found) : Type 0 where
+  pub same : next ≡ with_argument n f
 
-no_memory : (c : Option Command) (held : Option Held) (before now : List ℕ → ℕ) (text : List ℕ) → SaysOf c held before now Memory text → ⊥
-no_memory None held before now text j = let e : Memory ≡ Usage = j.0 in cc
-no_memory (Some (check file)) held before now text j = j.2
-no_memory (Some (run file entry heap steps)) held before now text j = j.2.judged
-
-said : (Says : Status → List ℕ → Type 0) (old new : Option (List ℕ)) (f f' : ℕ) (s : Status) (text : List ℕ) → ((t : List ℕ) → Says WriteFault t → ⊥) → ((t : List ℕ) → Says Memory t → ⊥) → Says s text
-    → new ≡ append_known old text → Answers Says old new f f' s
-said Says old new f f' WriteFault text w m j e = absurd (w text j)
-said Says old new f f' Memory text w m j e = absurd (m text j)
-said Says old new f f' Done text w m j e = (text, j, e)
-said Says old new f f' Refused text w m j e = (text, j, e)
-said Says old new f f' Usage text w m j e = (text, j, e)
-said Says old new f f' ReadFault text w m j e = (text, j, e)
-said Says old new f f' StepLimit text w m j e = (text, j, e)
-said Says old new f f' HeapRefused text w m j e = (text, j, e)
-said Says old new f f' CertRefused text w m j e = (text, j, e)
-said Says old new f f' TooLarge text w m j e = (text, j, e)
-
--- what is printed of what is said is the answer
-pub answers : (c : Option Command) (held : Option Held) (before now : List ℕ → ℕ) (old new : Option (List ℕ)) (f f' : ℕ) (s : Status) (text : List ℕ) (result : Status)
-    → SaysOf c held before now s text → Ends s text old new f f' result → Answers (SaysOf c held before now) old new f f' result
-answers c held before now old new f f' s text result j (inl e) =
-    subst (Answers (SaysOf c held before now) old new f f') (sym e.0) (said (SaysOf c held before now) old new f f' s text (no_write_fault c held before now) (no_memory c held before now) j e.1)
-answers c held before now old new f f' s text result j (inr (inl e)) =
-    subst (Answers (SaysOf c held before now) old new f f') (sym e.0) (s, text, e.1, j, e.2, e.3)
-answers c held before now old new f f' s text result j (inr (inr e)) =
-    subst (Answers (SaysOf c held before now) old new f f') (sym e.0) e.1
+pub bytes_judged : (heap bytes : List ℕ) (f : Found) → f.heap ≡ bytes → (r : Result (Step ℕ) Memory) → IfOk r (Steps (IsArgument bytes) (RefusesBytes heap bytes))
+    → Judged Judges (HasArgument f) (heap_rules heap) f r
+bytes_judged heap bytes f same r said =
+    steps_judged (IsArgument bytes) (RefusesBytes heap bytes) (HasArgument f) (heap_rules heap) f
+    (λ n a. (
+      with_argument n f,
+      inr (f, (refl, subst (λ x. length x ≤ heap_limit) (sym same) a.short), inr (with_argument n f, (n, refl, subst (λ x. HeapText x n) (sym same) a.spelled), inr (with_argument n f, (refl, a.word), refl))),
+      record { same = refl },
+    ))
+    (λ s text j. j f same) r said

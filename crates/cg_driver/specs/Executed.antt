@@ -16,11 +16,11 @@ use Rattle.cg_typing.specs.declared.checked.Checked.{Checked}
 use Rattle.cg_typing.specs.Holds.{cores_in}
 use Rattle.cg_typing.specs.Kept.{maybe_core}
 use Rattle.cg_value.specs.Values.{Val, number, function}
-use Rattle.cg_driver.specs.declared.status.Status.{Status}
-use Rattle.cg_driver.specs.declared.status.Status.TheVariants.{Done, StepLimit}
+use Rattle.cg_steps.specs.declared.status.Status.{Status}
+use Rattle.cg_steps.specs.declared.status.Status.TheVariants.{Done, StepLimit}
 use Rattle.cg_driver.specs.Judged.{functions_in}
 use Rattle.cg_driver.specs.Lines.{step_limit_line}
-use Rattle.cg_driver.specs.Run.{emitted, budget, Runs, RunsOut}
+use Rattle.cg_driver.specs.Run.{emitted, budget, Evaluates, RunsOut, IsReport}
 
 -- the cores of a checked source
 abbrev pub cores_of : Checked → List (Option (Tree Note))
@@ -46,6 +46,6 @@ pub record Machines (checked : Checked) (at arg : ℕ) (value : Val) (cost resul
 
 -- what both runs say
 abbrev pub Executes : List Function → ℕ → ℕ → ℕ → Status → List ℕ → Type 0
-Executes functions at arg steps Done text = Runs functions at arg steps text
+Executes functions at arg steps Done text = (value : ℕ) × (cost : ℕ) × Evaluates functions at arg steps value cost × IsReport functions at arg value cost text
 Executes functions at arg steps StepLimit text = RunsOut functions at arg steps × (text ≡ step_limit_line steps)
 Executes functions at arg steps _ text = ⊥

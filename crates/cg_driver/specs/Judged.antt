@@ -1,18 +1,23 @@
 -- What the checker's answer and the parts of a run say, as the code has them.
-use Rattle.std.specs.Prelude.{◌≡◌, ℕ, ◌<◌, ◌≤◌, true, false, List, length, map, Some, None, codes, ◌⊎◌}
+use Rattle.std.specs.Prelude.{◌≡◌, ℕ, ◌<◌, ◌≤◌, ◌^◌, true, List, length, map, Some}
 use Rattle.cg_check.specs.Small.{is_small_kernel}
 use Rattle.cg_core.specs.Kernels.{Function, kernel_of}
-use Rattle.cg_desugar.specs.Desugar.{functions_of, NamesStand, WithinLimits}
+use Rattle.cg_desugar.specs.Desugar.{functions_of, functions_limit, NamesStand, WithinLimits}
+use Rattle.cg_desugar.specs.Faults.{program_faults}
+use Rattle.cg_desugar.specs.Order.{AreOrdered, AreGrowing}
+use Rattle.cg_desugar.specs.Takes.{missing_fields}
 use Rattle.cg_eval.specs.Plain.{plain_kernel}
+use Rattle.cg_heaptext.specs.HeapText.{HeapText}
+use Rattle.cg_steps.specs.declared.status.Status.{Status}
+use Rattle.cg_steps.specs.Steps.{refuses, Settles}
 use Rattle.cg_surface.specs.Programs.{Entry}
 use Rattle.cg_typing.specs.Accepted.{IsAcceptedKernel}
 use Rattle.cg_typing.specs.declared.checked.Checked.{Checked}
 use Rattle.cg_typing.specs.Holds.{kernel_in, cores_in}
 use Rattle.cg_typing.specs.Kept.{maybe_core}
-use Rattle.cg_driver.specs.declared.status.Status.{Status}
-use Rattle.cg_driver.specs.declared.status.Status.TheVariants.{Refused, HeapRefused, TooLarge}
-use Rattle.cg_driver.specs.Answer.{heap_limit, IsAcceptedSource, RefusesNames, ExceedsWritten, entry_at, RefusesHeap}
-use Rattle.cg_driver.specs.Lines.{not_built_line, not_accepted_line, no_entry_line, limit_line}
+use Rattle.cg_driver.specs.Accepted.{IsAcceptedSource}
+use Rattle.cg_driver.specs.Commands.{Judges, kernel_rules, program_rules, source_rules, entry_rules, heap_rules, entry_at}
+use Rattle.cg_driver.specs.Found.{Found, functions, heap_limit}
 use Rattle.cg_driver.specs.Run.{AreCores}
 
 -- the functions of a checked source
@@ -36,37 +41,49 @@ pub record IsCheckedProgram (p : List Entry) (checked : Checked) : Type 0 where
   pub limits : WithinLimits p
   pub kernel : IsCheckedKernel (functions_of p) checked
 
--- a source is accepted, and its kernel is kept so
+-- a source is accepted, and its kernel is kept so, which has few functions
 pub record IsCheckedSource (source : List ℕ) (checked : Checked) : Type 0 where
   pub accepted : IsAcceptedSource source (functions_in checked)
   pub cores : HoldsCores checked
+  pub few : length (functions_in checked) ≤ functions_limit
 
--- the refusal of a kernel, and of a program
+-- a state's functions are those of a checked source
+pub record Keeps (checked : Checked) (found : Found) : Type 0 where
+  pub same : functions found ≡ functions_in checked
+  pub cores : HoldsCores checked
+  pub few : length (functions_in checked) ≤ functions_limit
+
+-- the same, and the entry stands at this position in plain functions
+pub record KeepsEntry (checked : Checked) (at : ℕ) (found : Found) : Type 0 where
+  pub kept : Keeps checked found
+  pub entry : found.at ≡ at
+  pub plain : plain_kernel (functions_in checked) ≡ true
+  pub there : at < length (functions_in checked)
+
+-- what the rules say of a kernel, a program, a source, an entry and the bytes of a heap file that they refuse
 abbrev pub RefusesKernel : List ℕ → List Function → Status → List ℕ → Type 0
-RefusesKernel file functions Refused text =
-    ((is_small_kernel functions ≡ false) × (text ≡ not_built_line file))
-    ⊎ ((is_small_kernel functions ≡ true) × (IsAcceptedKernel functions → ⊥) × (text ≡ not_accepted_line file))
-RefusesKernel file functions _ text = ⊥
+RefusesKernel file fs status text = (found : Found) → functions found ≡ fs → Settles Judges (kernel_rules file) found (refuses status text)
 
 abbrev pub RefusesProgram : List ℕ → List Entry → Status → List ℕ → Type 0
-RefusesProgram file p Refused text = RefusesNames file p text ⊎ (NamesStand p × WithinLimits p × RefusesKernel file (functions_of p) Refused text)
-RefusesProgram file p TooLarge text = ExceedsWritten p text
-RefusesProgram file p _ text = ⊥
+RefusesProgram file p status text =
+    AreOrdered (program_faults p) → AreGrowing (missing_fields p) → (found : Found) → found.program ≡ p → Settles Judges (program_rules file) found (refuses status text)
 
--- the refusal of an entry of an accepted source
+abbrev pub RefusesSource : List ℕ → List ℕ → Status → List ℕ → Type 0
+RefusesSource file source status text = (found : Found) → found.source ≡ source → Settles Judges (source_rules file) found (refuses status text)
+
 abbrev pub RefusesEntry : List ℕ → List ℕ → List Function → Status → List ℕ → Type 0
-RefusesEntry file entry functions Refused text =
-    ((plain_kernel functions ≡ false) × (text ≡ not_built_line file))
-    ⊎ ((plain_kernel functions ≡ true) × (entry_at entry functions ≡ None) × (text ≡ no_entry_line file))
-RefusesEntry file entry functions _ text = ⊥
+RefusesEntry file entry fs status text = (found : Found) → functions found ≡ fs → Settles Judges (entry_rules file entry) found (refuses status text)
+
+abbrev pub RefusesBytes : List ℕ → List ℕ → Status → List ℕ → Type 0
+RefusesBytes heap bytes status text = (found : Found) → found.heap ≡ bytes → Settles Judges (heap_rules heap) found (refuses status text)
 
 -- the entry of a plain source
 pub record IsEntry (entry : List ℕ) (functions : List Function) (at : ℕ) : Type 0 where
   pub plain : plain_kernel functions ≡ true
   pub named : entry_at entry functions ≡ Some at
 
--- the refusal of a heap file
-abbrev pub RefusesBytes : List ℕ → List ℕ → Status → List ℕ → Type 0
-RefusesBytes heap bytes HeapRefused text = (length bytes ≤ heap_limit) × RefusesHeap heap bytes text
-RefusesBytes heap bytes TooLarge text = (heap_limit < length bytes) × (text ≡ limit_line (codes "heap"))
-RefusesBytes heap bytes _ text = ⊥
+-- a heap file within its limit has this argument
+pub record IsArgument (bytes : List ℕ) (n : ℕ) : Type 0 where
+  pub short : length bytes ≤ heap_limit
+  pub spelled : HeapText bytes n
+  pub word : n < 2 ^ 32

@@ -4,6 +4,7 @@ use Rattle.cg_base.specs.declared.limit.Limit.{Limit}
 use Rattle.cg_base.specs.declared.limit.Limit.TheVariants.{Source, Nesting, Functions, Fields, Ty, Depth, Instances, Core, Heap, Certificate}
 use Rattle.cg_base.specs.declared.place.Place.{Place}
 use Rattle.cg_core.specs.Kernels.{Function}
+use Rattle.cg_desugar.specs.Faults.{NameFault, unknown, twice, arguments}
 use Rattle.cg_value.specs.Printed.{printed}
 use Rattle.cg_value.specs.Values.{Val}
 
@@ -18,6 +19,12 @@ ok_line functions = codes "ok: " ++ decimal (count_by (λ f. is_some f.body) fun
 -- the refusal of a source at a place, by a rule with its text (docs/LANGUAGE.md, "Faults of reading")
 abbrev pub fault_line : List ℕ → Place → List ℕ → List ℕ
 fault_line file place rule = file ++ codes ":" ++ decimal place.line ++ codes ":" ++ decimal place.column ++ codes ": " ++ rule ++ codes "\n"
+
+-- the line of a fault N1, N2 or N4
+abbrev pub name_rule : List ℕ → NameFault → List ℕ
+name_rule file (unknown place) = fault_line file place (codes "N1 unknown name")
+name_rule file (twice place) = fault_line file place (codes "N2 name defined twice")
+name_rule file (arguments place) = fault_line file place (codes "N4 wrong number of type arguments")
 
 -- the refusals, with the name of the file
 abbrev pub not_built_line : List ℕ → List ℕ
@@ -35,10 +42,7 @@ no_heap_text_line heap = heap ++ codes ": H1 not in the heap grammar\n"
 abbrev pub out_of_range_line : List ℕ → List ℕ
 out_of_range_line heap = heap ++ codes ": H5 number out of range\n"
 
--- a file that can't be read, a limit, and the step limit
-abbrev pub unread_line : List ℕ → List ℕ
-unread_line name = name ++ codes ": cannot be read\n"
-
+-- a limit, and the step limit
 abbrev pub limit_line : List ℕ → List ℕ
 limit_line name = codes "limit: " ++ name ++ codes "\n"
 

@@ -1,5 +1,5 @@
 -- What a run of a plain source says, and why (docs/LANGUAGE.md, "Commands").
-use Rattle.std.specs.Prelude.{◌≡◌, ℕ, ◌+◌, ◌*◌, List, [], ◌∷◌, length, false, Option, Some, None}
+use Rattle.std.specs.Prelude.{◌≡◌, ℕ, ◌+◌, ◌*◌, List, [], ◌∷◌, length, false, Option, Some}
 use Rattle.cg_base.specs.declared.fun.Fun.TheVariants.{User}
 use Rattle.cg_base.specs.declared.kind.Word.TheVariants.{U32}
 use Rattle.cg_core.specs.Derivations.{Derivation}
@@ -9,7 +9,7 @@ use Rattle.cg_ctext.specs.Printed.{printed}
 use Rattle.cg_ctree.specs.Runs.{crun, done, typed}
 use Rattle.cg_ctree.specs.Spells.{CSpells}
 use Rattle.cg_ctree.specs.Trees.{Program}
-use Rattle.cg_eval.specs.Evaluation.{Table, evaluation}
+use Rattle.cg_eval.specs.Evaluation.{Table, evaluation, IsSpent}
 use Rattle.cg_lower.specs.Lowered.{lowered, function_name}
 use Rattle.cg_typing.specs.Holds.{kept_at}
 use Rattle.cg_typing.specs.Kept.{AreKept}
@@ -37,15 +37,24 @@ emitted functions cores = printed (lowered (bodies_in cores) (length functions))
 abbrev pub budget : ℕ → ℕ
 budget k = 32 * k + 32
 
--- The seven lines of a run of the function at a position on a word: evaluation gives the value at its cost, within the steps; the
--- program that the C text spells, run from the same word, ends within the budget, and gives the result; the two are equal. Words
--- have no cells, so none is made, freed or kept.
-pub record Runs (functions : List Function) (at arg steps : ℕ) (text : List ℕ) : Type 0 where
+-- evaluation of the function at a position gives this number on a word, at this cost, which is within the steps
+pub record Evaluates (functions : List Function) (at arg steps value cost : ℕ) : Type 0 where
   pub cores : List (Option (Tree Note))
   pub derived : AreCores functions cores
-  pub value : ℕ
-  pub cost : ℕ
-  pub evaluates : evaluation (table_in cores) steps (function (User at) []) (number arg) ≡ Some (number value, cost)
+  pub gives : evaluation (table_in cores) steps (function (User at) []) (number arg) ≡ Some (number value, cost)
+
+-- evaluation runs out of steps: it is not stuck, and gives nothing within them
+pub record RunsOut (functions : List Function) (at arg steps : ℕ) : Type 0 where
+  pub cores : List (Option (Tree Note))
+  pub derived : AreCores functions cores
+  pub spent : IsSpent (table_in cores) steps (function (User at) []) (number arg)
+
+-- The seven lines of a run of the function at a position on a word, where evaluation gives this value at this cost: the program that the C
+-- text spells, run from the same word, ends within the budget, and gives the result; the two are equal. Words have no cells, so none is
+-- made, freed or kept.
+pub record IsReport (functions : List Function) (at arg value cost : ℕ) (text : List ℕ) : Type 0 where
+  pub cores : List (Option (Tree Note))
+  pub derived : AreCores functions cores
   pub program : Program
   pub spelled : CSpells (emitted functions cores) program
   pub result : ℕ
@@ -55,9 +64,3 @@ pub record Runs (functions : List Function) (at arg steps : ℕ) (text : List �
   pub counted : taken + left ≡ budget cost
   pub equal : result ≡ value
   pub lines : text ≡ report (number value) (number result) cost taken [] [] []
-
--- evaluation gives nothing within the steps
-pub record RunsOut (functions : List Function) (at arg steps : ℕ) : Type 0 where
-  pub cores : List (Option (Tree Note))
-  pub derived : AreCores functions cores
-  pub none : evaluation (table_in cores) steps (function (User at) []) (number arg) ≡ None

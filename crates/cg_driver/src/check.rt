@@ -1,23 +1,26 @@
 // The command `check`.
-ghost use Rattle.std.specs.Prelude.{◌≡◌, IfOk};
-ghost use Rattle.cg_driver.specs.Answer.{Judges};
-ghost use Rattle.cg_driver.specs.Reports.{Reports};
-ghost use Rattle.cg_driver.specs.Says.{SaysCheck};
+ghost use Rattle.std.specs.Prelude.{◌≡◌, List, ℕ, [], ◌∷◌};
+ghost use Rattle.cg_steps.specs.World.{world};
+ghost use Rattle.cg_steps.specs.Steps.{judged_first};
+ghost use Rattle.cg_steps.specs.Parts.{Concludes, Rules};
+ghost use Rattle.cg_driver.specs.Commands.{Judges, source_rules, reads_source, checked_line};
+ghost use Rattle.cg_driver.specs.Found.{Found, nothing};
 
 use crate::judge::{SOURCE_LIMIT, judge};
-use crate::lines::{accepted, unread};
-use crate::report::{Report, Step};
+use crate::lines::accepted;
 use cg_base::Memory;
-use cg_outside::{FileFault, Files};
+use cg_outside::Files;
+use cg_steps::{Report, Step, read_file};
 use std::alloc::Global;
 
 /// What is said of a source.
 fn check_source(alloc: Global, file: &str, source: &[u8]) -> Result<Report, Memory>
-    ensures { IfOk result (Reports (Judges file.now source.now)) }
+    ensures { (found : Found) → found.source ≡ source.now → Rules Judges checked_line (source_rules file.now) found result }
 {
-    match judge(alloc, file, source)? {
-        Step::Ends(report) => Ok(report),
-        Step::Goes(checked) => accepted(alloc, checked.kernel().funs.as_slice()),
+    match judge(alloc, file, source) {
+        Err(_) => Err(Memory),
+        Ok(Step::Ends(report)) => Ok(report),
+        Ok(Step::Goes(checked)) => accepted(alloc, checked.kernel().funs.as_slice()),
     }
 }
 
@@ -27,13 +30,13 @@ pub(crate) fn check_file<F: Files>(
     file: &str,
     files: &mut F,
 ) -> Result<Report, Memory>
-    ensures says { IfOk result (Reports (SaysCheck file.now (F.held files.old) (F.failed_reads files.old) (F.failed_reads files.new))) }
-    ensures held { F.held files.new ≡ F.held files.old }
-    ensures writes { F.failed_writes files.new ≡ F.failed_writes files.old }
+    ensures { Concludes Judges checked_line (reads_source file.now ∷ judged_first (source_rules file.now) []) nothing
+        (world (F.held files.old) (F.failed_reads files.old) (F.failed_writes files.old))
+        (world (F.held files.new) (F.failed_reads files.new) (F.failed_writes files.new)) result }
 {
-    match files.read(alloc, file, SOURCE_LIMIT) {
-        Ok(source) => check_source(alloc, file, &source),
-        Err(FileFault::Failed) => unread(alloc, file),
-        Err(FileFault::Memory) => Err(Memory),
+    match read_file(alloc, file, SOURCE_LIMIT, files) {
+        Err(_) => Err(Memory),
+        Ok(Step::Ends(report)) => Ok(report),
+        Ok(Step::Goes(source)) => check_source(alloc, file, &source),
     }
 }

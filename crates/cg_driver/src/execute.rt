@@ -4,10 +4,9 @@ ghost use Rattle.cg_eval.specs.Plain.{plain_kernel};
 ghost use Rattle.cg_value.specs.Values.{number, value_of};
 ghost use Rattle.cg_driver.specs.Executed.{Emits, Gives, Machines, Executes};
 ghost use Rattle.cg_driver.specs.Judged.{functions_in, HoldsCores};
-ghost use Rattle.cg_driver.specs.Reports.{Reports};
+ghost use Rattle.cg_steps.specs.Parts.{Reports};
 
 use crate::lines::{ran, step_limit};
-use crate::report::Report;
 use cg_base::Memory;
 use cg_cmachine::{RunFault, run_words};
 use cg_cread::{CFault, read_c};
@@ -15,6 +14,7 @@ use cg_ctext::print_c;
 use cg_ctree::CProgram;
 use cg_eval::{EvalFault, eval, more_budget};
 use cg_lower::{function_name, lower};
+use cg_steps::Report;
 use cg_typing::Checked;
 use cg_value::Value;
 use std::alloc::Global;
@@ -22,6 +22,7 @@ use std::alloc::Global;
 /// The C of a source: written as a text, and read back from it.
 fn emit(alloc: Global, checked: &Checked) -> Result<CProgram, Memory>
     requires plain { IsTrue (plain_kernel (functions_in checked.now)) }
+    requires short { length (functions_in checked.now) ≤ 4096 }
     ensures { IfOk result (Emits checked.now) }
 {
     let program = lower(alloc, checked)?;
@@ -43,6 +44,7 @@ fn machine(
     cost: u64,
 ) -> Result<(u64, u64), Memory>
     requires plain { IsTrue (plain_kernel (functions_in checked.now)) }
+    requires short { length (functions_in checked.now) ≤ 4096 }
     requires there { at < length (functions_in checked.now) }
     requires word { arg < 2 ^ 32 }
     requires gives { (steps : ℕ) × (steps ≤ 2 ^ 40) × Gives checked.now at arg steps (value_of value.now) cost }
@@ -79,6 +81,7 @@ fn run_c(
     cost: u64,
 ) -> Result<Report, Memory>
     requires plain { IsTrue (plain_kernel (functions_in checked.now)) }
+    requires short { length (functions_in checked.now) ≤ 4096 }
     requires there { at < length (functions_in checked.now) }
     requires word { arg < 2 ^ 32 }
     requires cores { HoldsCores checked.now }
@@ -98,6 +101,7 @@ pub(crate) fn execute(
     steps: u64,
 ) -> Result<Report, Memory>
     requires plain { IsTrue (plain_kernel (functions_in checked.now)) }
+    requires short { length (functions_in checked.now) ≤ 4096 }
     requires there { at < length (functions_in checked.now) }
     requires word { arg < 2 ^ 32 }
     requires few { steps ≤ 2 ^ 40 }

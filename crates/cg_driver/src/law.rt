@@ -1,9 +1,15 @@
-// The call over an outside that never fails.
-ghost use Rattle.std.specs.Prelude.{◌≡◌, ◌≢◌, ◌⊎◌, ℕ, List, None, Some};
-ghost use Rattle.cg_outside.specs.Held.{bytes_at};
+// What follows of the clauses of the call.
+ghost use Rattle.std.specs.Prelude.{◌≡◌, ◌≢◌, ◌⊎◌, ◌↔◌, ℕ, List, Some};
+ghost use Rattle.std.specs.declared.option.Option.{Option};
+ghost use Rattle.cg_core.specs.Kernels.{Function};
+ghost use Rattle.cg_outside.specs.Held.{Held, bytes_at};
 ghost use Rattle.cg_outside.specs.Memory.{honest_held, honest_taken};
-ghost use Rattle.cg_words.specs.Words.{texts, command_of, check, run as run_of};
-ghost use Rattle.cg_driver.specs.Says.{Says, Answers, CheckStatus, RunStatus, Decides};
+ghost use Rattle.cg_steps.specs.World.{world};
+ghost use Rattle.cg_steps.specs.Steps.{WritesNone};
+ghost use Rattle.cg_steps.specs.Scripts.{Answers, ComesTo, Decides};
+ghost use Rattle.cg_words.specs.Words.{Command, check};
+ghost use Rattle.cg_driver.specs.Accepted.{IsAcceptedSource};
+ghost use Rattle.cg_driver.specs.Commands.{Judges, script_of, asked};
 
 use crate::{Status, cogent};
 use cg_outside::{HonestFiles, HonestSink};
@@ -17,8 +23,9 @@ pub fn honest_cogent(
     files: &mut HonestFiles,
     out: &mut HonestSink,
 ) -> Status
-    // What is printed, with which status, and why: to the byte, at each status. No count of faults ever rises.
-    ensures answer { Answers (Says (texts words.now) (Some (honest_held files.old)) (λ name. 0) (λ name. 0))
+    // What is printed, with which status, what stands afterwards, and why, to the byte. No count of faults ever rises.
+    ensures answer { Answers Judges (asked words.now)
+        (world (Some (honest_held files.old)) (λ name. 0) (λ name. 0)) (world (Some (honest_held files.new)) (λ name. 0) (λ name. 0))
         (Some (honest_taken out.old)) (Some (honest_taken out.new)) 0 0 result }
 
     // No file changes.
@@ -28,15 +35,20 @@ pub fn honest_cogent(
     ensures no_read_fault { result ≢ Status.ReadFault }
     ensures no_write_fault { result ≢ Status.WriteFault }
 
-    // The status is exactly what the bytes of the files say, want of memory apart.
-    ensures checks { (file : List ℕ) → command_of (texts words.now) ≡ Some (check file)
-        → Decides (CheckStatus (bytes_at (honest_held files.old) file)) result ⊎ (result ≡ Status.Memory) }
-    ensures runs { (file entry heap : List ℕ) (steps : ℕ) → command_of (texts words.now) ≡ Some (run_of file entry heap steps)
-        → Decides (RunStatus (bytes_at (honest_held files.old) file) (bytes_at (honest_held files.old) heap) entry steps) result ⊎ (result ≡ Status.Memory) }
-
-    // All other words are refused, and they alone.
-    ensures usage { result ≡ Status.Usage → command_of (texts words.now) ≡ None }
-    ensures other_words { command_of (texts words.now) ≡ None → (result ≡ Status.Usage) ⊎ (result ≡ Status.Memory) }
+    // The status is exactly the one that the steps come to over the files, want of memory apart.
+    ensures decides { Decides (ComesTo Judges (asked words.now) (honest_held files.old)) result ⊎ (result ≡ Status.Memory) }
 {
     cogent(alloc, words, files, out)
 }
+
+/// No command writes a file.
+pub fn no_command_writes()
+    ensures { (command : Option Command) → WritesNone (script_of command).steps }
+{}
+
+/// The steps of `check` come to status 0 over exactly the files whose source is accepted: the typing rules derive each function
+/// of the program that it spells, and all is within the limits.
+pub fn status_0_is_acceptance()
+    ensures { (held : Held) (file : List ℕ) → ComesTo Judges (script_of (Some (check file))) held Status.Done
+        ↔ ((functions : List Function) × IsAcceptedSource (bytes_at held file) functions) }
+{}

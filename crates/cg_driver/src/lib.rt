@@ -1,4 +1,5 @@
-//! The top call, [`cogent`]: words, reads, a verdict and one write. docs/LANGUAGE.md says what the commands do and print.
+//! The top call, [`cogent`]: words, the steps of a command, and one write. docs/LANGUAGE.md says what the commands do and print;
+//! `specs/Commands` has each command as a list of steps.
 #![tactic(auto)]
 
 mod call;
@@ -8,10 +9,8 @@ mod judge;
 mod law;
 mod lines;
 mod plan;
-mod report;
 mod run;
-mod status;
 
 pub use call::cogent;
-pub use law::honest_cogent;
-pub use status::Status;
+pub use cg_steps::Status;
+pub use law::{honest_cogent, no_command_writes, status_0_is_acceptance};

@@ -3,12 +3,11 @@ ghost use Rattle.std.specs.Prelude.{◌≡◌, IfOk, [], count_by, is_some, map}
 ghost use Rattle.cg_core.specs.Kernels.{function_of};
 ghost use Rattle.cg_value.specs.Values.{number};
 ghost use Rattle.cg_driver.specs.Lines as lines;
-ghost use Rattle.cg_driver.specs.Reports.{IsLine};
+ghost use Rattle.cg_steps.specs.Parts.{IsLine};
 
-use crate::Status;
-use crate::report::Report;
 use cg_base::{Limit, Memory, Place};
 use cg_core::KFun;
+use cg_steps::{Report, Status};
 use std::alloc::Global;
 
 /// The usage text.
@@ -82,16 +81,6 @@ pub(crate) fn out_of_range(alloc: Global, heap: &str) -> Result<Report, Memory>
     Ok(Report {
         status: Status::HeapRefused,
         text: format!(in alloc; "{heap}: H5 number out of range\n")?,
-    })
-}
-
-/// The line of a file that can't be read.
-pub(crate) fn unread(alloc: Global, name: &str) -> Result<Report, Memory>
-    ensures { IfOk result (λ r. IsLine Status.ReadFault (lines.unread_line name.now) r) }
-{
-    Ok(Report {
-        status: Status::ReadFault,
-        text: format!(in alloc; "{name}: cannot be read\n")?,
     })
 }
 

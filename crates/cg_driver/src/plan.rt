@@ -1,15 +1,14 @@
 // What the words ask for.
-ghost use Rattle.std.specs.Prelude.{◌≡◌, IfOk};
-ghost use Rattle.cg_words.specs.Words.{texts};
-ghost use Rattle.cg_driver.specs.Reports.{Reports};
-ghost use Rattle.cg_driver.specs.Says.{Says};
+ghost use Rattle.cg_steps.specs.World.{world};
+ghost use Rattle.cg_steps.specs.Parts.{Concludes};
+ghost use Rattle.cg_driver.specs.Commands.{Judges, asked as script_asked};
 
 use crate::check::check_file;
 use crate::lines::usage;
-use crate::report::Report;
 use crate::run::{Asked, run_file};
 use cg_base::Memory;
 use cg_outside::Files;
+use cg_steps::Report;
 use cg_words::{Command, read_words};
 use std::alloc::Global;
 
@@ -19,9 +18,9 @@ pub(crate) fn plan<F: Files>(
     words: &[String],
     files: &mut F,
 ) -> Result<Report, Memory>
-    ensures says { IfOk result (Reports (Says (texts words.now) (F.held files.old) (F.failed_reads files.old) (F.failed_reads files.new))) }
-    ensures held { F.held files.new ≡ F.held files.old }
-    ensures writes { F.failed_writes files.new ≡ F.failed_writes files.old }
+    ensures { Concludes Judges (script_asked words.now).line (script_asked words.now).steps (script_asked words.now).start
+        (world (F.held files.old) (F.failed_reads files.old) (F.failed_writes files.old))
+        (world (F.held files.new) (F.failed_reads files.new) (F.failed_writes files.new)) result }
 {
     match read_words(alloc, words) {
         Err(_) => Err(Memory),

@@ -1,21 +1,22 @@
 // The command `run`.
-ghost use Rattle.std.specs.Prelude.{◌≡◌, ◌≤◌, ◌<◌, ◌^◌, IfOk, IsTrue, length, position, bytes_eq};
+ghost use Rattle.std.specs.Prelude.{◌≡◌, ◌≤◌, ◌<◌, ◌^◌, ℕ, List, [], ◌∷◌, IfOk, IsTrue, length, position, bytes_eq};
 ghost use Rattle.cg_eval.specs.Plain.{plain_kernel};
-ghost use Rattle.cg_driver.specs.Answer.{IsArgument, JudgesRun};
-ghost use Rattle.cg_driver.specs.Judged.{functions_in, HoldsCores, IsEntry, RefusesBytes, RefusesEntry};
-ghost use Rattle.cg_driver.specs.Reports.{Reports, Steps};
-ghost use Rattle.cg_driver.specs.Says.{SaysRun};
-ghost use Rattle.cg_driver.specs.Running.{SaysChecked, SaysHeap, SaysSource};
+ghost use Rattle.cg_steps.specs.World.{world};
+ghost use Rattle.cg_steps.specs.Steps.{judged_first};
+ghost use Rattle.cg_steps.specs.Parts.{Concludes, Rules, Steps};
+ghost use Rattle.cg_driver.specs.Commands.{Judges, entry_rules, run_rules, reads_source, heap_steps, run_steps, ran_lines};
+ghost use Rattle.cg_driver.specs.Found.{Found, nothing, functions as functions_found};
+ghost use Rattle.cg_driver.specs.Judged.{functions_in, HoldsCores, IsArgument, IsEntry, RefusesBytes, RefusesEntry};
 
 use crate::execute::execute;
 use crate::judge::{SOURCE_LIMIT, judge};
-use crate::lines::{beyond, no_entry, no_heap_text, not_built, out_of_range, unread};
-use crate::report::{Report, Step};
+use crate::lines::{beyond, no_entry, no_heap_text, not_built, out_of_range};
 use cg_base::Memory;
 use cg_core::KFun;
 use cg_eval::is_plain;
 use cg_heaptext::{HeapFault, read_argument};
-use cg_outside::{FileFault, Files};
+use cg_outside::Files;
+use cg_steps::{Report, Step, read_file};
 use cg_typing::Checked;
 use std::alloc::Global;
 
@@ -42,6 +43,7 @@ fn find(functions: &[KFun], name: &str) -> Option<usize>
 
 /// The entry of a source, which has to be plain.
 fn entry_of(alloc: Global, asked: &Asked<'_>, checked: &Checked) -> Result<Step<u32>, Memory>
+    requires few { length (functions_in checked.now) ≤ 4096 }
     ensures { IfOk result (Steps (IsEntry asked.now.entry.now (functions_in checked.now)) (RefusesEntry asked.now.file.now asked.now.entry.now (functions_in checked.now))) }
 {
     let kernel = checked.kernel();
@@ -50,10 +52,7 @@ fn entry_of(alloc: Global, asked: &Asked<'_>, checked: &Checked) -> Result<Step<
     }
     match find(kernel.funs.as_slice(), asked.entry) {
         None => Ok(Step::Ends(no_entry(alloc, asked.file)?)),
-        Some(at) => match u32::try_from(at) {
-            Ok(at) => Ok(Step::Goes(at)),
-            Err(_) => Err(Memory),
-        },
+        Some(at) => Ok(Step::Goes(at as u32)),
     }
 }
 
@@ -80,14 +79,17 @@ fn run_bytes(
     bytes: &[u8],
 ) -> Result<Report, Memory>
     requires plain { IsTrue (plain_kernel (functions_in checked.now)) }
+    requires short { length (functions_in checked.now) ≤ 4096 }
     requires there { at < length (functions_in checked.now) }
     requires few { asked.now.steps ≤ 2 ^ 40 }
     requires cores { HoldsCores checked.now }
-    ensures { IfOk result (Reports (JudgesRun asked.now.heap.now (functions_in checked.now) at asked.now.steps bytes.now)) }
+    ensures { (found : Found) → functions_found found ≡ functions_in checked.now → found.at ≡ at → found.heap ≡ bytes.now
+        → Rules Judges ran_lines (run_rules asked.now.heap.now asked.now.steps) found result }
 {
-    match argument(alloc, asked.heap, bytes)? {
-        Step::Ends(report) => Ok(report),
-        Step::Goes(arg) => execute(alloc, checked, at, arg, asked.steps),
+    match argument(alloc, asked.heap, bytes) {
+        Err(_) => Err(Memory),
+        Ok(Step::Ends(report)) => Ok(report),
+        Ok(Step::Goes(arg)) => execute(alloc, checked, at, arg, asked.steps),
     }
 }
 
@@ -100,18 +102,19 @@ fn run_ready<F: Files>(
     files: &mut F,
 ) -> Result<Report, Memory>
     requires plain { IsTrue (plain_kernel (functions_in checked.now)) }
+    requires short { length (functions_in checked.now) ≤ 4096 }
     requires there { at < length (functions_in checked.now) }
     requires few { asked.now.steps ≤ 2 ^ 40 }
     requires cores { HoldsCores checked.now }
-    ensures says { IfOk result (Reports (SaysHeap asked.now.heap.now (functions_in checked.now) at asked.now.steps
-        (F.held files.old) (F.failed_reads files.old) (F.failed_reads files.new))) }
-    ensures held { F.held files.new ≡ F.held files.old }
-    ensures writes { F.failed_writes files.new ≡ F.failed_writes files.old }
+    ensures { (found : Found) → functions_found found ≡ functions_in checked.now → found.at ≡ at
+        → Concludes Judges ran_lines (heap_steps asked.now.heap.now asked.now.steps) found
+        (world (F.held files.old) (F.failed_reads files.old) (F.failed_writes files.old))
+        (world (F.held files.new) (F.failed_reads files.new) (F.failed_writes files.new)) result }
 {
-    match files.read(alloc, asked.heap, HEAP_LIMIT) {
-        Ok(bytes) => run_bytes(alloc, asked, checked, at, &bytes),
-        Err(FileFault::Failed) => unread(alloc, asked.heap),
-        Err(FileFault::Memory) => Err(Memory),
+    match read_file(alloc, asked.heap, HEAP_LIMIT, files) {
+        Err(_) => Err(Memory),
+        Ok(Step::Ends(report)) => Ok(report),
+        Ok(Step::Goes(bytes)) => run_bytes(alloc, asked, checked, at, &bytes),
     }
 }
 
@@ -123,11 +126,12 @@ fn run_checked<F: Files>(
     files: &mut F,
 ) -> Result<Report, Memory>
     requires few { asked.now.steps ≤ 2 ^ 40 }
+    requires short { length (functions_in checked.now) ≤ 4096 }
     requires cores { HoldsCores checked.now }
-    ensures says { IfOk result (Reports (SaysChecked asked.now.file.now asked.now.entry.now asked.now.heap.now asked.now.steps
-        (functions_in checked.now) (F.held files.old) (F.failed_reads files.old) (F.failed_reads files.new))) }
-    ensures held { F.held files.new ≡ F.held files.old }
-    ensures writes { F.failed_writes files.new ≡ F.failed_writes files.old }
+    ensures { (found : Found) → functions_found found ≡ functions_in checked.now
+        → Concludes Judges ran_lines (judged_first (entry_rules asked.now.file.now asked.now.entry.now) (heap_steps asked.now.heap.now asked.now.steps)) found
+        (world (F.held files.old) (F.failed_reads files.old) (F.failed_writes files.old))
+        (world (F.held files.new) (F.failed_reads files.new) (F.failed_writes files.new)) result }
 {
     match entry_of(alloc, asked, checked) {
         Err(_) => Err(Memory),
@@ -144,10 +148,10 @@ fn run_source<F: Files>(
     files: &mut F,
 ) -> Result<Report, Memory>
     requires few { asked.now.steps ≤ 2 ^ 40 }
-    ensures says { IfOk result (Reports (SaysSource asked.now.file.now asked.now.entry.now asked.now.heap.now asked.now.steps
-        source.now (F.held files.old) (F.failed_reads files.old) (F.failed_reads files.new))) }
-    ensures held { F.held files.new ≡ F.held files.old }
-    ensures writes { F.failed_writes files.new ≡ F.failed_writes files.old }
+    ensures { (found : Found) → found.source ≡ source.now
+        → Concludes Judges ran_lines (run_steps asked.now.file.now asked.now.entry.now asked.now.heap.now asked.now.steps) found
+        (world (F.held files.old) (F.failed_reads files.old) (F.failed_writes files.old))
+        (world (F.held files.new) (F.failed_reads files.new) (F.failed_writes files.new)) result }
 {
     match judge(alloc, asked.file, source) {
         Err(_) => Err(Memory),
@@ -163,14 +167,13 @@ pub(crate) fn run_file<F: Files>(
     files: &mut F,
 ) -> Result<Report, Memory>
     requires few { asked.now.steps ≤ 2 ^ 40 }
-    ensures says { IfOk result (Reports (SaysRun asked.now.file.now asked.now.entry.now asked.now.heap.now asked.now.steps
-        (F.held files.old) (F.failed_reads files.old) (F.failed_reads files.new))) }
-    ensures held { F.held files.new ≡ F.held files.old }
-    ensures writes { F.failed_writes files.new ≡ F.failed_writes files.old }
+    ensures { Concludes Judges ran_lines (reads_source asked.now.file.now ∷ run_steps asked.now.file.now asked.now.entry.now asked.now.heap.now asked.now.steps) nothing
+        (world (F.held files.old) (F.failed_reads files.old) (F.failed_writes files.old))
+        (world (F.held files.new) (F.failed_reads files.new) (F.failed_writes files.new)) result }
 {
-    match files.read(alloc, asked.file, SOURCE_LIMIT) {
-        Ok(source) => run_source(alloc, asked, &source, files),
-        Err(FileFault::Failed) => unread(alloc, asked.file),
-        Err(FileFault::Memory) => Err(Memory),
+    match read_file(alloc, asked.file, SOURCE_LIMIT, files) {
+        Err(_) => Err(Memory),
+        Ok(Step::Ends(report)) => Ok(report),
+        Ok(Step::Goes(source)) => run_source(alloc, asked, &source, files),
     }
 }

@@ -1,5 +1,6 @@
-use Rattle.cg_driver.proofs.Saying.{answers}
+use Rattle.cg_steps.proofs.Topping.{prints}
+use Rattle.cg_driver.specs.Commands.{Judges}
 use Rattle.cg_driver.proofs.call.answer.Goals as goal
 
-pub returns-in-Ok-clause-answer : goal.returns-in-Ok-clause-answer
-returns-in-Ok-clause-answer g c = answers _ _ _ _ _ _ _ _ _ _ _ c.in-Ok.ensures.says c.print.ensures
+pub returns-in-Ok : goal.returns-in-Ok
+returns-in-Ok g c = prints Judges _ _ _ _ _ _ _ _ _ _ c.in-Ok.ensures c.print_report.ensures

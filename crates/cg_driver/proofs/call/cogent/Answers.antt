@@ -1,42 +1,40 @@
-use Rattle.cg_heaptext.proofs.Reading.{one_argument}
-use Rattle.cg_parser.proofs.One.{one_program}
-use Rattle.cg_parser.proofs.Same.{one_answer as one_reading}
-use Rattle.cg_resolve.proofs.One.{one_answer as one_resolving}
-use Rattle.cg_driver.proofs.Deciding.{checks, runs, read_fault, usage_only, check_done, run_done}
-use Rattle.cg_driver.proofs.Refusing.{check_refuses, check_exceeds, run_refuses, run_exceeds}
+use Rattle.cg_steps.proofs.Topping.{answers_just, decided, leaves, leaves_unwritten, unread, unwrote, silent, finished, completes}
+use Rattle.cg_words.specs.Words.{texts, command_of}
+use Rattle.cg_driver.specs.Commands.{Judges, asked}
+use Rattle.cg_driver.proofs.Judging.{single, ruling, once}
+use Rattle.cg_driver.proofs.Wording.{usage_only, usage_for}
 use Rattle.cg_driver.proofs.call.cogent.Goals as goal
 
+pub returns-clause-decides : goal.returns-clause-decides
+returns-clause-decides g c held told v = decided Judges single (asked c.args.words.now) _ _ _ _ _ _ _ c.answer.ensures held told v
+
+pub returns-clause-refuses : goal.returns-clause-refuses
+returns-clause-refuses g c held status text told v k =
+    answers_just Judges single (asked c.args.words.now) _ _ _ _ _ _ _ c.answer.ensures held told (once (command_of (texts c.args.words.now))) v status text k
+
+pub returns-clause-stands : goal.returns-clause-stands
+returns-clause-stands g c = leaves Judges (asked c.args.words.now) _ _ _ _ _ _ _ c.answer.ensures
+
+pub returns-clause-unwritten : goal.returns-clause-unwritten
+returns-clause-unwritten g c none = leaves_unwritten Judges (asked c.args.words.now) _ _ _ _ _ _ _ c.answer.ensures none
+
 pub returns-clause-read_fault : goal.returns-clause-read_fault
-returns-clause-read_fault g c e = read_fault _ _ _ _ _ _ _ _ _ c.answer.ensures.answer e
+returns-clause-read_fault g c e = unread Judges ruling (asked c.args.words.now) _ _ _ _ _ _ _ c.answer.ensures e
+
+pub returns-clause-write_fault : goal.returns-clause-write_fault
+returns-clause-write_fault g c e = unwrote Judges ruling (asked c.args.words.now) _ _ _ _ _ _ _ c.answer.ensures e
+
+pub returns-clause-memory : goal.returns-clause-memory
+returns-clause-memory g c e = silent Judges ruling (asked c.args.words.now) _ _ _ _ _ _ _ c.answer.ensures e
+
+pub returns-clause-finished : goal.returns-clause-finished
+returns-clause-finished g c e = finished Judges ruling (asked c.args.words.now) _ _ _ _ _ _ _ c.answer.ensures e
+
+pub returns-clause-done : goal.returns-clause-done
+returns-clause-done g c held status told calm quiet k = completes Judges ruling (asked c.args.words.now) _ _ _ _ _ _ _ c.answer.ensures single held told calm quiet status k
 
 pub returns-clause-usage : goal.returns-clause-usage
-returns-clause-usage g c e = usage_only _ _ _ _ _ _ _ _ _ c.answer.ensures.answer e
+returns-clause-usage g c e = usage_only (command_of (texts c.args.words.now)) _ _ _ _ _ _ _ c.answer.ensures e
 
-pub returns-clause-checks : goal.returns-clause-checks
-returns-clause-checks g c held file told asked verdict = checks one_program one_argument _ _ held _ _ _ _ _ _ _ c.answer.ensures.answer file told asked verdict
-
-pub returns-clause-runs : goal.returns-clause-runs
-returns-clause-runs g c held file entry heap steps told asked verdict = runs one_program one_argument _ _ held _ _ _ _ _ _ _ c.answer.ensures.answer file entry heap steps told asked verdict
-
-pub returns-clause-check_done : goal.returns-clause-check_done
-returns-clause-check_done g c held file told asked done same no_write = check_done one_program one_argument _ _ held _ _ _ _ _ _ _ c.answer.ensures.answer told no_write file asked done same
-
-pub returns-clause-run_done : goal.returns-clause-run_done
-returns-clause-run_done g c held file entry heap steps told asked done same also no_write =
-    run_done one_program one_argument _ _ held _ _ _ _ _ _ _ c.answer.ensures.answer told no_write file entry heap steps asked done same also
-
-pub returns-clause-check_refuses : goal.returns-clause-check_refuses
-returns-clause-check_refuses g c held file line told asked verdict found =
-    check_refuses one_program one_reading one_resolving file one_argument _ _ held _ _ _ _ _ _ _ c.answer.ensures.answer told verdict line asked found
-
-pub returns-clause-check_exceeds : goal.returns-clause-check_exceeds
-returns-clause-check_exceeds g c held file line told asked verdict found =
-    check_exceeds one_program one_reading one_resolving file one_argument _ _ held _ _ _ _ _ _ _ c.answer.ensures.answer told verdict line asked found
-
-pub returns-clause-run_refuses : goal.returns-clause-run_refuses
-returns-clause-run_refuses g c held file entry heap line steps told asked verdict found =
-    run_refuses one_program one_reading one_resolving file one_argument _ _ held _ _ _ _ _ _ _ c.answer.ensures.answer told verdict entry heap line steps asked found
-
-pub returns-clause-run_exceeds : goal.returns-clause-run_exceeds
-returns-clause-run_exceeds g c held file entry heap line steps told asked verdict found =
-    run_exceeds one_program one_reading one_resolving file one_argument _ _ held _ _ _ _ _ _ _ c.answer.ensures.answer told verdict entry heap line steps asked found
+pub returns-clause-other_words : goal.returns-clause-other_words
+returns-clause-other_words g c none v = usage_for (command_of (texts c.args.words.now)) _ _ _ _ _ _ _ c.answer.ensures none v

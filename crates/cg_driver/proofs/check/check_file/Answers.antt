@@ -1,10 +1,19 @@
-use Rattle.cg_driver.specs.Answer.{Judges}
-use Rattle.cg_driver.specs.Says.{SaysCheck}
-use Rattle.cg_driver.proofs.Saying.{follows, checked_says}
+use Rattle.std.proofs.Common.{◌≡◌, [], ◌∷◌, ◌∙◌, ap, sym, Ok, Vec, ℕ, Global}
+use Rattle.cg_steps.specs.Steps.{judged_first}
+use Rattle.cg_steps.specs.World.{world}
+use Rattle.cg_steps.proofs.Following.{read_leads, follows, ended, halted, rules_conclude}
+use Rattle.cg_driver.specs.Commands.{Judges, source_rules, reads_source, checked_line}
+use Rattle.cg_driver.specs.Found.{nothing, with_source, source_limit}
 use Rattle.cg_driver.proofs.check.check_file.Goals as goal
 
-pub returns-in-Ok-clause-says : goal.returns-in-Ok-clause-says
-returns-in-Ok-clause-says g c =
-    follows (Judges c.args.file.now c.deref.result.now) (SaysCheck c.args.file.now (g.F.Files.held c.args.files.now) (g.F.Files.failed_reads c.args.files.now) (g.F.Files.failed_reads c.read.new.self))
-    (checked_says c.args.file.now c.deref.result.now (g.F.Files.held c.args.files.now) (g.F.Files.failed_reads c.args.files.now) (g.F.Files.failed_reads c.read.new.self) (rw c.deref.ensures.value c.in-Ok.ensures.bytes)) _
-    c.check_source.ensures
+pub returns-in-Err : goal.returns-in-Err
+returns-in-Err g c = halted Judges (λ (b : Vec ℕ Global) next. next ≡ with_source b.items nothing) checked_line (reads_source c.args.file.now ∷ []) (judged_first (source_rules c.args.file.now) []) nothing _ _ c.read_file.result c.in-Err.field-0 _ c.in-Err.is (read_leads Judges c.args.file.now source_limit with_source nothing _ _ c.read_file.result c.read_file.ensures)
+
+pub returns-in-Ok-Ends : goal.returns-in-Ok-Ends
+returns-in-Ok-Ends g c = ended Judges (λ (b : Vec ℕ Global) next. next ≡ with_source b.items nothing) checked_line (reads_source c.args.file.now ∷ []) (judged_first (source_rules c.args.file.now) []) nothing _ _ c.read_file.result c.in-Ok-Ends.report (c.in-Ok-Ends.is ∙ ap Ok c.in-Ok-Ends.field-0-is) (read_leads Judges c.args.file.now source_limit with_source nothing _ _ c.read_file.result c.read_file.ensures)
+
+pub returns-in-Ok-Goes : goal.returns-in-Ok-Goes
+returns-in-Ok-Goes g c =
+    follows Judges (λ (b : Vec ℕ Global) next. next ≡ with_source b.items nothing) checked_line (reads_source c.args.file.now ∷ []) (judged_first (source_rules c.args.file.now) []) nothing _ (world (g.F.Files.held c.read_file.new.files) (g.F.Files.failed_reads c.read_file.new.files) (g.F.Files.failed_writes c.read_file.new.files)) (world (g.F.Files.held c.read_file.new.files) (g.F.Files.failed_reads c.read_file.new.files) (g.F.Files.failed_writes c.read_file.new.files)) c.read_file.result c.in-Ok-Goes.source _
+    (c.in-Ok-Goes.is ∙ ap Ok c.in-Ok-Goes.field-0-is) (read_leads Judges c.args.file.now source_limit with_source nothing _ _ c.read_file.result c.read_file.ensures)
+    (λ next is. rules_conclude Judges checked_line (source_rules c.args.file.now) next _ _ (c.check_source.ensures next (ap (λ f. f.source) is ∙ sym c.deref.ensures.value)))

@@ -1,0 +1,5 @@
+use Rattle.cg_driver.proofs.Accepting.{only_accepted, all_accepted}
+use Rattle.cg_driver.proofs.law.status_0_is_acceptance.Goals as goal
+
+pub returns : goal.returns
+returns c = λ held file. (only_accepted held file, all_accepted held file)

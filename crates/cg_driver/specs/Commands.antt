@@ -1,0 +1,167 @@
+-- The judgements of the commands' steps, what each comes to, and the commands as lists of steps (docs/LANGUAGE.md, "Commands"): a new command
+-- is a line of `script_of`, with the judgements of its own steps.
+use Rattle.std.specs.Prelude.{◌≡◌, ℕ, ◌<◌, ◌≤◌, ◌^◌, ◌++◌, true, false, List, [], ◌∷◌, position, Option, Some, None, Err, String, codes, bytes_eq}
+use Rattle.std.specs.declared.alloc.Global.{Global}
+use Rattle.cg_base.specs.declared.limit.Limit.{Limit}
+use Rattle.cg_base.specs.declared.limit.Limit.TheVariants.{Source, Nesting, Functions, Fields, Ty, Depth, Heap}
+use Rattle.cg_base.specs.declared.place.Place.{Place}
+use Rattle.cg_check.specs.Small.{is_small_kernel}
+use Rattle.cg_circles.specs.Circles.{NoCircle}
+use Rattle.cg_core.specs.Kernels.{Function}
+use Rattle.cg_desugar.specs.Faults.{NameFault, program_faults}
+use Rattle.cg_desugar.specs.Mentions.{mentions}
+use Rattle.cg_desugar.specs.Order.{AreOrdered, AreGrowing}
+use Rattle.cg_desugar.specs.Takes.{missing_fields}
+use Rattle.cg_eval.specs.Plain.{plain_kernel}
+use Rattle.cg_heaptext.specs.HeapText.{HeapText}
+use Rattle.cg_names.specs.Says.{IsFirst}
+use Rattle.cg_parser.specs.Grammar.{Spells}
+use Rattle.cg_parser.specs.Answers.{Answers as Parses}
+use Rattle.cg_parser.specs.declared.fault.ParseFault.TheVariants.{S1, S2, S3, S4}
+use Rattle.cg_resolve.specs.Answers.{IsCircleAt}
+use Rattle.cg_steps.specs.declared.status.Status.TheVariants.{Refused, Usage, StepLimit, HeapRefused, TooLarge}
+use Rattle.cg_steps.specs.Steps.{Outcome, refuses, goes, Step, reads, judged_first}
+use Rattle.cg_steps.specs.Scripts.{Script}
+use Rattle.cg_surface.specs.Programs.{Entry}
+use Rattle.cg_takes.specs.Says as takes
+use Rattle.cg_typing.specs.Accepted.{IsAcceptedKernel}
+use Rattle.cg_words.specs.Words.{Command, check, run, texts, command_of}
+use Rattle.cg_driver.specs.Found.{Found, nothing, with_source, with_program, with_entry, with_heap, with_argument, with_value, functions, source_limit, heap_limit, bound, quantity}
+use Rattle.cg_driver.specs.Lines.{usage_text, ok_line, fault_line, name_rule, not_built_line, not_accepted_line, no_entry_line, no_heap_text_line, out_of_range_line, limit_name, limit_line, step_limit_line}
+use Rattle.cg_driver.specs.Run.{Evaluates, RunsOut, IsReport}
+
+-- The judgements, in the order of the steps; each has the names that it prints. The words are no command; a quantity is within its limit; the
+-- source spells a program (S1 to S4); its names are known, apart and have their arguments (N1, N2, N4), nothing mentions itself (N3), and
+-- what is taken is there (N5); its kernel is one of those that typing has rules for so far (F1), and is accepted (F2); it is one of those that
+-- can be run so far (F1), and has the entry (E1); the heap file holds a number (H1), which is a word (H5); evaluation ends within the steps.
+pub data Judgement : Type 0 where
+  no_command : Judgement
+  within : Limit → Judgement
+  spelled : List ℕ → Judgement
+  named : List ℕ → Judgement
+  acyclic : List ℕ → Judgement
+  with_fields : List ℕ → Judgement
+  small : List ℕ → Judgement
+  typed : List ℕ → Judgement
+  plain : List ℕ → Judgement
+  has_entry : List ℕ → List ℕ → Judgement
+  heap_spelled : List ℕ → Judgement
+  in_range : List ℕ → Judgement
+  evaluated : ℕ → Judgement
+
+-- The line of a fault of syntax: the bytes spell no program, and this is the first place where they go on with none, by its rule.
+pub data RefusesSyntax (file source text : List ℕ) : Type 0 where
+  unknown_byte : (place : Place) → Parses source (Err (S1 place)) → text ≡ fault_line file place (codes "S1 unknown byte") → RefusesSyntax file source text
+  open_comment : (place : Place) → Parses source (Err (S2 place)) → text ≡ fault_line file place (codes "S2 comment not closed") → RefusesSyntax file source text
+  unexpected : (place : Place) → Parses source (Err (S3 place)) → text ≡ fault_line file place (codes "S3 unexpected token") → RefusesSyntax file source text
+  wrong_bar : (place : Place) → Parses source (Err (S4 place)) → text ≡ fault_line file place (codes "S4 bar in no open match") → RefusesSyntax file source text
+
+-- the line of the first of a program's faults N1, N2 and N4, which stand in order: so it is the one at the least place, and of two at one
+-- place the one with the lower number
+pub record RefusesNames (file : List ℕ) (p : List Entry) (text : List ℕ) : Type 0 where
+  pub ordered : AreOrdered (program_faults p)
+  pub fault : NameFault
+  pub first : IsFirst fault (program_faults p)
+  pub line : text ≡ name_rule file fault
+
+-- the line of the first circle of mentions
+pub record RefusesCircle (file : List ℕ) (p : List Entry) (text : List ℕ) : Type 0 where
+  pub place : Place
+  pub first : IsCircleAt p place
+  pub line : text ≡ fault_line file place (codes "N3 circle of mentions")
+
+-- the line of the first field that is taken where it isn't there; their places stand in order
+pub record RefusesTake (file : List ℕ) (p : List Entry) (text : List ℕ) : Type 0 where
+  pub growing : AreGrowing (missing_fields p)
+  pub place : Place
+  pub first : takes.IsFirst place (missing_fields p)
+  pub line : text ≡ fault_line file place (codes "N5 take of no field")
+
+-- the position of the first function of a name
+abbrev pub entry_at : List ℕ → List Function → Option ℕ
+entry_at name functions = position (λ f. bytes_eq f.at.name name) functions
+
+-- what each judgement comes to
+abbrev pub Judges : Judgement → Found → Outcome Found → Type 0
+Judges no_command found (refuses status text) = (status ≡ Usage) × (text ≡ usage_text)
+Judges no_command found (goes next) = ⊥
+Judges (within limit) found (refuses status text) = (status ≡ TooLarge) × (text ≡ limit_line (limit_name limit)) × (bound limit < quantity limit found)
+Judges (within limit) found (goes next) = (next ≡ found) × (quantity limit found ≤ bound limit)
+Judges (spelled file) found (refuses status text) = (status ≡ Refused) × RefusesSyntax file found.source text
+Judges (spelled file) found (goes next) = (p : List Entry) × (next ≡ with_program p found) × Spells found.source p
+Judges (named file) found (refuses status text) = (status ≡ Refused) × RefusesNames file found.program text
+Judges (named file) found (goes next) = (next ≡ found) × (program_faults found.program ≡ [])
+Judges (acyclic file) found (refuses status text) = (status ≡ Refused) × RefusesCircle file found.program text
+Judges (acyclic file) found (goes next) = (next ≡ found) × NoCircle (mentions found.program)
+Judges (with_fields file) found (refuses status text) = (status ≡ Refused) × RefusesTake file found.program text
+Judges (with_fields file) found (goes next) = (next ≡ found) × (missing_fields found.program ≡ [])
+Judges (small file) found (refuses status text) = (status ≡ Refused) × (text ≡ not_built_line file) × (is_small_kernel (functions found) ≡ false)
+Judges (small file) found (goes next) = (next ≡ found) × (is_small_kernel (functions found) ≡ true)
+Judges (typed file) found (refuses status text) = (status ≡ Refused) × (text ≡ not_accepted_line file) × (IsAcceptedKernel (functions found) → ⊥)
+Judges (typed file) found (goes next) = (next ≡ found) × IsAcceptedKernel (functions found)
+Judges (plain file) found (refuses status text) = (status ≡ Refused) × (text ≡ not_built_line file) × (plain_kernel (functions found) ≡ false)
+Judges (plain file) found (goes next) = (next ≡ found) × (plain_kernel (functions found) ≡ true)
+Judges (has_entry file name) found (refuses status text) = (status ≡ Refused) × (text ≡ no_entry_line file) × (entry_at name (functions found) ≡ None)
+Judges (has_entry file name) found (goes next) = (at : ℕ) × (next ≡ with_entry at found) × (entry_at name (functions found) ≡ Some at)
+Judges (heap_spelled heap) found (refuses status text) = (status ≡ HeapRefused) × (text ≡ no_heap_text_line heap) × ((n : ℕ) → HeapText found.heap n → ⊥)
+Judges (heap_spelled heap) found (goes next) = (n : ℕ) × (next ≡ with_argument n found) × HeapText found.heap n
+Judges (in_range heap) found (refuses status text) = (status ≡ HeapRefused) × (text ≡ out_of_range_line heap) × (2 ^ 32 ≤ found.argument)
+Judges (in_range heap) found (goes next) = (next ≡ found) × (found.argument < 2 ^ 32)
+Judges (evaluated steps) found (refuses status text) = (status ≡ StepLimit) × (text ≡ step_limit_line steps) × RunsOut (functions found) found.at found.argument steps
+Judges (evaluated steps) found (goes next) = (value : ℕ) × (cost : ℕ) × (next ≡ with_value value cost found) × Evaluates (functions found) found.at found.argument steps value cost
+
+-- ---- the lists
+
+-- the steps that all commands on a source share, once it was read
+abbrev pub kernel_rules : List ℕ → List Judgement
+kernel_rules file = small file ∷ typed file ∷ []
+
+abbrev pub resolving_rules : List ℕ → List Judgement
+resolving_rules file = named file ∷ acyclic file ∷ with_fields file ∷ within Functions ∷ within Fields ∷ within Ty ∷ within Depth ∷ []
+
+abbrev pub program_rules : List ℕ → List Judgement
+program_rules file = resolving_rules file ++ kernel_rules file
+
+abbrev pub source_rules : List ℕ → List Judgement
+source_rules file = within Source ∷ spelled file ∷ within Nesting ∷ program_rules file
+
+-- those of `run` before the heap file is read, and then
+abbrev pub entry_rules : List ℕ → List ℕ → List Judgement
+entry_rules file entry = plain file ∷ has_entry file entry ∷ []
+
+abbrev pub heap_rules : List ℕ → List Judgement
+heap_rules heap = within Heap ∷ heap_spelled heap ∷ in_range heap ∷ []
+
+abbrev pub run_rules : List ℕ → ℕ → List Judgement
+run_rules heap steps = heap_rules heap ++ evaluated steps ∷ []
+
+-- a source that is read
+abbrev pub reads_source : List ℕ → Step Judgement Found
+reads_source file = reads file source_limit with_source
+
+abbrev pub reads_heap : List ℕ → Step Judgement Found
+reads_heap heap = reads heap heap_limit with_heap
+
+-- what is printed at status 0: how many functions there are; the seven lines of a run
+abbrev pub checked_line : Found → List ℕ → Type 0
+checked_line found text = text ≡ ok_line (functions found)
+
+abbrev pub ran_lines : Found → List ℕ → Type 0
+ran_lines found text = IsReport (functions found) found.at found.argument found.value found.cost text
+
+-- the steps of `run` from the heap file on, and all behind the read of the source
+abbrev pub heap_steps : List ℕ → ℕ → List (Step Judgement Found)
+heap_steps heap steps = reads_heap heap ∷ judged_first (run_rules heap steps) []
+
+abbrev pub run_steps : List ℕ → List ℕ → List ℕ → ℕ → List (Step Judgement Found)
+run_steps file entry heap steps = judged_first (source_rules file ++ entry_rules file entry) (heap_steps heap steps)
+
+-- the commands; other words are refused
+abbrev pub script_of : Option Command → Script Judgement Found
+script_of None = record { steps = judged_first (no_command ∷ []) []; start = nothing; line = λ found text. ⊥ }
+script_of (Some (check file)) = record { steps = reads_source file ∷ judged_first (source_rules file) []; start = nothing; line = checked_line }
+script_of (Some (run file entry heap steps)) = record { steps = reads_source file ∷ run_steps file entry heap steps; start = nothing; line = ran_lines }
+
+-- the command that the words ask for
+abbrev pub asked : List (String Global) → Script Judgement Found
+asked words = script_of (command_of (texts words))
