@@ -5,11 +5,12 @@ ghost use Rattle.cg_core.specs.Kernels.{Function};
 ghost use Rattle.cg_outside.specs.Held.{Held, bytes_at};
 ghost use Rattle.cg_outside.specs.Memory.{honest_held, honest_taken};
 ghost use Rattle.cg_steps.specs.World.{world};
-ghost use Rattle.cg_steps.specs.Steps.{WritesNone};
+ghost use Rattle.cg_steps.specs.Steps.{Outcome, WritesNone};
 ghost use Rattle.cg_steps.specs.Scripts.{Answers, ComesTo, Decides};
 ghost use Rattle.cg_words.specs.Words.{Command, check};
 ghost use Rattle.cg_driver.specs.Accepted.{IsAcceptedSource};
-ghost use Rattle.cg_driver.specs.Commands.{Judges, script_of, asked};
+ghost use Rattle.cg_driver.specs.Commands.{Judgement, Judges, script_of, asked};
+ghost use Rattle.cg_driver.specs.Found.{Found};
 
 use crate::{Status, cogent};
 use cg_outside::{HonestFiles, HonestSink};
@@ -40,6 +41,16 @@ pub fn honest_cogent(
 {
     cogent(alloc, words, files, out)
 }
+
+/// A judgement comes to one outcome at most, of each state: it refuses with one status and one line, or goes on in one state.
+pub fn one_outcome()
+    ensures { (judgement : Judgement) (found : Found) (a b : Outcome Found) → Judges judgement found a → Judges judgement found b → a ≡ b }
+{}
+
+/// What a command prints at status 0 of what its steps found is one text.
+pub fn one_text()
+    ensures { (command : Option Command) (found : Found) (a b : List ℕ) → (script_of command).line found a → (script_of command).line found b → a ≡ b }
+{}
 
 /// No command writes a file.
 pub fn no_command_writes()
