@@ -13,10 +13,17 @@ use cg_words::{Command, read_words};
 use std::alloc::{AllocError, Global};
 
 /// What a call answers: a text, and the files afterwards, where the call may change any.
-#[derive(Drop)]
 pub struct Answer {
     pub text: Vec<u8>,
     pub files: Option<MemoryFiles>,
+}
+
+impl Drop for Answer {
+    fn drop(self) {
+        let Answer { text, files } = self;
+        drop(text);
+        drop(files);
+    }
 }
 
 // A rule with its place.
@@ -154,19 +161,25 @@ fn held(
     Ok(MemoryFiles::new(alloc, held, failing.to_vec(alloc)?))
 }
 
+// The status and what was printed, as a case has them.
+fn answered(alloc: Global, code: u8, printed: &[u8]) -> Result<Vec<u8>, AllocError> {
+    let status = format!(in alloc; "{code}")?;
+    let mut text = status.as_bytes().to_vec(alloc)?;
+    if printed.is_empty() {
+        text.push(b'\n')?;
+    } else {
+        text.push(b' ')?;
+        text.extend_from_slice(printed)?;
+    }
+    Ok(text)
+}
+
 // What the program answers on words: its status, and what it prints.
 fn commanded(alloc: Global, words: &[String], case: &Case) -> Result<Answer, AllocError> {
     let mut files = held(alloc, case.files.as_slice(), case.failing.as_slice())?;
     let mut out = MemorySink::new(alloc, case.unwritten.as_slice().to_vec(alloc)?);
     let code = cogent(alloc, words, &mut files, &mut out).code();
-    let status = format!(in alloc; "{code}")?;
-    let mut text = status.as_bytes().to_vec(alloc)?;
-    if out.bytes().is_empty() {
-        text.push(b'\n')?;
-    } else {
-        text.push(b' ')?;
-        text.extend_from_slice(out.bytes())?;
-    }
+    let text = answered(alloc, code, out.bytes())?;
     Ok(Answer {
         text,
         files: Some(files),

@@ -21,7 +21,6 @@ pub enum Part {
 /// A case: the line that it begins on, what is called, the name of the file that the first lines of text are, the files before, the
 /// calls of files and of the output that fail, by their number, the answer that is wanted, and the files that are wanted afterwards
 /// (others stay as they were).
-#[derive(Drop)]
 pub struct Case {
     pub line: u64,
     pub called: Called,
@@ -32,6 +31,29 @@ pub struct Case {
     pub wanted: Vec<u8>,
     pub after: Vec<(Name, Vec<u8>)>,
     pub part: Part,
+}
+
+impl Drop for Case {
+    fn drop(self) {
+        let Case {
+            line: _,
+            called,
+            first,
+            files,
+            failing,
+            unwritten,
+            wanted,
+            after,
+            part: _,
+        } = self;
+        drop(called);
+        drop(first);
+        drop(files);
+        drop(failing);
+        drop(unwritten);
+        drop(wanted);
+        drop(after);
+    }
 }
 
 // The words of a line, parted by single spaces.
@@ -120,6 +142,31 @@ impl Case {
         Ok(())
     }
 
+    // A file that is wanted afterwards, by its name.
+    fn push_after(&mut self, alloc: Global, name: &[u8]) -> Result<(), TextFault> {
+        self.part = Part::After;
+        self.after.push((Name::new(alloc, name)?, Vec::new(alloc)))?;
+        Ok(())
+    }
+
+    // A line of the answer.
+    fn push_wanted(&mut self, alloc: Global, line: &[u8]) -> Result<(), TextFault> {
+        self.part = Part::Answer;
+        let bytes = text_of(alloc, line, true)?;
+        self.wanted.extend_from_slice(bytes.as_slice())?;
+        Ok(())
+    }
+
+    // A line of the last file.
+    fn push_text(&mut self, alloc: Global, line: &[u8]) -> Result<(), TextFault> {
+        let bytes = text_of(alloc, line, true)?;
+        match self.part {
+            Part::Before => self.push_before(alloc, bytes.as_slice()),
+            Part::After => Case::push_bytes(&mut self.after, bytes.as_slice()),
+            Part::Answer => Err(TextFault::Escape),
+        }
+    }
+
     // The numbers of the calls that fail: of files, or of the output.
     fn push_failing(&mut self, line: &[u8]) -> Result<(), TextFault> {
         let mut words = line.split(|byte| *byte == b' ');
@@ -141,27 +188,12 @@ impl Case {
     /// which calls fail, `=` begins the answer and `>` goes on with it.
     pub fn push_line(&mut self, alloc: Global, mark: u8, line: &[u8]) -> Result<(), TextFault> {
         match mark {
-            b'@' => self.push_file(alloc, line)?,
-            b'!' => self.push_failing(line)?,
-            b'~' => {
-                self.part = Part::After;
-                self.after.push((Name::new(alloc, line)?, Vec::new(alloc)))?;
-            }
-            b'=' | b'>' => {
-                self.part = Part::Answer;
-                let bytes = text_of(alloc, line, true)?;
-                self.wanted.extend_from_slice(bytes.as_slice())?;
-            }
-            b'|' => {
-                let bytes = text_of(alloc, line, true)?;
-                match self.part {
-                    Part::Before => self.push_before(alloc, bytes.as_slice())?,
-                    Part::After => Case::push_bytes(&mut self.after, bytes.as_slice())?,
-                    Part::Answer => return Err(TextFault::Escape),
-                }
-            }
-            _ => return Err(TextFault::Escape),
+            b'@' => self.push_file(alloc, line),
+            b'!' => self.push_failing(line),
+            b'~' => self.push_after(alloc, line),
+            b'=' | b'>' => self.push_wanted(alloc, line),
+            b'|' => self.push_text(alloc, line),
+            _ => Err(TextFault::Escape),
         }
-        Ok(())
     }
 }

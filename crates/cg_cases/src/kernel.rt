@@ -1,7 +1,7 @@
 // The text of a kernel: a line for each function, and under it a line for each node of its body, the deeper the further to the right.
 // Behind `@` stands a place; a place alone is where a variable is bound.
-use cg_base::{Bound, Items, Name, Part, Place, Sigil, Ty};
-use cg_core::{At, FieldTerm, Form, Fun, KFun, Kernel, Seen, Term, TyArg};
+use cg_base::{Bound, Items, Name, Part, Place, Sigil, Ty, Word};
+use cg_core::{At, FieldTerm, Form, Fun, KFun, Kernel, Op, Seen, Term, TyArg};
 use std::alloc::{AllocError, Global};
 
 /// The text of a kernel.
@@ -94,35 +94,56 @@ fn push_sigil(text: &mut String, sigil: Sigil) -> Result<(), AllocError> {
     Ok(())
 }
 
+// A type variable by its number, with a mark behind it.
+fn push_variable(text: &mut String, at: u32, mark: &str) -> Result<(), AllocError> {
+    write!(text, "a{at}{mark}")?;
+    Ok(())
+}
+
+fn push_word(text: &mut String, word: Word) -> Result<(), AllocError> {
+    write!(text, "{word:?}")?;
+    Ok(())
+}
+
+fn push_text(text: &mut String, more: &str) -> Result<(), AllocError> {
+    text.push_str(more)?;
+    Ok(())
+}
+
 #[cycle(push_type)]
 fn push_type(text: &mut String, ty: &Ty) -> Result<(), AllocError> {
     match ty {
-        Ty::Var(at) => write!(text, "a{at}")?,
-        Ty::Seen(at) => write!(text, "a{at}!")?,
-        Ty::Unit => text.push_str("()")?,
-        Ty::Word(word) => write!(text, "{word:?}")?,
-        Ty::Bool => text.push_str("Bool")?,
+        Ty::Var(at) => push_variable(text, *at, ""),
+        Ty::Seen(at) => push_variable(text, *at, "!"),
+        Ty::Unit => push_text(text, "()"),
+        Ty::Word(word) => push_word(text, *word),
+        Ty::Bool => push_text(text, "Bool"),
         Ty::Arrow(from, to) => {
             text.push_str("(")?;
             push_type(text, from)?;
             text.push_str(" -> ")?;
             push_type(text, to)?;
-            text.push_str(")")?;
+            push_text(text, ")")
         }
-        Ty::Abs(name, args, sigil) => push_abstract(text, name, args, *sigil)?,
-        Ty::Variant(parts) => {
-            text.push_str("<")?;
-            push_parts(text, parts)?;
-            text.push_str(">")?;
-        }
-        Ty::Fields(parts, sigil) => {
-            text.push_str("{")?;
-            push_parts(text, parts)?;
-            text.push_str("}")?;
-            push_sigil(text, *sigil)?;
-        }
+        Ty::Abs(name, args, sigil) => push_abstract(text, name, args, *sigil),
+        Ty::Variant(parts) => push_variant(text, parts),
+        Ty::Fields(parts, sigil) => push_record(text, parts, *sigil),
     }
-    Ok(())
+}
+
+#[cycle(push_type)]
+fn push_variant(text: &mut String, parts: &Items<Part>) -> Result<(), AllocError> {
+    text.push_str("<")?;
+    push_parts(text, parts)?;
+    push_text(text, ">")
+}
+
+#[cycle(push_type)]
+fn push_record(text: &mut String, parts: &Items<Part>, sigil: Sigil) -> Result<(), AllocError> {
+    text.push_str("{")?;
+    push_parts(text, parts)?;
+    text.push_str("}")?;
+    push_sigil(text, sigil)
 }
 
 #[cycle(push_type)]
@@ -154,8 +175,8 @@ fn push_parts(text: &mut String, parts: &Items<Part>) -> Result<(), AllocError> 
     Ok(())
 }
 
-#[cycle(push_term)]
-fn push_term(text: &mut String, depth: usize, term: &Term<Place>) -> Result<(), AllocError> {
+// The line of a node.
+fn push_node(text: &mut String, depth: usize, term: &Term<Place>) -> Result<(), AllocError> {
     for _ in 0..depth {
         text.push_str(" ")?;
     }
@@ -163,7 +184,12 @@ fn push_term(text: &mut String, depth: usize, term: &Term<Place>) -> Result<(), 
     text.push_str("@")?;
     push_place(text, term.note)?;
     push_details(text, &term.form)?;
-    text.push_str("\n")?;
+    push_text(text, "\n")
+}
+
+#[cycle(push_term)]
+fn push_term(text: &mut String, depth: usize, term: &Term<Place>) -> Result<(), AllocError> {
+    push_node(text, depth, term)?;
     push_subterms(text, depth.saturating_add(1), &term.form)
 }
 
@@ -191,38 +217,69 @@ fn word_of(form: &Form<Place>) -> &'static str {
     }
 }
 
+// A position.
+fn push_position(text: &mut String, at: u32) -> Result<(), AllocError> {
+    write!(text, " {at}")?;
+    Ok(())
+}
+
+fn push_flag(text: &mut String, value: bool) -> Result<(), AllocError> {
+    write!(text, " {value}")?;
+    Ok(())
+}
+
+// A literal, or that it is too large.
+fn push_literal(text: &mut String, value: Option<u64>) -> Result<(), AllocError> {
+    match value {
+        Some(value) => write!(text, " {value}")?,
+        None => text.push_str(" none")?,
+    }
+    Ok(())
+}
+
+fn push_operator(text: &mut String, op: Op) -> Result<(), AllocError> {
+    write!(text, " {op:?}")?;
+    Ok(())
+}
+
+fn push_con(text: &mut String, name: &Name) -> Result<(), AllocError> {
+    text.push_str(" ")?;
+    push_name(text, name)
+}
+
+// The alternative of a case, and where its payload is bound.
+fn push_alternative(text: &mut String, at: &At, payload: Place) -> Result<(), AllocError> {
+    push_mention(text, at)?;
+    push_binder(text, payload)
+}
+
+// The field that is taken, and where the rest and the value are bound.
+fn push_taken(text: &mut String, at: &At, rest: Place, value: Place) -> Result<(), AllocError> {
+    push_mention(text, at)?;
+    push_binder(text, rest)?;
+    push_binder(text, value)
+}
+
 // What a form holds beside its terms.
 fn push_details(text: &mut String, form: &Form<Place>) -> Result<(), AllocError> {
     match form {
-        Form::Var(at) => write!(text, " {at}")?,
-        Form::Bool(value) => write!(text, " {value}")?,
-        Form::Lit(Some(value)) => write!(text, " {value}")?,
-        Form::Lit(None) => text.push_str(" none")?,
-        Form::Fun(fun, args) => push_instance(text, *fun, args)?,
-        Form::Op(op, _) => write!(text, " {op:?}")?,
-        Form::Let(binder, _, _) => push_binder(text, *binder)?,
-        Form::LetBang(seen, binder, _, _) => push_observers(text, seen, *binder)?,
-        Form::Con(name, _) => {
-            text.push_str(" ")?;
-            push_name(text, name)?;
-        }
-        Form::Case(_, at, payload, _, _) => {
-            push_mention(text, at)?;
-            push_binder(text, *payload)?;
-        }
-        Form::Esac(at, _) => push_mention(text, at)?,
-        Form::Struct(fields) => push_fields(text, fields)?,
-        Form::Member(_, at) => push_mention(text, at)?,
-        Form::Take(_, at, rest, value, _) => {
-            push_mention(text, at)?;
-            push_binder(text, *rest)?;
-            push_binder(text, *value)?;
-        }
-        Form::Put(_, at, _) => push_mention(text, at)?,
-        Form::Annot(_, ty) => push_written(text, ty)?,
-        Form::Unit | Form::App(_, _) | Form::If(_, _, _) | Form::Cast(_) => {}
+        Form::Var(at) => push_position(text, *at),
+        Form::Bool(value) => push_flag(text, *value),
+        Form::Lit(value) => push_literal(text, *value),
+        Form::Fun(fun, args) => push_instance(text, *fun, args),
+        Form::Op(op, _) => push_operator(text, *op),
+        Form::Let(binder, _, _) => push_binder(text, *binder),
+        Form::LetBang(seen, binder, _, _) => push_observers(text, seen, *binder),
+        Form::Con(name, _) => push_con(text, name),
+        Form::Case(_, at, payload, _, _) => push_alternative(text, at, *payload),
+        Form::Esac(at, _) => push_mention(text, at),
+        Form::Struct(fields) => push_fields(text, fields),
+        Form::Member(_, at) => push_mention(text, at),
+        Form::Take(_, at, rest, value, _) => push_taken(text, at, *rest, *value),
+        Form::Put(_, at, _) => push_mention(text, at),
+        Form::Annot(_, ty) => push_written(text, ty),
+        Form::Unit | Form::App(_, _) | Form::If(_, _, _) | Form::Cast(_) => Ok(()),
     }
-    Ok(())
 }
 
 // A function, with its type arguments.
@@ -258,29 +315,28 @@ fn push_fields(text: &mut String, fields: &Items<FieldTerm<Place>>) -> Result<()
 #[cycle(push_term)]
 fn push_subterms(text: &mut String, depth: usize, form: &Form<Place>) -> Result<(), AllocError> {
     match form {
-        Form::Var(_) | Form::Unit | Form::Bool(_) | Form::Lit(_) | Form::Fun(_, _) => {}
+        Form::Var(_) | Form::Unit | Form::Bool(_) | Form::Lit(_) | Form::Fun(_, _) => Ok(()),
         Form::Con(_, part)
         | Form::Esac(_, part)
         | Form::Member(part, _)
         | Form::Cast(part)
-        | Form::Annot(part, _) => push_term(text, depth, part)?,
+        | Form::Annot(part, _) => push_term(text, depth, part),
         Form::App(first, second)
         | Form::Let(_, first, second)
         | Form::LetBang(_, _, first, second)
         | Form::Take(first, _, _, _, second)
         | Form::Put(first, _, second) => {
             push_term(text, depth, first)?;
-            push_term(text, depth, second)?;
+            push_term(text, depth, second)
         }
         Form::If(first, second, third) | Form::Case(first, _, _, second, third) => {
             push_term(text, depth, first)?;
             push_term(text, depth, second)?;
-            push_term(text, depth, third)?;
+            push_term(text, depth, third)
         }
-        Form::Op(_, operands) => push_operands(text, depth, operands)?,
-        Form::Struct(fields) => push_values(text, depth, fields)?,
+        Form::Op(_, operands) => push_operands(text, depth, operands),
+        Form::Struct(fields) => push_values(text, depth, fields),
     }
-    Ok(())
 }
 
 #[cycle(push_term)]

@@ -12,6 +12,20 @@ fn malformed(name: &str, line: u64, told: &mut String) -> Result<(), AllocError>
     Ok(())
 }
 
+// Says what a case was answered.
+fn tell_difference(
+    name: &str,
+    line: u64,
+    text: &[u8],
+    told: &mut String,
+) -> Result<(), AllocError> {
+    write!(told, "{name}:{line}: answered ")?;
+    for byte in text {
+        told.push(char::from(*byte))?;
+    }
+    Ok(())
+}
+
 // Makes the call of a case, and tells a difference.
 fn run_case(
     alloc: Global,
@@ -20,21 +34,18 @@ fn run_case(
     counts: &mut Counts,
     told: &mut String,
 ) -> Result<(), AllocError> {
-    let Some(case) = case else {
-        return Ok(());
-    };
-    counts.cases = counts.cases.saturating_add(1);
-    let answer = answer_of(alloc, &case)?;
-    if is_wanted(&case, &answer) {
-        return Ok(());
+    match case {
+        None => Ok(()),
+        Some(case) => {
+            counts.cases = counts.cases.saturating_add(1);
+            let answer = answer_of(alloc, &case)?;
+            if is_wanted(&case, &answer) {
+                return Ok(());
+            }
+            counts.differences = counts.differences.saturating_add(1);
+            tell_difference(name, case.line, &answer.text, told)
+        }
     }
-    counts.differences = counts.differences.saturating_add(1);
-    let line = case.line;
-    write!(told, "{name}:{line}: answered ")?;
-    for byte in &answer.text {
-        told.push(char::from(*byte))?;
-    }
-    Ok(())
 }
 
 // A line that is no comment: a mark, and what stands behind it and one space.
@@ -57,6 +68,82 @@ fn begun(alloc: Global, line: u64, mark: u8, text: &[u8]) -> Result<Case, TextFa
     }
 }
 
+// The case that is open, among the lines of a file.
+struct Reader<'a> {
+    alloc: Global,
+    name: &'a str,
+    number: u64,
+    open: Option<Case>,
+}
+
+impl<'a> Drop for Reader<'a> {
+    fn drop(self) {
+        let Reader {
+            alloc: _,
+            name: _,
+            number: _,
+            open,
+        } = self;
+        drop(open);
+    }
+}
+
+impl<'a> Reader<'a> {
+    // Makes the call of the case that is open, which then is none.
+    fn close(&mut self, counts: &mut Counts, told: &mut String) -> Result<(), AllocError> {
+        run_case(self.alloc, self.name, self.open.take(), counts, told)
+    }
+
+    // Tells a line that is none of a case, unless memory was wanting.
+    fn tell(&self, fault: TextFault, told: &mut String) -> Result<(), AllocError> {
+        match fault {
+            TextFault::Escape => malformed(self.name, self.number, told),
+            TextFault::Memory => Err(AllocError),
+        }
+    }
+
+    // Begins a case.
+    fn begin(&mut self, mark: u8, text: &[u8], told: &mut String) -> Result<(), AllocError> {
+        match begun(self.alloc, self.number, mark, text) {
+            Ok(case) => {
+                self.open = Some(case);
+                Ok(())
+            }
+            Err(fault) => self.tell(fault, told),
+        }
+    }
+
+    // Goes on with the case that is open.
+    fn go_on(&mut self, mark: u8, text: &[u8], told: &mut String) -> Result<(), AllocError> {
+        let pushed = match &mut self.open {
+            Some(case) => case.push_line(self.alloc, mark, text),
+            None => Err(TextFault::Escape),
+        };
+        match pushed {
+            Ok(()) => Ok(()),
+            Err(fault) => self.tell(fault, told),
+        }
+    }
+
+    // A line.
+    fn take(
+        &mut self,
+        line: &[u8],
+        counts: &mut Counts,
+        told: &mut String,
+    ) -> Result<(), AllocError> {
+        self.number = self.number.saturating_add(1);
+        match marked(line) {
+            None => Ok(()),
+            Some((mark, text)) if mark == b'$' || mark == b'%' => {
+                self.close(counts, told)?;
+                self.begin(mark, text, told)
+            }
+            Some((mark, text)) => self.go_on(mark, text, told),
+        }
+    }
+}
+
 /// Makes the calls of the cases of a file, and tells each difference (docs/CASES.md).
 pub fn run_all(
     alloc: Global,
@@ -65,31 +152,14 @@ pub fn run_all(
     counts: &mut Counts,
     told: &mut String,
 ) -> Result<(), AllocError> {
-    let mut case: Option<Case> = None;
-    let mut number = 0u64;
+    let mut reader = Reader {
+        alloc,
+        name,
+        number: 0,
+        open: None,
+    };
     for line in bytes.split(|byte| *byte == b'\n') {
-        number = number.saturating_add(1);
-        let Some((mark, text)) = marked(line) else {
-            continue;
-        };
-        if mark == b'$' || mark == b'%' {
-            run_case(alloc, name, case.take(), counts, told)?;
-            match begun(alloc, number, mark, text) {
-                Ok(new) => case = Some(new),
-                Err(TextFault::Escape) => malformed(name, number, told)?,
-                Err(TextFault::Memory) => return Err(AllocError),
-            }
-            continue;
-        }
-        let Some(open) = &mut case else {
-            malformed(name, number, told)?;
-            continue;
-        };
-        match open.push_line(alloc, mark, text) {
-            Ok(()) => {}
-            Err(TextFault::Escape) => malformed(name, number, told)?,
-            Err(TextFault::Memory) => return Err(AllocError),
-        }
+        reader.take(line, counts, told)?;
     }
-    run_case(alloc, name, case.take(), counts, told)
+    reader.close(counts, told)
 }
