@@ -35,14 +35,14 @@ pushed_on xs new x ys zs all is next so_far = ap (λ l. l ++ zs) is ∙ append_a
 the_field_is : (f : FieldTerm Place) → the_field f ≡ record { name = f.name; term = the_term f.term }
 the_field_is f = views.field_is Place Place (λ p. p) f
 
-pub fields_start : (made : List (FieldTerm Place)) (above : ℕ) → made ≡ [] → above < 512 → above + 1 + deepest_named (to_named (map the_field made)) ≤ 512
+pub fields_start : (made : List (FieldTerm Place)) (above : ℕ) → made ≡ [] → above < term_limit → above + 1 + deepest_named (to_named (map the_field made)) ≤ term_limit
 fields_start made above is room = omega (arith, ap (λ l. deepest_named (to_named (map the_field l))) is, named_none)
 
 fields_pushed : (made new : List (FieldTerm Place)) (f : FieldTerm Place) → new ≡ made ++ f ∷ [] → map the_field new ≡ map the_field made ++ record { name = f.name; term = the_term f.term } ∷ []
 fields_pushed made new f is = ap (map the_field) is ∙ map-append the_field made (f ∷ []) ∙ ap (λ g. map the_field made ++ g ∷ []) (the_field_is f)
 
-pub fields_room : (made new : List (FieldTerm Place)) (f : FieldTerm Place) (above : ℕ) → new ≡ made ++ f ∷ [] → above + 1 + depth_of (the_term f.term) ≤ 512
-    → above + 1 + deepest_named (to_named (map the_field made)) ≤ 512 → above + 1 + deepest_named (to_named (map the_field new)) ≤ 512
+pub fields_room : (made new : List (FieldTerm Place)) (f : FieldTerm Place) (above : ℕ) → new ≡ made ++ f ∷ [] → above + 1 + depth_of (the_term f.term) ≤ term_limit
+    → above + 1 + deepest_named (to_named (map the_field made)) ≤ term_limit → above + 1 + deepest_named (to_named (map the_field new)) ≤ term_limit
 fields_room made new f above is room so_far =
     omega (arith, room, so_far, ap (λ l. deepest_named (to_named l)) (fields_pushed made new f is), named_more (map the_field made) (record { name = f.name; term = the_term f.term }))
 

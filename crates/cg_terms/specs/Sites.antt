@@ -17,6 +17,11 @@ entry_of e = option_map (λ n. n.now) e
 abbrev pub scope_of : List (Option (Bor (List ℕ))) → Scope
 scope_of entries = reverse (map entry_of entries)
 
+-- No scope of the code has more entries, since a node binds two at most (Fits: no more than 2 * term_limit + 1, and two more for a payload below the limit).
+-- So the position of an entry fits into the 32 bits that a variable of the kernel has.
+abbrev pub scope_limit : ℕ
+scope_limit = 2048
+
 -- the scope where the rest goes
 abbrev pub scope_in : Site → Scope
 scope_in site = scope_of site.scope.items

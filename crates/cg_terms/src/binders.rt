@@ -10,7 +10,7 @@ ghost use Rattle.cg_desugar.specs.Expand.{component};
 ghost use Rattle.cg_desugar.specs.Terms.{bound_to, its_name, inner_place, named_remainder, seen_bound};
 ghost use Rattle.cg_surface.specs.Patterns.{pattern_of, field_of};
 ghost use Rattle.cg_terms.specs.Parts.{numbered, taken_from, one_taken, later_bound, all_later, parts_bound, remainder_bound, tuple_bound};
-ghost use Rattle.cg_terms.specs.Sites.{entry_of, scope_of, scope_in, level, Fits, Binds};
+ghost use Rattle.cg_terms.specs.Sites.{entry_of, scope_of, scope_in, level, Fits, Binds, scope_limit};
 ghost use Rattle.cg_terms.specs.Stands.{under, HasRoom};
 
 use crate::components::component;
@@ -196,7 +196,7 @@ pub fn bind_later<'a>(
     at: usize,
 ) -> Result<(), TermFault>
     requires fits { Fits site.now }
-    requires at { at ≤ 2048 }
+    requires at { at ≤ scope_limit }
     ensures { Binds site.old (later_bound (its_name (pattern_of pattern.now)) (pattern_of pattern.now) place at (scope_in site.old)) result site.new }
 {
     match its_name(pattern) {

@@ -5,7 +5,7 @@ ghost use Rattle.std.specs.Prelude.{◌≡◌, ◌+◌, ◌≤◌, ◌∷◌, ma
 ghost use Rattle.std.specs.Option.{option_map};
 ghost use Rattle.cg_core.specs.Kernels.{the_term};
 ghost use Rattle.cg_core.specs.Terms.{term, esac};
-ghost use Rattle.cg_desugar.specs.Desugar.{depth_of};
+ghost use Rattle.cg_desugar.specs.Desugar.{depth_of, term_limit};
 ghost use Rattle.cg_desugar.specs.Terms.{bound_to, last_bound, or_empty};
 ghost use Rattle.cg_surface.specs.Exprs.{alt_of};
 ghost use Rattle.cg_surface.specs.Patterns.{pattern_of};
@@ -69,8 +69,8 @@ pub fn push_case(
     first: Term<Place>,
 ) -> Result<(), Memory>
     requires fits { Fits site.now }
-    requires subject { level site.now + 1 + depth_of (the_term subject) ≤ 512 }
-    requires first { level site.now + 1 + depth_of (the_term first) ≤ 512 }
+    requires subject { level site.now + 1 + depth_of (the_term subject) ≤ term_limit }
+    requires first { level site.now + 1 + depth_of (the_term first) ≤ term_limit }
     ensures { OnOk result (Moved site.old (case_made (alt_of choice.now) (the_term subject) (the_term first) (scope_in site.old)) site.new (λ rest. rest (scope_in site.new))) }
 {
     let at = At {
@@ -133,7 +133,7 @@ fn bind_payload<'a>(
 
 // Whether two nodes, one below the other, keep the limit so far down.
 fn has_two(level: usize, stands: Option<usize>) -> bool
-    requires level { level ≤ 512 }
+    requires level { level ≤ term_limit }
     requires stands { MatchOption stands ⊤ (λ nodes. nodes ≤ 2) }
     ensures { MatchBool result (HasTwo stands level) (LacksTwo stands level) }
 {

@@ -3,6 +3,7 @@
 
 ghost use Rattle.std.specs.Prelude.{◌≡◌, ◌+◌, ◌<◌, ◌≤◌, IfOk};
 ghost use Rattle.cg_core.specs.Kernels.{the_term};
+ghost use Rattle.cg_desugar.specs.Desugar.{term_limit};
 ghost use Rattle.cg_terms.specs.Frames.{around};
 ghost use Rattle.cg_terms.specs.Sites.{inside, level};
 
@@ -34,7 +35,7 @@ pub struct Site<'a> {
 impl Site<'_> {
     /// How many nodes lie above the rest.
     pub fn level(&self) -> usize
-        requires { level self.now ≤ 512 }
+        requires { level self.now ≤ term_limit }
         ensures { result ≡ level self.now }
     {
         self.above + self.frames.len()

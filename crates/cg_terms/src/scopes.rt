@@ -5,7 +5,7 @@ ghost use Rattle.std.specs.Prelude.{◌≡◌, ◌<◌, ◌≤◌, IfOk, MatchOp
 ghost use Rattle.cg_core.specs.Kernels.{the_term};
 ghost use Rattle.cg_core.specs.Terms.{term, var};
 ghost use Rattle.cg_desugar.specs.Terms.{variable, has_name, or_zero, positions};
-ghost use Rattle.cg_terms.specs.Sites.{entry_of, scope_of};
+ghost use Rattle.cg_terms.specs.Sites.{entry_of, scope_of, scope_limit};
 
 use cg_base::{Items, Memory, Place};
 use cg_core::{At, Form, Seen, Term};
@@ -36,7 +36,7 @@ fn has_name(variable: Option<&[u8]>, name: &[u8]) -> bool
 
 /// The term of a variable at a position.
 pub fn variable_term(place: Place, at: usize) -> Term<Place>
-    requires { at ≤ 2048 }
+    requires { at ≤ scope_limit }
     ensures { the_term result ≡ term place (var at) }
 {
     Term {
@@ -51,7 +51,7 @@ pub fn positions(
     scope: &[Option<&[u8]>],
     seen: &Items<At>,
 ) -> Result<Items<Seen>, Memory>
-    requires { length scope.now ≤ 2048 }
+    requires { length scope.now ≤ scope_limit }
     ensures { IfOk result (λ made. made ≡ positions (scope_of scope.now) seen.now) }
 {
     let mut made = Items::new(alloc);
@@ -67,7 +67,7 @@ pub fn positions(
 
 // The position of a variable, 0 where there is none.
 fn position(scope: &[Option<&[u8]>], name: &[u8]) -> u32
-    requires { length scope.now ≤ 2048 }
+    requires { length scope.now ≤ scope_limit }
     ensures { result ≡ or_zero (variable (scope_of scope.now) name.now) }
 {
     match variable(scope, name) {

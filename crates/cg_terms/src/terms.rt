@@ -4,7 +4,7 @@
 ghost use Rattle.std.specs.Prelude.{◌≡◌, ◌+◌, ◌*◌, ◌<◌, ◌≤◌, [], map, Option, Some, None, MatchOption, length, ⊤, IfOk, OnOk};
 ghost use Rattle.cg_core.specs.Kernels.{the_term};
 ghost use Rattle.cg_core.specs.Terms.{term, unit, op as op_shape, more, none as no_terms, app, if_else as if_shape, con, member as member_shape, cast, annot, struct, to_named};
-ghost use Rattle.cg_desugar.specs.Desugar.{depth_of};
+ghost use Rattle.cg_desugar.specs.Desugar.{depth_of, term_limit};
 ghost use Rattle.cg_desugar.specs.Terms.{its_name, first_place, bind, last_bound, observed, mention, variable};
 ghost use Rattle.cg_surface.specs.Exprs.{expr_of, bind_of, alt_of, field_of, to_fields, to_binds, to_alts, lets, if_else, match_of};
 ghost use Rattle.cg_surface.specs.Patterns.{pattern_of};
@@ -12,7 +12,7 @@ ghost use Rattle.cg_surface.specs.Written.{written_of, to_types};
 ghost use Rattle.cg_terms.specs.Answers.{Says, StandingSays, LooksInto};
 ghost use Rattle.cg_terms.specs.Names.{AreNames, name_in, term_in, written_in, puts_in, bind_in, observed_in, binds_in, components_in, field_in, payload_in, case_in, last_in, choices_in};
 ghost use Rattle.cg_terms.specs.Parts.{seen_made};
-ghost use Rattle.cg_terms.specs.Sites.{entry_of, scope_of, scope_in, inside, level, Fits, Moved, Binds};
+ghost use Rattle.cg_terms.specs.Sites.{entry_of, scope_of, scope_in, inside, level, Fits, Moved, Binds, scope_limit};
 ghost use Rattle.cg_terms.specs.Stands.{under, under_last, under_choices, HasRoom};
 
 use crate::binders::{bind_later, bound_to};
@@ -45,7 +45,7 @@ fn first_place(expr: &SExpr) -> Place
 
 // A site where nothing is done yet.
 fn new_site<'a>(alloc: Global, scope: &[Option<&'a [u8]>], above: usize) -> Result<Site<'a>, Memory>
-    requires above { above ≤ 512 }
+    requires above { above ≤ term_limit }
     requires scope { length scope.now ≤ 2 * above + 1 }
     ensures fits { IfOk result Fits }
     ensures above { IfOk result (λ made. made.above ≡ above) }
@@ -71,7 +71,7 @@ fn name_term(
     types: &Items<STy>,
 ) -> Result<Term<Place>, Memory>
     requires names { AreNames names.now }
-    requires scope { length scope.now ≤ 2048 }
+    requires scope { length scope.now ≤ scope_limit }
     ensures { IfOk result (λ t. the_term t ≡ name_in names.now place name.now (to_types (map written_of types.now)) (variable (scope_of scope.now) name.now)) }
 {
     let name = name.bytes();
@@ -92,7 +92,7 @@ fn push_seen<'a>(
     entry: Option<&'a [u8]>,
 ) -> Result<(), Memory>
     requires fits { Fits site.now }
-    requires value { level site.now + 1 + depth_of (the_term value) ≤ 512 }
+    requires value { level site.now + 1 + depth_of (the_term value) ≤ term_limit }
     ensures { OnOk result (Moved site.old (seen_made node seen.now place (the_term value) (entry_of entry.entry) (scope_in site.old)) site.new (λ rest. rest (scope_in site.new))) }
 {
     let seen = positions(alloc, site.scope.as_slice(), seen)?;
@@ -108,7 +108,7 @@ fn constructor_alone(
     place: Place,
     name: &Name,
 ) -> Result<Term<Place>, TermFault>
-    requires { above < 512 }
+    requires { above < term_limit }
     ensures { Says above (term place (con name.now (term place unit))) result }
 {
     if above + 2 > TERM_LIMIT {
@@ -147,7 +147,7 @@ fn form_term<'a>(
     expr: &'a SExpr,
 ) -> Result<Term<Place>, TermFault>
     requires names { AreNames names.now }
-    requires above { above < 512 }
+    requires above { above < term_limit }
     requires scope { length scope.now ≤ 2 * above + 1 }
     ensures { Says above (term_in names.now (scope_of scope.now) (expr_of expr.now)) result }
 {
@@ -194,7 +194,7 @@ fn annotation_term<'a>(
     ty: &STy,
 ) -> Result<Term<Place>, TermFault>
     requires names { AreNames names.now }
-    requires above { above < 512 }
+    requires above { above < term_limit }
     requires scope { length scope.now ≤ 2 * above + 1 }
     ensures { Says above (term place (annot (term_in names.now (scope_of scope.now) (expr_of part.now)) (written_in names.now (written_of ty.now)))) result }
 {
@@ -214,7 +214,7 @@ fn app_term<'a>(
     arg: &'a SExpr,
 ) -> Result<Term<Place>, TermFault>
     requires names { AreNames names.now }
-    requires above { above < 512 }
+    requires above { above < term_limit }
     requires scope { length scope.now ≤ 2 * above + 1 }
     ensures { Says above (term place (app (term_in names.now (scope_of scope.now) (expr_of fun.now)) (term_in names.now (scope_of scope.now) (expr_of arg.now)))) result }
 {
@@ -234,7 +234,7 @@ fn member_term<'a>(
     at: &At,
 ) -> Result<Term<Place>, TermFault>
     requires names { AreNames names.now }
-    requires above { above < 512 }
+    requires above { above < term_limit }
     requires scope { length scope.now ≤ 2 * above + 1 }
     ensures { Says above (term place (member_shape (term_in names.now (scope_of scope.now) (expr_of whole.now)) at.now)) result }
 {
@@ -253,7 +253,7 @@ fn unary_term<'a>(
     operand: &'a SExpr,
 ) -> Result<Term<Place>, TermFault>
     requires names { AreNames names.now }
-    requires above { above < 512 }
+    requires above { above < term_limit }
     requires scope { length scope.now ≤ 2 * above + 1 }
     ensures { Says above (term place (op_shape op (more (term_in names.now (scope_of scope.now) (expr_of operand.now)) no_terms))) result }
 {
@@ -271,7 +271,7 @@ fn cast_term<'a>(
     operand: &'a SExpr,
 ) -> Result<Term<Place>, TermFault>
     requires names { AreNames names.now }
-    requires above { above < 512 }
+    requires above { above < term_limit }
     requires scope { length scope.now ≤ 2 * above + 1 }
     ensures { Says above (term place (cast (term_in names.now (scope_of scope.now) (expr_of operand.now)))) result }
 {
@@ -291,7 +291,7 @@ fn binary_term<'a>(
     right: &'a SExpr,
 ) -> Result<Term<Place>, TermFault>
     requires names { AreNames names.now }
-    requires above { above < 512 }
+    requires above { above < term_limit }
     requires scope { length scope.now ≤ 2 * above + 1 }
     ensures { Says above (term place (op_shape op (more (term_in names.now (scope_of scope.now) (expr_of left.now)) (more (term_in names.now (scope_of scope.now) (expr_of right.now)) no_terms)))) result }
 {
@@ -311,7 +311,7 @@ fn constructor_term<'a>(
     value: &'a SExpr,
 ) -> Result<Term<Place>, TermFault>
     requires names { AreNames names.now }
-    requires above { above < 512 }
+    requires above { above < term_limit }
     requires scope { length scope.now ≤ 2 * above + 1 }
     ensures { Says above (term place (con name.now (term_in names.now (scope_of scope.now) (expr_of value.now)))) result }
 {
@@ -330,7 +330,7 @@ fn tuple_term<'a>(
     items: &'a Items<SExpr>,
 ) -> Result<Term<Place>, TermFault>
     requires names { AreNames names.now }
-    requires above { above < 512 }
+    requires above { above < term_limit }
     requires scope { length scope.now ≤ 2 * above + 1 }
     ensures { Says above (term place (struct (to_named (components_in names.now (scope_of scope.now) 0 (map expr_of items.now))))) result }
 {
@@ -358,7 +358,7 @@ fn record_term<'a>(
     fields: &'a Items<FExpr>,
 ) -> Result<Term<Place>, TermFault>
     requires names { AreNames names.now }
-    requires above { above < 512 }
+    requires above { above < term_limit }
     requires scope { length scope.now ≤ 2 * above + 1 }
     ensures { Says above (term place (struct (to_named (map (field_in names.now (scope_of scope.now)) (map field_of fields.now))))) result }
 {
@@ -386,7 +386,7 @@ fn put_term<'a>(
     fields: &'a Items<FExpr>,
 ) -> Result<Term<Place>, TermFault>
     requires names { AreNames names.now }
-    requires above { above < 512 }
+    requires above { above < term_limit }
     requires scope { length scope.now ≤ 2 * above + 1 }
     ensures { Says above (puts_in names.now place (scope_of scope.now) (term_in names.now (scope_of scope.now) (expr_of whole.now)) (to_fields (map field_of fields.now))) result }
 {
@@ -405,7 +405,7 @@ fn below_puts<'a>(
     whole: &'a SExpr,
 ) -> Result<Term<Place>, TermFault>
     requires names { AreNames names.now }
-    requires above { above < 512 }
+    requires above { above < term_limit }
     requires scope { length scope.now ≤ 2 * above + 1 }
     ensures { Says (above + puts) (term_in names.now (scope_of scope.now) (expr_of whole.now)) result }
 {
@@ -427,7 +427,7 @@ fn put_all<'a>(
     whole: Term<Place>,
 ) -> Result<Term<Place>, TermFault>
     requires names { AreNames names.now }
-    requires whole { above + length fields.now + depth_of (the_term whole) ≤ 512 }
+    requires whole { above + length fields.now + depth_of (the_term whole) ≤ term_limit }
     requires scope { length scope.now ≤ 2 * above + 1 }
     ensures { Says above (puts_in names.now place (scope_of scope.now) (the_term whole) (to_fields (map field_of fields.now))) result }
 {
@@ -453,7 +453,7 @@ fn let_term<'a>(
     body: &'a SExpr,
 ) -> Result<Term<Place>, TermFault>
     requires names { AreNames names.now }
-    requires above { above < 512 }
+    requires above { above < term_limit }
     requires scope { length scope.now ≤ 2 * above + 1 }
     ensures { Says above (term_in names.now (scope_of scope.now) (lets place (to_binds (map bind_of binds.now)) (expr_of body.now))) result }
 {
@@ -475,7 +475,7 @@ fn if_term<'a>(
     no: &'a SExpr,
 ) -> Result<Term<Place>, TermFault>
     requires names { AreNames names.now }
-    requires above { above < 512 }
+    requires above { above < term_limit }
     requires scope { length scope.now ≤ 2 * above + 1 }
     ensures { Says above (term_in names.now (scope_of scope.now) (if_else place (expr_of test.now) seen.now (expr_of yes.now) (expr_of no.now))) result }
 {
@@ -518,7 +518,7 @@ fn match_term<'a>(
     choices: &'a Items<Alt>,
 ) -> Result<Term<Place>, TermFault>
     requires names { AreNames names.now }
-    requires above { above < 512 }
+    requires above { above < term_limit }
     requires scope { length scope.now ≤ 2 * above + 1 }
     ensures { Says above (term_in names.now (scope_of scope.now) (match_of place (expr_of value.now) seen.now (to_alts (map alt_of choices.now)))) result }
 {
@@ -777,7 +777,7 @@ pub fn payload<'a>(
     pattern: &'a Pat,
 ) -> Result<Term<Place>, TermFault>
     requires names { AreNames names.now }
-    requires above { above ≤ 513 }
+    requires above { above ≤ term_limit + 1 }
     requires scope { length scope.now ≤ 2 * above }
     ensures { Says above (payload_in names.now (pattern_of pattern.now) (scope_of scope.now) (expr_of body.now)) result }
 {

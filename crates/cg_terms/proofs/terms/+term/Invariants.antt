@@ -1,7 +1,7 @@
 use Rattle.std.proofs.Common.{◌≡◌, ◌+◌, ◌*◌, ◌≤◌, ◌++◌, max, drop, take, length, map}
 use Rattle.cg_core.specs.Kernels.{the_term, the_field}
 use Rattle.cg_core.specs.Terms.{to_named}
-use Rattle.cg_desugar.specs.Desugar.{depth_of, deepest_named}
+use Rattle.cg_desugar.specs.Desugar.{depth_of, deepest_named, term_limit}
 use Rattle.cg_surface.specs.declared.expr.SExpr.{size-SExpr}
 use Rattle.cg_surface.specs.declared.expr.FExpr.{size-FExpr}
 use Rattle.cg_surface.specs.declared.expr.Bind.{size-Bind}
@@ -18,19 +18,19 @@ invariant-tuple_term-loop-item l =
     (map the_field l.fields ++ components_in l.names (scope_of l.scope) l.index (map expr_of (drop l.item-index l.item-items))
     ≡ components_in l.names (scope_of l.scope) 0 (map expr_of l.item-items))
     × (l.index ≡ l.item-index)
-    × (l.above + 1 + deepest_named (to_named (map the_field l.fields)) ≤ 512)
+    × (l.above + 1 + deepest_named (to_named (map the_field l.fields)) ≤ term_limit)
 
 abbrev pub invariant-record_term-loop-field : goal.invariant-record_term-loop-field
 invariant-record_term-loop-field l =
     (map the_field l.made ++ map (field_in l.names (scope_of l.scope)) (map field_of (drop l.field-index l.field-items))
     ≡ map (field_in l.names (scope_of l.scope)) (map field_of l.field-items))
-    × (l.above + 1 + deepest_named (to_named (map the_field l.made)) ≤ 512)
+    × (l.above + 1 + deepest_named (to_named (map the_field l.made)) ≤ term_limit)
 
 abbrev pub invariant-put_all-loop-field : goal.invariant-put_all-loop-field
 invariant-put_all-loop-field l =
     (the_term l.made ≡ puts_in l.names l.place (scope_of l.scope) (the_term l.initial.made) (to_fields (map field_of (take l.field-index l.field-items))))
     × (l.left + l.field-index ≡ length l.field-items)
-    × (l.above + l.left + depth_of (the_term l.made) ≤ 512)
+    × (l.above + l.left + depth_of (the_term l.made) ≤ term_limit)
 
 abbrev pub invariant-bind_all-loop-bind : goal.invariant-bind_all-loop-bind
 invariant-bind_all-loop-bind l =
