@@ -1,4 +1,5 @@
-//! What a program declares, in tables by name, and what is declared beforehand (docs/LANGUAGE.md, "Names").
+//! What a program declares, in tables by name, [`Declarations`], and what is declared beforehand, [`plain_type`] and
+//! [`library_function`] (docs/LANGUAGE.md, "Names").
 #![tactic(auto)]
 
 mod beforehand;

@@ -1,5 +1,5 @@
-//! Which items of a program mention which, through the bodies of synonyms and functions: the graph whose circles are at fault
-//! (docs/LANGUAGE.md, "Names", N3).
+//! Which items of a program mention which, [`mentions`], through the bodies of synonyms and functions: the graph whose circles are
+//! at fault (docs/LANGUAGE.md, "Names", N3).
 #![tactic(auto)]
 
 mod exprs;

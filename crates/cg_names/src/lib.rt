@@ -1,5 +1,5 @@
-//! Where names are at fault: the first name of a program in reading order that isn't defined where it stands (N1), that is defined
-//! twice (N2), or that has a wrong number of type arguments (N4) (docs/LANGUAGE.md, "Names").
+//! Where names are at fault, [`check_names`]: the first name of a program in reading order that isn't defined where it stands (N1),
+//! that is defined twice (N2), or that has a wrong number of type arguments (N4) (docs/LANGUAGE.md, "Names").
 #![tactic(auto)]
 
 mod exprs;

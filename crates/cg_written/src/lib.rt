@@ -1,5 +1,5 @@
-//! What written types are: how wide and how large they are, and what they become in a kernel (docs/LANGUAGE.md, "Synonyms" and
-//! "Limits").
+//! What written types are: how wide, [`is_too_wide`], and how large they are, [`synonyms`], and what they become in a kernel,
+//! [`written_type`] (docs/LANGUAGE.md, "Synonyms" and "Limits").
 #![tactic(auto)]
 
 mod build;
