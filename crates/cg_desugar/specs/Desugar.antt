@@ -1,6 +1,6 @@
--- From a program to its kernel, or to the first fault of names, or to the first limit of written things that it passes (docs/LANGUAGE.md,
+-- From a program to its kernel; whether its names are in order, and the first limit of written things that it passes (docs/LANGUAGE.md,
 -- "Names", "Desugaring" and "Limits").
-use Rattle.std.specs.Prelude.{◌≡◌, ℕ, ◌+◌, max, ◌<◌, ◌≤◌, List, [], ◌∷◌, slice_get, length, Option, Some, None}
+use Rattle.std.specs.Prelude.{◌≡◌, ℕ, ◌+◌, max, ◌<◌, ◌≤◌, List, [], ◌∷◌, length, Option, Some, None}
 use Rattle.std.specs.List.{filter_map}
 use Rattle.cg_base.specs.declared.kind.Bound.{Bound}
 use Rattle.cg_base.specs.declared.place.Place.{Place}
@@ -12,8 +12,8 @@ use Rattle.cg_surface.specs.Written as types
 use Rattle.cg_surface.specs.Programs.{Entry, synonym, abstract, signature, define}
 use Rattle.cg_desugar.specs.Declared.{Defined, definition_named}
 use Rattle.cg_desugar.specs.Expand.{bodies, type_in}
-use Rattle.cg_desugar.specs.Faults.{NameFault, program_faults, var_names}
-use Rattle.cg_circles.specs.Circles.{IsFirstCircle, NoCircle}
+use Rattle.cg_desugar.specs.Faults.{program_faults, var_names}
+use Rattle.cg_circles.specs.Circles.{NoCircle}
 use Rattle.cg_desugar.specs.Mentions.{mentions}
 use Rattle.cg_desugar.specs.Takes.{missing_fields, largest_type, widest_part}
 use Rattle.cg_desugar.specs.Terms.{body_term, inner_place}
@@ -107,12 +107,6 @@ entry_at (synonym at params body) = at
 entry_at (abstract at params) = at
 entry_at (signature at vars places ty) = at
 entry_at (define at param body) = at
-
--- the first fault of names: N1, N2 or N4; else a circle of mentions, N3; else a field that isn't there, N5
-pub data FirstFault (entries : List Entry) : Type 0 where
-  of_name : (fault : NameFault) → (later : List NameFault) → program_faults entries ≡ fault ∷ later → FirstFault entries
-  of_circle : (i : ℕ) → (e : Entry) → program_faults entries ≡ [] → slice_get entries i ≡ Some e → IsFirstCircle (mentions entries) i → FirstFault entries
-  of_field : (place : Place) → (later : List Place) → program_faults entries ≡ [] → NoCircle (mentions entries) → missing_fields entries ≡ place ∷ later → FirstFault entries
 
 -- each limit, where those before it are kept
 abbrev pub TooMany : List Entry → Type 0

@@ -4,6 +4,7 @@ use Rattle.cg_base.specs.declared.place.Place.{Place}
 use Rattle.cg_base.specs.Types as kernel
 use Rattle.cg_base.specs.Types.{Tau, var, unit, word, bool, arrow, abs, variant, fields, Taus, none, more, Parts, end, part}
 use Rattle.cg_core.specs.declared.at.At.{At}
+use Rattle.cg_lawful.specs.Lawful.{part_names}
 use Rattle.cg_surface.specs.Written.{Written, Writtens, WrittenFields, WrittenAlts}
 use Rattle.cg_surface.specs.Written as types
 use Rattle.cg_surface.specs.Patterns.{Pattern, Patterns, FieldPatterns}
@@ -16,11 +17,6 @@ use Rattle.cg_desugar.specs.Expand.{Bodies, bodies, expanded, types_length}
 use Rattle.cg_desugar.specs.Faults.{names_of, var_names, vars_named}
 
 -- ---- N5
-
--- the names of the parts of a record
-abbrev pub part_names : Parts → List (List ℕ)
-part_names end = []
-part_names (part n t taken ps) = n ∷ part_names ps
 
 -- the places of names that are no fields of a type, and that of the word `take` before `..` where it is no record
 abbrev pub not_there : List At → List (List ℕ) → List Place

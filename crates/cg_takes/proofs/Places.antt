@@ -5,6 +5,7 @@ use Rattle.std.specs.List.{flat_map}
 use Rattle.cg_base.specs.declared.place.Place.{Place}
 use Rattle.cg_base.specs.Types.{Tau, var, seen, unit, word, bool, arrow, abs, variant, fields}
 use Rattle.cg_core.specs.declared.at.At.{At}
+use Rattle.cg_lawful.specs.Lawful.{part_names}
 use Rattle.cg_surface.specs.Written.{Written, Writtens, WrittenFields, WrittenAlts}
 use Rattle.cg_surface.specs.Written as types
 use Rattle.cg_surface.specs.Exprs.{Expr, Exprs, FieldExprs, Binds, Alts}
@@ -12,7 +13,7 @@ use Rattle.cg_surface.specs.Exprs as exprs
 use Rattle.cg_surface.specs.Programs.{Entry, synonym, abstract, signature, define}
 use Rattle.cg_desugar.specs.Declared.{is_among}
 use Rattle.cg_desugar.specs.Expand.{Bodies, expanded}
-use Rattle.cg_desugar.specs.Takes.{part_names, not_there, some_missing, all_missing, take_faults, takes_faults, fields_takes, alts_takes, listed, types_in, types_in_list, types_in_fields, types_in_binds, types_in_alts, Alone, with_vars, written_in, written_from, missing_from}
+use Rattle.cg_desugar.specs.Takes.{not_there, some_missing, all_missing, take_faults, takes_faults, fields_takes, alts_takes, listed, types_in, types_in_list, types_in_fields, types_in_binds, types_in_alts, Alone, with_vars, written_in, written_from, missing_from}
 use Rattle.cg_takes.specs.Heads.{fields_in, shape_of, top, tops}
 use Rattle.cg_takes.specs.Missing.{if_absent, if_no_record, absent, absent_all, absent_fields, absent_alts, absent_in, absent_exprs, absent_values, absent_binds, absent_choices, absent_item}
 use Rattle.cg_takes.proofs.Same.{shape_is}

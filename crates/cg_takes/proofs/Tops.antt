@@ -7,11 +7,11 @@ use Rattle.std.specs.Prelude.{codes}
 use Rattle.std.specs.Str.{bytes_eq}
 use Rattle.cg_base.specs.Types.{Tau, var, seen, unit, word, bool, arrow, abs, variant, fields, Parts, end, part, Piece, to_parts}
 use Rattle.cg_kinds.specs.Kinds.{bang, bang_parts, subst, subst_parts, or_unit}
+use Rattle.cg_lawful.specs.Lawful.{part_names}
 use Rattle.cg_surface.specs.Written.{Written, Writtens, WrittenFields}
 use Rattle.cg_surface.specs.Written as types
 use Rattle.cg_desugar.specs.Declared.{is_among, is_variable, looked_up, plain_types}
 use Rattle.cg_desugar.specs.Expand.{Bodies, all_taken, applied_as, component, components, expanded, expanded_all, expanded_fields, position_of, take_of, taken_parts, types_length}
-use Rattle.cg_desugar.specs.Takes.{part_names}
 use Rattle.cg_takes.specs.Heads.{Head, record_of, parameter, other, top, or_other, applied_head, named_head, component_names, field_names, head_of, heads_of, head_of_body, tops}
 
 -- ---- the names of parts

@@ -1,11 +1,11 @@
 -- The heads of types: what the type of the kernel is at its top, as far as it tells which fields may be taken.
 use Rattle.std.specs.Prelude.{ℕ, zero, suc, Bool, ◌==◌, List, [], ◌∷◌, ◌++◌, Option, Some, None, slice_get, if◌then◌else◌}
 use Rattle.cg_base.specs.Types.{Tau, var, seen, fields}
+use Rattle.cg_lawful.specs.Lawful.{part_names}
 use Rattle.cg_surface.specs.Written.{Written, Writtens, WrittenFields}
 use Rattle.cg_surface.specs.Written as types
 use Rattle.cg_desugar.specs.Declared.{is_among, is_variable, looked_up, plain_types}
 use Rattle.cg_desugar.specs.Expand.{Bodies, component, position_of, types_length}
-use Rattle.cg_desugar.specs.Takes.{part_names}
 
 -- a record, with a test of which names are those of its fields; a parameter, observed or not, by position; or another type
 pub data Head : Type 0 where
