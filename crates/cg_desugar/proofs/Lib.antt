@@ -1,3 +1,6 @@
 pub mod Cases
 pub mod Examples
+pub mod Faultless
+pub mod PartNames
 pub mod Solved
+pub mod TypesCounted

@@ -145,7 +145,7 @@ no_body entries zero n none = refl
 no_body entries (suc k) n none = none (bodies_to entries k)
 
 -- what is among the items of a list that are found by these names
-among_all : (positions : List ℕ → List ℕ) (ns : List (List ℕ)) (j k : ℕ) (n : List ℕ) → k < length ns → get_or ns k n ≡ n → Contains (positions n) j → Contains (all_of positions ns) j
+pub among_all : (positions : List ℕ → List ℕ) (ns : List (List ℕ)) (j k : ℕ) (n : List ℕ) → k < length ns → get_or ns k n ≡ n → Contains (positions n) j → Contains (all_of positions ns) j
 among_all positions [] j k n lt is has = absurd (omega arith)
 among_all positions (m ∷ ns) j zero n lt is has = Contains-append_left (positions m) (all_of positions ns) j (subst (λ x. Contains (positions x) j) (sym is) has)
 among_all positions (m ∷ ns) j (suc k) n lt is has = Contains-append_right (positions m) (all_of positions ns) j (among_all positions ns j k n (omega arith) is has)

@@ -16,10 +16,10 @@ use Rattle.cg_desugar.specs.Faults.{again, beforehand, names_of, program_faults,
 use Rattle.cg_desugar.specs.Mentions.{mentions}
 use Rattle.cg_desugar.specs.Takes.{widest_part}
 use Rattle.cg_desugar.proofs.Solved.{IsFirstSynonym, IsPlaced, all_placed, bodies_solve, mentions_placed, nothing_yet, synonym_found}
+use Rattle.cg_desugar.proofs.Faultless.{none_right}
 use Rattle.cg_lawful_laws.specs.Shaped.{IsShaped}
 use Rattle.cg_lawful_laws.proofs.Expanded.{AreSound, IsSound, type_lawful}
 use Rattle.cg_lawful_laws.proofs.Items.{entry_narrow, entry_shaped, new_type, without}
-use Rattle.cg_lawful_laws.proofs.Lists.{none_right}
 
 module _ (entries : List Entry) (shaped : IsShaped entries) (none : program_faults entries ≡ []) (narrow : widest_part entries ≤ parts_limit) where
   -- a type that is declared is no array

@@ -20,8 +20,9 @@ use Rattle.cg_desugar.specs.Expand.{Bodies, applied_as, component, components, e
 use Rattle.cg_desugar.specs.Faults.{again, alt_names, alts_faults, arguments, counted, field_names, fields_faults, name_faults, type_faults, type_name_faults, types_faults, unknown}
 use Rattle.cg_desugar.specs.Mentions.{alts_mentions, fields_mentions, type_mentions, types_mentions}
 use Rattle.cg_desugar.specs.Takes.{alts_length, fields_length, widest, widest_alt, widest_field, widest_of}
+use Rattle.cg_desugar.proofs.Faultless.{none_left, none_right, not_again}
 use Rattle.cg_lawful_laws.specs.Shaped.{AreShapedAlts, AreShapedFields, AreShapedTypes, IsShapedType}
-use Rattle.cg_lawful_laws.proofs.Lists.{AreNew, is_name, new_here, none_left, none_right, not_again, one_new}
+use Rattle.cg_lawful_laws.proofs.Lists.{AreNew, is_name, new_here, one_new}
 use Rattle.cg_lawful_laws.proofs.Types.{ArePieces, bang_lawful, in_order_pieces, in_order_some, list_count, list_lawful, names_of_pieces, parts_of_pieces, subst_lawful, take_all_lawful, take_some_lawful}
 
 -- ---- numbers of arguments

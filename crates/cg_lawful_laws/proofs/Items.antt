@@ -2,6 +2,7 @@
 use Rattle.std.proofs.Common.{◌≡◌, ℕ, zero, suc, ◌≤◌, Bool, true, false, cond, List, [], ◌∷◌, ◌++◌, Some, None, refl, sym, ap, ◌∙◌, subst as carry, arith}
 use Rattle.std.proofs.lemmas.List.Elements.{All-get_or}
 use Rattle.std.proofs.lemmas.Option.{get_or_from_slice_get, slice_get_within}
+use Rattle.std.proofs.lemmas.Bool.{or_parts}
 use Rattle.std.specs.List.{All, slice_get}
 use Rattle.std.specs.Str.{bytes_eq}
 use Rattle.cg_core.specs.declared.at.At.{At}
@@ -13,8 +14,9 @@ use Rattle.cg_desugar.specs.Declared.{Declared, Defined, definition_named, is_am
 use Rattle.cg_desugar.specs.Desugar.{parts_limit}
 use Rattle.cg_desugar.specs.Faults.{Before, again, ats_of, declared_with, entry_faults, faults_from, names_of, twins, type_faults, var_names}
 use Rattle.cg_desugar.specs.Takes.{widest_entry, widest_part}
+use Rattle.cg_desugar.proofs.Faultless.{behind, none_left, not_again}
 use Rattle.cg_lawful_laws.specs.Shaped.{IsShapedEntry}
-use Rattle.cg_lawful_laws.proofs.Lists.{is_name, none_left, none_right, not_again, or_right}
+use Rattle.cg_lawful_laws.proofs.Lists.{is_name}
 
 -- an item without a fault, behind some others
 pub record IsWithout (entries : List Entry) (e : Entry) : Type 0 where
@@ -22,10 +24,7 @@ pub record IsWithout (entries : List Entry) (e : Entry) : Type 0 where
   pub none : entry_faults entries before e ≡ []
 
 module _ (entries : List Entry) where
-  -- what is without fault behind an item
-  pub behind : (before : Before) (e : Entry) (es : List Entry) → faults_from entries before (e ∷ es) ≡ [] → faults_from entries (declared_with before e) es ≡ []
-  behind before e es none = none_right (entry_faults entries before e) (faults_from entries (declared_with before e) es) none
-
+  -- the first item is without a fault
   pub here : (before : Before) (e : Entry) (es : List Entry) → faults_from entries before (e ∷ es) ≡ [] → entry_faults entries before e ≡ []
   here before e es none = none_left (entry_faults entries before e) (faults_from entries (declared_with before e) es) none
 
@@ -35,7 +34,7 @@ module _ (entries : List Entry) where
   without (f ∷ es) before zero e none stands =
       let is : f ≡ e = cc in
       record { before = before; none = ap (entry_faults entries before) (sym is) ∙ here before f es none }
-  without (f ∷ es) before (suc i) e none stands = without es (declared_with before f) i e (behind before f es none) stands
+  without (f ∷ es) before (suc i) e none stands = without es (declared_with before f) i e (behind entries before f es none) stands
 
   -- the name of a type, and that of a signature, are none of those before
   type_new : (before : Before) (at : At) (params : List At) (body : Written) → entry_faults entries before (synonym at params body) ≡ [] → is_among before.types at.name ≡ false
@@ -56,19 +55,19 @@ module _ (entries : List Entry) where
   pub new_type : (es : List Entry) (before : Before) (n : List ℕ) (d : Declared) → faults_from entries before es ≡ [] → type_named es n ≡ Some d → is_among before.types n ≡ false
   new_type [] before n d none is = absurd (cc)
   new_type (synonym at params body ∷ es) before n d none is =
-      pick (bytes_eq n at.name) refl is (λ found. or_right (bytes_eq n at.name) (is_among before.types n) (new_type es (declared_with before (synonym at params body)) n d (behind before (synonym at params body) es none) found))
+      pick (bytes_eq n at.name) refl is (λ found. (or_parts (bytes_eq n at.name) (is_among before.types n) (new_type es (declared_with before (synonym at params body)) n d (behind entries before (synonym at params body) es none) found)).1)
     where
       pick : (b : Bool) → bytes_eq n at.name ≡ b → cond b (Some (record { params = params; body = Some body })) (type_named es n) ≡ Some d → (type_named es n ≡ Some d → is_among before.types n ≡ false) → is_among before.types n ≡ false
       pick true e found rest = ap (is_among before.types) (is_name n at.name e) ∙ type_new before at params body (here before (synonym at params body) es none)
       pick false e found rest = rest found
   new_type (abstract at params ∷ es) before n d none is =
-      pick (bytes_eq n at.name) refl is (λ found. or_right (bytes_eq n at.name) (is_among before.types n) (new_type es (declared_with before (abstract at params)) n d (behind before (abstract at params) es none) found))
+      pick (bytes_eq n at.name) refl is (λ found. (or_parts (bytes_eq n at.name) (is_among before.types n) (new_type es (declared_with before (abstract at params)) n d (behind entries before (abstract at params) es none) found)).1)
     where
       pick : (b : Bool) → bytes_eq n at.name ≡ b → cond b (Some (record { params = params; body = None })) (type_named es n) ≡ Some d → (type_named es n ≡ Some d → is_among before.types n ≡ false) → is_among before.types n ≡ false
       pick true e found rest = ap (is_among before.types) (is_name n at.name e) ∙ abstract_new before at params (here before (abstract at params) es none)
       pick false e found rest = rest found
-  new_type (signature at vars places ty ∷ es) before n d none is = new_type es (declared_with before (signature at vars places ty)) n d (behind before (signature at vars places ty) es none) is
-  new_type (define at param body ∷ es) before n d none is = new_type es (declared_with before (define at param body)) n d (behind before (define at param body) es none) is
+  new_type (signature at vars places ty ∷ es) before n d none is = new_type es (declared_with before (signature at vars places ty)) n d (behind entries before (signature at vars places ty) es none) is
+  new_type (define at param body ∷ es) before n d none is = new_type es (declared_with before (define at param body)) n d (behind entries before (define at param body) es none) is
 
 -- ---- each item is of its shape, and within the limit of parts
 

@@ -1,7 +1,7 @@
 -- The kernel of a program of its shape, without a fault of names, whose items stand in an order, is lawful.
-use Rattle.std.proofs.Common.{◌≡◌, ℕ, zero, suc, ◌<◌, ◌≤◌, List, [], ◌∷◌, ◌++◌, map, length, get_or, Option, Some, None, refl, sym, ap, ◌∙◌, subst as carry, arith}
+use Rattle.std.proofs.Common.{◌≡◌, ℕ, ◌≤◌, List, [], ◌∷◌, ◌++◌, map, length, get_or, Option, Some, None, refl, sym, ap, ◌∙◌, subst as carry, arith}
 use Rattle.std.proofs.lemmas.List.{length-map}
-use Rattle.std.proofs.lemmas.List.Elements.{All-contains, Contains-append_left, Contains-append_right}
+use Rattle.std.proofs.lemmas.List.Elements.{All-contains}
 use Rattle.std.proofs.lemmas.Option.{slice_get-get_or, slice_get-map}
 use Rattle.std.specs.List.{Contains, slice_get}
 use Rattle.std.specs.Option.{option_map}
@@ -17,21 +17,16 @@ use Rattle.cg_desugar.specs.Faults.{again, ats_of, beforehand, bound, expr_fault
 use Rattle.cg_desugar.specs.Mentions.{all_of, defined_mentions, entry_mentions, expr_mentions, mentions, signature_from}
 use Rattle.cg_desugar.specs.Takes.{widest_part}
 use Rattle.cg_desugar.specs.Terms.{body_term}
+use Rattle.cg_desugar.proofs.Faultless.{none_right}
+use Rattle.cg_desugar.proofs.Solved.{among_all}
 use Rattle.cg_lawful_laws.specs.Laws.{DesugaredIsLawful}
 use Rattle.cg_lawful_laws.specs.Shaped.{IsShaped}
 use Rattle.cg_lawful_laws.proofs.Bodies.{all_sound}
 use Rattle.cg_lawful_laws.proofs.Expanded.{type_lawful}
 use Rattle.cg_lawful_laws.proofs.Items.{IsDefinition, IsWithout, definition_found, entry_narrow, entry_shaped, without}
-use Rattle.cg_lawful_laws.proofs.Lists.{none_right}
 use Rattle.cg_lawful_laws.proofs.Positions.{IsFound, IsSigned, function_found, function_signed, item_at}
 use Rattle.cg_lawful_laws.proofs.Proper.{IsProper}
 use Rattle.cg_lawful_laws.proofs.Walk.{body_proper}
-
--- what is found by a name is among what is found by some
-among_all : (positions : List ℕ → List ℕ) (ns : List (List ℕ)) (j k : ℕ) (n : List ℕ) → k < length ns → get_or ns k n ≡ n → Contains (positions n) j → Contains (all_of positions ns) j
-among_all positions [] j k n lt is has = absurd (omega arith)
-among_all positions (m ∷ ns) j zero n lt is has = Contains-append_left (positions m) (all_of positions ns) j (carry (λ x. Contains (positions x) j) (sym is) has)
-among_all positions (m ∷ ns) j (suc k) n lt is has = Contains-append_right (positions m) (all_of positions ns) j (among_all positions ns j k n (omega arith) is has)
 
 module _ (entries : List Entry) where
   -- how many type arguments each function takes

@@ -16,11 +16,12 @@ use Rattle.cg_desugar.specs.Desugar.{function_of, functions_of}
 use Rattle.cg_desugar.specs.Expand.{bodies, component, components, types_length}
 use Rattle.cg_desugar.specs.Faults.{program_faults, types_faults}
 use Rattle.cg_desugar.specs.Mentions.{mentions}
+use Rattle.cg_desugar.proofs.Faultless.{same_name}
+use Rattle.cg_desugar.proofs.PartNames.{piece_names}
 use Rattle.cg_base.specs.Types.{Piece, unit}
 use Rattle.cg_lawful_laws.specs.Shaped.{AreShapedTypes, IsShaped, IsShapedEntry}
-use Rattle.cg_lawful_laws.proofs.Lists.{same_name}
 use Rattle.cg_lawful_laws.proofs.Scopes.{either_true}
-use Rattle.cg_lawful_laws.proofs.Types.{names_of_pieces, piece_names}
+use Rattle.cg_lawful_laws.proofs.Types.{names_of_pieces}
 
 -- the law without a limit
 abbrev Unlimited : Type 0

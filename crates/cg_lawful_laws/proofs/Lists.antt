@@ -1,29 +1,12 @@
--- Lists that are empty, names among names, and names that are apart.
+-- Fields without a fault, names among names, and names that are apart.
 use Rattle.std.proofs.Common.{◌≡◌, ℕ, ◌||◌, Bool, true, false, cond, List, [], ◌∷◌, ◌++◌, ◌⊎◌, inl, inr, refl, ap, subst as carry}
 use Rattle.std.specs.Cmp.Lexicographic.{bytes_decides}
 use Rattle.std.specs.Str.{bytes_eq}
-use Rattle.cg_base.specs.declared.place.Place.{Place}
 use Rattle.cg_desugar.specs.Declared.{is_among}
 use Rattle.cg_base.specs.Places.{is_at}
 use Rattle.cg_core.specs.declared.at.At.{At}
 use Rattle.cg_desugar.specs.Faults.{NameFault, again, arguments, field_with, twice, unknown}
-
--- two lists that are nothing together
-pub none_left : {A : Type 0} (xs ys : List A) → xs ++ ys ≡ [] → xs ≡ []
-none_left [] ys e = refl
-none_left (x ∷ xs) ys e = absurd (cc)
-
-pub none_right : {A : Type 0} (xs ys : List A) → xs ++ ys ≡ [] → ys ≡ []
-none_right [] ys e = e
-none_right (x ∷ xs) ys e = absurd (cc)
-
--- a name that isn't twice is among none before it
-pub not_again : (before : List (List ℕ)) (p : Place) (n : List ℕ) → again before p n ≡ [] → is_among before n ≡ false
-not_again before p n none = pick (is_among before n) none
-  where
-    pick : (b : Bool) → cond b (twice p ∷ []) [] ≡ [] → b ≡ false
-    pick true e = absurd (cc)
-    pick false e = refl
+use Rattle.cg_desugar.proofs.Faultless.{none_right, same_name}
 
 -- a field without a fault is new, and its value has none
 pub field_none : (before : List (List ℕ)) (at : At) (faults : List NameFault) → field_with before at faults ≡ [] → (again before at.place at.name ≡ []) × (faults ≡ [])
@@ -36,18 +19,7 @@ field_none before at (unknown p ∷ later) e = absurd (pick (is_at p at.place) e
 field_none before at (twice p ∷ later) e = absurd (let no = none_right (again before at.place at.name) (twice p ∷ later) e in cc)
 field_none before at (arguments p ∷ later) e = absurd (let no = none_right (again before at.place at.name) (arguments p ∷ later) e in cc)
 
-pub or_left : (b c : Bool) → (b || c) ≡ false → b ≡ false
-or_left true c e = absurd (cc)
-or_left false c e = refl
-
-pub or_right : (b c : Bool) → (b || c) ≡ false → c ≡ false
-or_right true c e = absurd (cc)
-or_right false c e = e
-
 -- names that have the same bytes are the same
-pub same_name : (n : List ℕ) → bytes_eq n n ≡ true
-same_name n = (bytes_decides n n).1 refl
-
 pub is_name : (n m : List ℕ) → bytes_eq n m ≡ true → n ≡ m
 is_name n m e = (bytes_decides n m).0 e
 

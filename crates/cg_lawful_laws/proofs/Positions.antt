@@ -1,5 +1,6 @@
 -- Positions: of a function among the signatures, and of its signature among the items.
 use Rattle.std.proofs.Common.{◌≡◌, ℕ, zero, suc, ◌+◌, Bool, true, false, cond, List, [], ◌∷◌, Some, refl, sym, ap, ◌∙◌, arith}
+use Rattle.std.proofs.lemmas.Bool.{or_parts}
 use Rattle.std.specs.List.{filter_map, slice_get}
 use Rattle.std.specs.Str.{bytes_eq}
 use Rattle.cg_base.specs.declared.kind.Bound.{Bound}
@@ -12,8 +13,8 @@ use Rattle.cg_desugar.specs.Declared.{OfProgram, function_from, is_among}
 use Rattle.cg_desugar.specs.Desugar.{function_of, function_of_entry}
 use Rattle.cg_desugar.specs.Faults.{Before, declared_with, entry_faults, faults_from}
 use Rattle.cg_desugar.specs.Mentions.{signature_from}
-use Rattle.cg_lawful_laws.proofs.Items.{behind, here, signature_new}
-use Rattle.cg_lawful_laws.proofs.Lists.{or_left, or_right, same_name}
+use Rattle.cg_desugar.proofs.Faultless.{behind, same_name}
+use Rattle.cg_lawful_laws.proofs.Items.{here, signature_new}
 
 -- the position among the items of the signature at this position among the signatures
 abbrev pub item_at : List Entry → ℕ → ℕ
@@ -92,8 +93,8 @@ module _ (entries : List Entry) where
       let is : e ≡ signature at vars places ty = cc in
       signature_new entries before at vars places ty (ap (entry_faults entries before) (sym is) ∙ here entries before e es none)
   not_before (signature at' vars' places' ty' ∷ es) before (suc i) at vars places ty none stands =
-      or_right (bytes_eq at.name at'.name) (is_among before.signatures at.name)
-      (not_before es (declared_with before (signature at' vars' places' ty')) i at vars places ty (behind entries before (signature at' vars' places' ty') es none) stands)
+      (or_parts (bytes_eq at.name at'.name) (is_among before.signatures at.name)
+      (not_before es (declared_with before (signature at' vars' places' ty')) i at vars places ty (behind entries before (signature at' vars' places' ty') es none) stands)).1
   not_before (synonym at' params body ∷ es) before (suc i) at vars places ty none stands = not_before es (declared_with before (synonym at' params body)) i at vars places ty (behind entries before (synonym at' params body) es none) stands
   not_before (abstract at' params ∷ es) before (suc i) at vars places ty none stands = not_before es (declared_with before (abstract at' params)) i at vars places ty (behind entries before (abstract at' params) es none) stands
   not_before (define at' param body ∷ es) before (suc i) at vars places ty none stands = not_before es (declared_with before (define at' param body)) i at vars places ty (behind entries before (define at' param body) es none) stands
@@ -123,7 +124,7 @@ module _ (entries : List Entry) where
         is = r.is;
         found =
             ap (λ t. cond t (Some (record { position = b; vars = vars })) (function_from (b + 1) es r.at.name))
-            (or_left (bytes_eq r.at.name at.name) (is_among before.signatures r.at.name) (not_before es (declared_with before (signature at vars places ty)) (item_at es k) r.at r.vars r.places r.ty rest r.stands))
+            (or_parts (bytes_eq r.at.name at.name) (is_among before.signatures r.at.name) (not_before es (declared_with before (signature at vars places ty)) (item_at es k) r.at r.vars r.places r.ty rest r.stands)).0
             ∙ r.found ∙ ap (λ i. Some (record { position = i; vars = r.vars })) (omega arith);
       }
   function_signed (synonym at params body ∷ es) before b k g none made =

@@ -3,6 +3,7 @@
 use Rattle.std.proofs.Common.{◌≡◌, ℕ, suc, ◌+◌, ◌<◌, ◌||◌, Bool, true, false, cond, List, [], ◌∷◌, map, length, refl, sym, ap, ◌∙◌, subst as carry, arith}
 use Rattle.std.proofs.lemmas.List.Elements.{All-get_or}
 use Rattle.std.proofs.lemmas.Option.{slice_get-get_or}
+use Rattle.std.proofs.lemmas.Bool.{or_parts}
 use Rattle.std.specs.Cmp.Lexicographic.{nat_list_eq_equiv}
 use Rattle.std.specs.List.{All, slice_get}
 use Rattle.std.specs.Str.{bytes_eq}
@@ -11,7 +12,7 @@ use Rattle.cg_kinds.specs.Kinds.{bang, bang_all, bang_parts, or_unit, subst, sub
 use Rattle.cg_lawful.specs.Lawful.{AreApart, AreLawfulParts, AreLawfulTypes, AreSome, HasArguments, IsLawfulType, part_names, types_count}
 use Rattle.cg_desugar.specs.Declared.{is_among}
 use Rattle.cg_desugar.specs.Expand.{all_taken, bytes_le, in_order, inserted, take_of, taken_parts}
-use Rattle.cg_lawful_laws.proofs.Lists.{or_left, or_right}
+use Rattle.cg_desugar.proofs.PartNames.{all_names, bang_names, piece_names, subst_names, taken_names}
 
 -- parts of a record or a variant: there is one at least, their names are apart, and their types are lawful
 abbrev pub ArePartsOf : ℕ → Parts → Type 0
@@ -27,11 +28,6 @@ bang_count : (ts : Taus) → types_count (bang_all ts) ≡ types_count ts
 unfolding bang
 bang_count none = refl
 bang_count (more t ts) = ap (λ n. n + 1) (bang_count ts)
-
-bang_names : (ps : Parts) → part_names (bang_parts ps) ≡ part_names ps
-unfolding bang
-bang_names end = refl
-bang_names (part n t taken ps) = ap (λ l. n ∷ l) (bang_names ps)
 
 module _ (vars : ℕ) where
   mutual
@@ -64,11 +60,6 @@ module _ (args : List Tau) where
   subst_count none = refl
   subst_count (more t ts) = ap (λ n. n + 1) (subst_count ts)
 
-  subst_names : (ps : Parts) → part_names (subst_parts args ps) ≡ part_names ps
-  unfolding subst
-  subst_names end = refl
-  subst_names (part n t taken ps) = ap (λ l. n ∷ l) (subst_names ps)
-
   module _ (vars : ℕ) (lawful : All (IsLawfulType vars) args) where
     arg_lawful : (n : ℕ) → n < length args → IsLawfulType vars (or_unit (slice_get args n))
     arg_lawful n lt = carry (λ o. IsLawfulType vars (or_unit o)) (sym (slice_get-get_or args n unit lt)) (All-get_or (IsLawfulType vars) args n unit lt lawful)
@@ -84,8 +75,8 @@ module _ (args : List Tau) where
       subst_lawful bool h = h
       subst_lawful (arrow a b) h = (subst_lawful a h.0, subst_lawful b h.1)
       subst_lawful (abs n ts s) h = (carry (HasArguments n) (sym (subst_count ts)) h.0, subst_all_lawful ts h.1)
-      subst_lawful (variant ps) h = same_parts (length args) vars ps (subst_parts args ps) (subst_names ps) h (subst_parts_lawful ps h.2)
-      subst_lawful (fields ps s) h = same_parts (length args) vars ps (subst_parts args ps) (subst_names ps) h (subst_parts_lawful ps h.2)
+      subst_lawful (variant ps) h = same_parts (length args) vars ps (subst_parts args ps) (subst_names args ps) h (subst_parts_lawful ps h.2)
+      subst_lawful (fields ps s) h = same_parts (length args) vars ps (subst_parts args ps) (subst_names args ps) h (subst_parts_lawful ps h.2)
 
       subst_all_lawful : (ts : Taus) → AreLawfulTypes (length args) ts → AreLawfulTypes vars (subst_all args ts)
       subst_all_lawful none h = h
@@ -97,17 +88,9 @@ module _ (args : List Tau) where
 
 -- ---- what has fields taken
 
-taken_names : (names : List (List ℕ)) (ps : Parts) → part_names (taken_parts names ps) ≡ part_names ps
-taken_names names end = refl
-taken_names names (part n t taken ps) = ap (λ l. n ∷ l) (taken_names names ps)
-
 taken_lawful : (names : List (List ℕ)) (vars : ℕ) (ps : Parts) → AreLawfulParts vars ps → AreLawfulParts vars (taken_parts names ps)
 taken_lawful names vars end h = h
 taken_lawful names vars (part n t taken ps) h = (h.0, taken_lawful names vars ps h.1)
-
-all_names : (ps : Parts) → part_names (all_taken ps) ≡ part_names ps
-all_names end = refl
-all_names (part n t taken ps) = ap (λ l. n ∷ l) (all_names ps)
 
 all_lawful : (vars : ℕ) (ps : Parts) → AreLawfulParts vars ps → AreLawfulParts vars (all_taken ps)
 all_lawful vars end h = h
@@ -146,11 +129,6 @@ pub record ArePieces (vars : ℕ) (ps : List Piece) : Type 0 where
   pub apart : AreApart (names_of_pieces ps)
   pub lawful : AreLawfulPieces vars ps
 
-pub piece_names : (ps : List Piece) → part_names (to_parts ps) ≡ names_of_pieces ps
-unfolding to_parts
-piece_names [] = refl
-piece_names (p ∷ ps) = ap (λ l. p.name ∷ l) (piece_names ps)
-
 pieces_lawful : (vars : ℕ) (ps : List Piece) → AreLawfulPieces vars ps → AreLawfulParts vars (to_parts ps)
 unfolding to_parts
 pieces_lawful vars [] h = h
@@ -188,12 +166,12 @@ among_inserted p (q ∷ qs) n = pick (bytes_le p.name q.name) (among_inserted p 
 
 inserted_apart : (p : Piece) (qs : List Piece) → is_among (names_of_pieces qs) p.name ≡ false → AreApart (names_of_pieces qs) → AreApart (names_of_pieces (inserted p qs))
 inserted_apart p [] new apart = (refl, apart)
-inserted_apart p (q ∷ qs) new apart = pick (bytes_le p.name q.name) (inserted_apart p qs (or_right (bytes_eq p.name q.name) (is_among (names_of_pieces qs) p.name) new) apart.1)
+inserted_apart p (q ∷ qs) new apart = pick (bytes_le p.name q.name) (inserted_apart p qs (or_parts (bytes_eq p.name q.name) (is_among (names_of_pieces qs) p.name) new).1 apart.1)
   where
     first : is_among (names_of_pieces (inserted p qs)) q.name ≡ false
     first =
         among_inserted p qs q.name
-        ∙ ap (λ b. b || is_among (names_of_pieces qs) q.name) (nat_list_eq_equiv.symm q.name p.name ∙ or_left (bytes_eq p.name q.name) (is_among (names_of_pieces qs) p.name) new) ∙ apart.0
+        ∙ ap (λ b. b || is_among (names_of_pieces qs) q.name) (nat_list_eq_equiv.symm q.name p.name ∙ (or_parts (bytes_eq p.name q.name) (is_among (names_of_pieces qs) p.name) new).0) ∙ apart.0
 
     pick : (test : Bool) → AreApart (names_of_pieces (inserted p qs)) → AreApart (names_of_pieces (cond test (p ∷ q ∷ qs) (q ∷ inserted p qs)))
     pick true rest = (new, apart)

@@ -23,9 +23,10 @@ use Rattle.cg_desugar.specs.Faults.{all_bound, binds_faults, bound, counted, exp
 use Rattle.cg_desugar.specs.Mentions.{binds_mentions, expr_mentions, list_mentions, match_mentions, values_mentions}
 use Rattle.cg_desugar.specs.Takes.{exprs_length, values_length, widest, widest_alts, widest_binds, widest_expr, widest_list, widest_of, widest_values}
 use Rattle.cg_desugar.specs.Terms.{Rest, Scope, Term, all_written, alternatives, bindings, body_term, cases, components_of, fields_of, first_place, function_of, inner_place, its_name, last_bound, let_bound, mention, observed, or_empty, or_library, or_zero, payload_bound, positions, puts, seen_bound, term_of, variable, written}
+use Rattle.cg_desugar.proofs.Faultless.{none_left, none_right, not_again}
 use Rattle.cg_lawful_laws.specs.Shaped.{AreShapedBinds, AreShapedChoices, AreShapedExprs, AreShapedTypes, AreShapedValues, IsBinary, IsShapedExpr, IsShapedPattern, IsShapedType, IsUnary}
 use Rattle.cg_lawful_laws.proofs.Expanded.{AreSound, component_apart, counted_same, looked_up_all, type_lawful, unknown_not}
-use Rattle.cg_lawful_laws.proofs.Lists.{AreNew, field_none, new_here, none_left, none_right, not_again, one_new}
+use Rattle.cg_lawful_laws.proofs.Lists.{AreNew, field_none, new_here, one_new}
 use Rattle.cg_lawful_laws.proofs.Patterns.{Binds as Binding, binds_at, binds_both, binds_nothing, binds_to, name_bound}
 use Rattle.cg_lawful_laws.proofs.Proper.{AreProper, IsProper, proper_annot, proper_app, proper_case, proper_cast, proper_con, proper_esac, proper_fun, proper_if, proper_let_bang, proper_member, proper_op_one, proper_op_two, proper_put, proper_struct, proper_unit, proper_var}
 use Rattle.cg_lawful_laws.proofs.Scopes.{Covers, Extends, covers_both, covers_first, covers_later, further, itself, named_entry, variable_there, variable_within, with_entry}

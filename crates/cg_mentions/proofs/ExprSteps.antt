@@ -6,27 +6,19 @@ use Rattle.cg_surface.specs.declared.expr.Bind.{Bind}
 use Rattle.cg_surface.specs.declared.expr.FExpr.{FExpr}
 use Rattle.cg_surface.specs.declared.expr.SExpr.{SExpr}
 use Rattle.cg_surface.specs.declared.expr.SForm.{the_lemmas}
-use Rattle.cg_surface.specs.Exprs.{Expr, and_expr, FieldExprs, and_field, OneField, Binds, and_bind, OneBind, Alts, and_alt, OneAlt, expr_of, field_of, bind_of, alt_of, to_exprs, to_fields, to_binds, to_alts, exprs_push, fields_push, binds_push, alts_push, binds_none}
+use Rattle.cg_surface.specs.Exprs.{Expr, and_expr, Binds, expr_of, field_of, bind_of, alt_of, to_exprs, to_fields, to_binds, to_alts, exprs_push, fields_push, binds_push, alts_push, binds_none}
 use Rattle.cg_surface.specs.Patterns.{pattern_of}
 use Rattle.cg_desugar.specs.Declared.{is_among}
 use Rattle.cg_desugar.specs.Faults.{bound, all_bound}
 use Rattle.cg_desugar.specs.Mentions.{expr_mentions, list_mentions, values_mentions, binds_mentions, match_mentions}
 use Rattle.cg_names.specs.Scopes.{SameNames}
 use Rattle.cg_names.proofs.Same.{more_behind}
+use Rattle.cg_names.proofs.ExprSteps.{one_bind, one_choice, one_value}
 use Rattle.cg_surface.proofs.Views.{value_is, alternative_is, exprs_none, values_none, choices_none}
 use Rattle.cg_mentions.specs.Parts.{choice_mentions}
 use Rattle.cg_mentions.specs.Positions.{pushed}
 use Rattle.cg_mentions.proofs.Pushed.{turn, so_far, pushed_more, pushed_steps}
 use Rattle.cg_mentions.proofs.Same.{expr_same}
-
-abbrev one_value : FieldExprs → OneField → FieldExprs
-one_value fs f = and_field fs f.at f.value
-
-abbrev one_bind : Binds → OneBind → Binds
-one_bind bs b = and_bind bs b.pattern b.value b.seen
-
-abbrev one_choice : Alts → OneAlt → Alts
-one_choice choices a = and_alt choices a.place a.con a.pattern a.body
 
 module _ (table : BTreeMap (Bor (List ℕ)) ℕ) (start targets new : List ℕ) (names : List (List ℕ)) where
   -- the body of bindings

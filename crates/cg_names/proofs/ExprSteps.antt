@@ -13,12 +13,13 @@ use Rattle.cg_surface.specs.declared.expr.SExpr.{SExpr}
 use Rattle.cg_surface.specs.declared.expr.SForm.{the_lemmas}
 use Rattle.cg_surface.specs.declared.written.STy.{STy}
 use Rattle.cg_surface.specs.Exprs as exprs
-use Rattle.cg_surface.specs.Exprs.{Expr, Exprs, and_expr, FieldExprs, and_field, OneField, Binds, and_bind, OneBind, Alts, and_alt, OneAlt, expr_of, field_of, bind_of, alt_of, to_exprs, to_fields, to_binds, to_alts, exprs_push, fields_push, binds_push, alts_push, binds_none}
+use Rattle.cg_surface.specs.Exprs.{Expr, and_expr, FieldExprs, and_field, OneField, Binds, and_bind, OneBind, Alts, and_alt, OneAlt, expr_of, field_of, bind_of, alt_of, to_exprs, to_fields, to_binds, to_alts, exprs_push, fields_push, binds_push, alts_push, binds_none}
 use Rattle.cg_surface.specs.Patterns.{pattern_of}
 use Rattle.cg_surface.specs.Programs.{Entry}
 use Rattle.cg_surface.specs.Written.{written_of, to_types}
 use Rattle.cg_desugar.specs.Expand.{types_length}
 use Rattle.cg_desugar.specs.Faults.{NameFault, unknown, twice, arguments, again, field_with, bound, all_bound, pattern_faults, seen_faults, value_names, types_faults, mention_faults, expr_faults, list_faults, record_faults, put_faults, binds_faults, match_faults}
+use Rattle.cg_desugar.proofs.TypesCounted.{types_counted}
 use Rattle.cg_names.specs.Parts.{bind_faults, choice_faults, value_faults, fault_again}
 use Rattle.cg_names.specs.Says.{IsFirst, IsFirstFault, Says}
 use Rattle.cg_names.specs.Scopes.{SameNames}
@@ -28,16 +29,16 @@ use Rattle.cg_names.proofs.Loops.{turn, fault, so_far}
 use Rattle.cg_names.proofs.Same.{expr_same, seen_same, more_behind}
 use Rattle.cg_names.proofs.SaysSteps.{says_first}
 use Rattle.cg_names.proofs.ScopeSteps.{kept_more}
-use Rattle.cg_names.proofs.TypeSteps.{count, again_same, same_more}
+use Rattle.cg_names.proofs.TypeSteps.{again_same, same_more}
 use Rattle.cg_surface.proofs.Views.{value_is, alternative_is, exprs_none, values_none, choices_none}
 
-abbrev one_value : FieldExprs → OneField → FieldExprs
+abbrev pub one_value : FieldExprs → OneField → FieldExprs
 one_value fs f = and_field fs f.at f.value
 
-abbrev one_bind : Binds → OneBind → Binds
+abbrev pub one_bind : Binds → OneBind → Binds
 one_bind bs b = and_bind bs b.pattern b.value b.seen
 
-abbrev one_choice : Alts → OneAlt → Alts
+abbrev pub one_choice : Alts → OneAlt → Alts
 one_choice choices a = and_alt choices a.place a.con a.pattern a.body
 
 same_refl : (names : List (List ℕ)) → SameNames names names
@@ -70,7 +71,7 @@ pub mention_first : (entries : List Entry) (vars names : List (List ℕ)) (p : P
     → IsFirstFault (expr_faults entries vars names (exprs.name p n (to_types (map written_of args)))) first
 mention_first entries vars names p n args first h =
     says_first (mention_faults entries names p n (types_length (to_types (map written_of args)))) (types_faults entries vars (to_types (map written_of args))) first
-    (subst (λ k. IsFirstFault (mention_faults entries names p n k) first) (sym (count args)) h)
+    (subst (λ k. IsFirstFault (mention_faults entries names p n k) first) (sym (types_counted args)) h)
 
 -- bindings without a fault, and their body
 module _ (entries : List Entry) (vars names scope : List (List ℕ)) (bs : Binds) (b : Expr) (none : binds_faults entries vars names bs ≡ []) (same : SameNames scope (all_bound bs ++ names)) where
@@ -252,4 +253,4 @@ pub kept_twice : (names scope new : List (List ℕ)) → take (length names) sco
 kept_twice names scope new first second =
     ap (take (length names)) (sym (take-append-drop (length scope) new) ∙ ap (λ l. l ++ drop (length scope) new) second) ∙ kept_more names scope (drop (length scope) new) first
 
-pub ruleset expr_steps = (the_lemmas, exprs_none, values_none, binds_none, choices_none, count)
+pub ruleset expr_steps = (the_lemmas, exprs_none, values_none, binds_none, choices_none, types_counted)

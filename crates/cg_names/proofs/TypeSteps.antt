@@ -1,6 +1,5 @@
 -- Steps over written types.
-use Rattle.std.proofs.Common.{◌≡◌, ℕ, ◌+◌, ◌<◌, ◌||◌, List, [], ◌∷◌, ◌++◌, Option, Some, None, map, length, get_or, take, sym, ap, ◌∙◌, subst, refl, append-nil, append_assoc, if◌then◌else◌, arith}
-use Rattle.std.proofs.lemmas.List.{length-map}
+use Rattle.std.proofs.Common.{◌≡◌, ℕ, ◌+◌, ◌<◌, ◌||◌, List, [], ◌∷◌, ◌++◌, Option, Some, None, map, length, get_or, take, sym, ap, ◌∙◌, subst, refl, append-nil, append_assoc, if◌then◌else◌}
 use Rattle.std.specs.Cmp.Lexicographic.{nat_list_eq_equiv}
 use Rattle.std.specs.Str.{bytes_eq}
 use Rattle.cg_base.specs.declared.place.Place.{Place}
@@ -10,10 +9,11 @@ use Rattle.cg_surface.specs.declared.written.SPart.{SPart}
 use Rattle.cg_surface.specs.declared.written.STy.{STy}
 use Rattle.cg_surface.specs.declared.written.STyForm.{the_lemmas}
 use Rattle.cg_surface.specs.Programs.{Entry}
-use Rattle.cg_surface.specs.Written.{Written, named, Writtens, and_type, no_types, types_behind, WrittenFields, OneField, and_field, WrittenAlts, OneAlt, and_one, and_plain, and_alt, written_of, field_of, alt_of, to_types, to_fields, to_alts, types_push, fields_push, alts_push, types_none, fields_none, alts_none}
+use Rattle.cg_surface.specs.Written.{Written, named, and_type, WrittenFields, OneField, and_field, WrittenAlts, OneAlt, and_one, written_of, field_of, alt_of, to_types, to_fields, to_alts, types_push, fields_push, alts_push, types_none, fields_none, alts_none}
 use Rattle.cg_desugar.specs.Declared.{is_among}
 use Rattle.cg_desugar.specs.Expand.{types_length}
 use Rattle.cg_desugar.specs.Faults.{NameFault, twice, again, name_faults, type_faults, types_faults, field_names, fields_faults, alt_names, alts_faults}
+use Rattle.cg_desugar.proofs.TypesCounted.{types_counted}
 use Rattle.cg_names.specs.Parts.{field_faults, payload_faults, alternative_faults}
 use Rattle.cg_names.specs.Says.{IsFirstFault}
 use Rattle.cg_names.specs.Scopes.{SameNames}
@@ -103,20 +103,11 @@ module _ (entries : List Entry) (vars : List (List ℕ)) where
         at_alternative choices at None h = h
         at_alternative choices at (Some t) h = h
 
--- as many types as there are in the list
-count_behind : (ts : List Written) (before : Writtens) → types_length (types_behind before ts) ≡ types_length before + length ts
-count_behind [] before = omega arith
-count_behind (t ∷ ts) before = let more = count_behind ts (and_type before t) in omega arith
-
-pub count : (types : List STy) → types_length (to_types (map written_of types)) ≡ length types
-unfolding to_types
-count types = let all = count_behind (map written_of types) no_types in (let same = length-map types written_of in omega arith)
-
 -- a fault of a type's own name comes before those of its arguments
 pub name_first : (entries : List Entry) (vars : List (List ℕ)) (p : Place) (n : List ℕ) (args : List STy) (first : NamingFault) → IsFirstFault (name_faults entries vars p n (length args)) first
     → IsFirstFault (type_faults entries vars (named p n (to_types (map written_of args)))) first
 name_first entries vars p n args first h =
     says_first (name_faults entries vars p n (types_length (to_types (map written_of args)))) (types_faults entries vars (to_types (map written_of args))) first
-    (subst (λ k. IsFirstFault (name_faults entries vars p n k) first) (sym (count args)) h)
+    (subst (λ k. IsFirstFault (name_faults entries vars p n k) first) (sym (types_counted args)) h)
 
-pub ruleset type_steps = (the_lemmas, count, types_none, fields_none, alts_none)
+pub ruleset type_steps = (the_lemmas, types_counted, types_none, fields_none, alts_none)

@@ -1,7 +1,7 @@
 -- The heads of synonyms in a table.
 use Rattle.std.proofs.Common.{◌≡◌, ℕ, ◌+◌, ◌<◌, Bool, true, false, cond, List, [], ◌∷◌, ◌++◌, map, length, drop, get_or, Option, Some, None, refl, sym, ap, ◌∙◌, arith, append-nil, append_assoc}
 use Rattle.std.proofs.lemmas.Grind.{common_steps}
-use Rattle.std.proofs.lemmas.List.{at_drop_more, length-map}
+use Rattle.std.proofs.lemmas.List.{at_drop_more}
 use Rattle.std.proofs.lemmas.Option.{slice_get-map}
 use Rattle.std.specs.List.{slice_get}
 use Rattle.std.specs.Option.{option_map}
@@ -14,7 +14,8 @@ pub use Rattle.cg_surface.proofs.Views.{place_at}
 use Rattle.cg_surface.specs.Written.{Written, Writtens, written_of, to_types, types_behind, no_types, and_type}
 use Rattle.cg_surface.specs.Written as types
 use Rattle.cg_desugar.specs.Declared.{is_variable, looked_up, plain_types}
-use Rattle.cg_desugar.specs.Expand.{position_of, types_length}
+use Rattle.cg_desugar.specs.Expand.{position_of}
+use Rattle.cg_desugar.proofs.TypesCounted.{types_counted}
 use Rattle.cg_takes.specs.Heads.{Head, Heads, parameter, other, head_of, heads_of, head_by_name, or_other, synonym_head, unless_plain, named_head, applied_head}
 
 -- a tuple
@@ -30,14 +31,6 @@ heads_behind heads vars before (t ∷ ts) = heads_behind heads vars (and_type be
 pub heads_list : (heads : Heads) (vars : List (List ℕ)) (ts : List Written) → heads_of heads vars (to_types ts) ≡ map (head_of heads vars) ts
 unfolding to_types
 heads_list heads vars ts = heads_behind heads vars no_types ts
-
-length_behind : (before : Writtens) (ts : List Written) → types_length (types_behind before ts) ≡ types_length before + length ts
-length_behind before [] = omega arith
-length_behind before (t ∷ ts) = length_behind (and_type before t) ts ∙ omega arith
-
-pub length_list : (ts : List STy) → types_length (to_types (map written_of ts)) ≡ length ts
-unfolding to_types
-length_list ts = length_behind no_types (map written_of ts) ∙ omega (arith, length-map ts written_of)
 
 -- the head of an argument
 pub argument_head : (heads : Heads) (vars : List (List ℕ)) (ts : List STy) (i : ℕ) → or_other (slice_get (heads_of heads vars (to_types (map written_of ts))) i) ≡ or_other (option_map (λ t. head_of heads vars (written_of t)) (slice_get ts i))
@@ -77,4 +70,4 @@ by_argument heads params n ts i t named is at =
 pub position_turn : (params : List At) (i : ℕ) (d : At) (n : List ℕ) → i < length params → position_of (map (λ at. at.name) (drop i params)) n ≡ (cond (bytes_eq n (get_or params i d).name) 0 (position_of (map (λ at. at.name) (drop (i + 1) params)) n + 1))
 position_turn params i d n within = at_drop_more (λ l. position_of (map (λ at. at.name) l) n) params i d within
 
-pub ruleset head_steps = (argument_head, length_list, place_at, position_turn, the_lemmas)
+pub ruleset head_steps = (argument_head, types_counted, place_at, position_turn, the_lemmas)

@@ -5,39 +5,15 @@ use Rattle.std.specs.List.{slice_get}
 use Rattle.std.specs.Option.{option_map}
 use Rattle.std.specs.Prelude.{codes}
 use Rattle.std.specs.Str.{bytes_eq}
-use Rattle.cg_base.specs.Types.{Tau, var, seen, unit, word, bool, arrow, abs, variant, fields, Parts, end, part, Piece, to_parts}
+use Rattle.cg_base.specs.Types.{Tau, var, seen, unit, word, bool, arrow, abs, variant, fields, Parts, Piece, to_parts}
 use Rattle.cg_kinds.specs.Kinds.{bang, bang_parts, subst, subst_parts, or_unit}
 use Rattle.cg_lawful.specs.Lawful.{part_names}
 use Rattle.cg_surface.specs.Written.{Written, Writtens, WrittenFields}
 use Rattle.cg_surface.specs.Written as types
 use Rattle.cg_desugar.specs.Declared.{is_among, is_variable, looked_up, plain_types}
 use Rattle.cg_desugar.specs.Expand.{Bodies, all_taken, applied_as, component, components, expanded, expanded_all, expanded_fields, position_of, take_of, taken_parts, types_length}
+use Rattle.cg_desugar.proofs.PartNames.{all_names, bang_names, piece_names, subst_names, taken_names}
 use Rattle.cg_takes.specs.Heads.{Head, record_of, parameter, other, top, or_other, applied_head, named_head, component_names, field_names, head_of, heads_of, head_of_body, tops}
-
--- ---- the names of parts
-
-bang_names : (ps : Parts) → part_names (bang_parts ps) ≡ part_names ps
-unfolding bang
-bang_names end = refl
-bang_names (part n t taken ps) = ap (λ l. n ∷ l) (bang_names ps)
-
-subst_names : (args : List Tau) (ps : Parts) → part_names (subst_parts args ps) ≡ part_names ps
-unfolding subst
-subst_names args end = refl
-subst_names args (part n t taken ps) = ap (λ l. n ∷ l) (subst_names args ps)
-
-taken_names : (names : List (List ℕ)) (ps : Parts) → part_names (taken_parts names ps) ≡ part_names ps
-taken_names names end = refl
-taken_names names (part n t taken ps) = ap (λ l. n ∷ l) (taken_names names ps)
-
-all_names : (ps : Parts) → part_names (all_taken ps) ≡ part_names ps
-all_names end = refl
-all_names (part n t taken ps) = ap (λ l. n ∷ l) (all_names ps)
-
-piece_names : (ps : List Piece) → part_names (to_parts ps) ≡ map (λ p. p.name) ps
-unfolding to_parts
-piece_names [] = refl
-piece_names (p ∷ ps) = ap (λ l. p.name ∷ l) (piece_names ps)
 
 -- ---- tops
 

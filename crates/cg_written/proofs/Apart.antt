@@ -1,47 +1,17 @@
 -- Where names are in order, a synonym is the type of its name, and the first synonym of it.
-use Rattle.std.proofs.Common.{◌≡◌, ℕ, zero, suc, ◌+◌, ◌||◌, Bool, true, false, cond, List, [], ◌∷◌, ◌++◌, Some, None, refl, sym, ap, ◌∙◌, arith}
-use Rattle.std.specs.Cmp.Lexicographic.{bytes_decides}
+use Rattle.std.proofs.Common.{◌≡◌, ℕ, zero, suc, ◌+◌, Bool, true, false, cond, List, [], ◌∷◌, ◌++◌, Some, None, refl, sym, ap, ◌∙◌, arith}
+use Rattle.std.proofs.lemmas.Bool.{or_parts}
 use Rattle.std.specs.List.{slice_get}
 use Rattle.std.specs.Str.{bytes_eq}
-use Rattle.cg_base.specs.declared.place.Place.{Place}
 use Rattle.cg_core.specs.declared.at.At.{At}
 use Rattle.cg_surface.specs.Programs.{Entry, synonym, abstract, signature, define}
 use Rattle.cg_surface.specs.Written.{Written}
 use Rattle.cg_desugar.specs.Declared.{is_among, type_named}
-use Rattle.cg_desugar.specs.Faults.{Before, again, declared_with, entry_faults, faults_from, twice, twins, type_faults, names_of}
+use Rattle.cg_desugar.specs.Faults.{Before, again, declared_with, entry_faults, faults_from, twins, type_faults, names_of}
 use Rattle.cg_desugar.specs.Mentions.{synonym_from}
-
-none_left : {A : Type 0} (xs ys : List A) → xs ++ ys ≡ [] → xs ≡ []
-none_left [] ys e = refl
-none_left (x ∷ xs) ys e = absurd (cc)
-
-none_right : {A : Type 0} (xs ys : List A) → xs ++ ys ≡ [] → ys ≡ []
-none_right [] ys e = e
-none_right (x ∷ xs) ys e = absurd (cc)
-
-not_again : (before : List (List ℕ)) (p : Place) (n : List ℕ) → again before p n ≡ [] → is_among before n ≡ false
-not_again before p n none = pick (is_among before n) none
-  where
-    pick : (b : Bool) → cond b (twice p ∷ []) [] ≡ [] → b ≡ false
-    pick true e = absurd (cc)
-    pick false e = refl
-
-or_left : (b c : Bool) → (b || c) ≡ false → b ≡ false
-or_left true c e = absurd (cc)
-or_left false c e = refl
-
-or_right : (b c : Bool) → (b || c) ≡ false → c ≡ false
-or_right true c e = absurd (cc)
-or_right false c e = e
-
-same_name : (n : List ℕ) → bytes_eq n n ≡ true
-same_name n = (bytes_decides n n).1 refl
+use Rattle.cg_desugar.proofs.Faultless.{behind, none_left, not_again, same_name}
 
 module _ (entries : List Entry) where
-  -- what is without fault behind an item
-  behind : (before : Before) (e : Entry) (es : List Entry) → faults_from entries before (e ∷ es) ≡ [] → faults_from entries (declared_with before e) es ≡ []
-  behind before e es none = none_right (entry_faults entries before e) (faults_from entries (declared_with before e) es) none
-
   -- a synonym's name is none of those before it
   not_before : (es : List Entry) (before : Before) (i : ℕ) (at : At) (params : List At) (body : Written) → faults_from entries before es ≡ [] → slice_get es i ≡ Some (synonym at params body) → is_among before.types at.name ≡ false
   not_before [] before i at params body none stands = absurd (cc)
@@ -52,13 +22,13 @@ module _ (entries : List Entry) where
       (none_left (again before.types at.place at.name ++ twins [] params) (type_faults entries (names_of params) body)
       (ap (entry_faults entries before) (sym is) ∙ none_left (entry_faults entries before e) (faults_from entries (declared_with before e) es) none)))
   not_before (synonym at' ps t ∷ es) before (suc i) at params body none stands =
-      or_right (bytes_eq at.name at'.name) (is_among before.types at.name) (not_before es (declared_with before (synonym at' ps t)) i at params body (behind before (synonym at' ps t) es none) stands)
+      (or_parts (bytes_eq at.name at'.name) (is_among before.types at.name) (not_before es (declared_with before (synonym at' ps t)) i at params body (behind entries before (synonym at' ps t) es none) stands)).1
   not_before (abstract at' ps ∷ es) before (suc i) at params body none stands =
-      or_right (bytes_eq at.name at'.name) (is_among before.types at.name) (not_before es (declared_with before (abstract at' ps)) i at params body (behind before (abstract at' ps) es none) stands)
+      (or_parts (bytes_eq at.name at'.name) (is_among before.types at.name) (not_before es (declared_with before (abstract at' ps)) i at params body (behind entries before (abstract at' ps) es none) stands)).1
   not_before (signature at' vars places ty ∷ es) before (suc i) at params body none stands =
-      not_before es (declared_with before (signature at' vars places ty)) i at params body (behind before (signature at' vars places ty) es none) stands
+      not_before es (declared_with before (signature at' vars places ty)) i at params body (behind entries before (signature at' vars places ty) es none) stands
   not_before (define at' param t ∷ es) before (suc i) at params body none stands =
-      not_before es (declared_with before (define at' param t)) i at params body (behind before (define at' param t) es none) stands
+      not_before es (declared_with before (define at' param t)) i at params body (behind entries before (define at' param t) es none) stands
 
   -- it is the first type of its name
   pub first_type : (es : List Entry) (before : Before) (i : ℕ) (at : At) (params : List At) (body : Written) → faults_from entries before es ≡ [] → slice_get es i ≡ Some (synonym at params body)
@@ -69,16 +39,16 @@ module _ (entries : List Entry) where
       ap (λ f. type_named (f ∷ es) at.name) is ∙ ap (λ b. cond b (Some (record { params = params; body = Some body })) (type_named es at.name)) (same_name at.name)
   first_type (synonym at' ps t ∷ es) before (suc i) at params body none stands =
       ap (λ b. cond b (Some (record { params = ps; body = Some t })) (type_named es at.name))
-      (or_left (bytes_eq at.name at'.name) (is_among before.types at.name) (not_before es (declared_with before (synonym at' ps t)) i at params body (behind before (synonym at' ps t) es none) stands))
-      ∙ first_type es (declared_with before (synonym at' ps t)) i at params body (behind before (synonym at' ps t) es none) stands
+      (or_parts (bytes_eq at.name at'.name) (is_among before.types at.name) (not_before es (declared_with before (synonym at' ps t)) i at params body (behind entries before (synonym at' ps t) es none) stands)).0
+      ∙ first_type es (declared_with before (synonym at' ps t)) i at params body (behind entries before (synonym at' ps t) es none) stands
   first_type (abstract at' ps ∷ es) before (suc i) at params body none stands =
       ap (λ b. cond b (Some (record { params = ps; body = None })) (type_named es at.name))
-      (or_left (bytes_eq at.name at'.name) (is_among before.types at.name) (not_before es (declared_with before (abstract at' ps)) i at params body (behind before (abstract at' ps) es none) stands))
-      ∙ first_type es (declared_with before (abstract at' ps)) i at params body (behind before (abstract at' ps) es none) stands
+      (or_parts (bytes_eq at.name at'.name) (is_among before.types at.name) (not_before es (declared_with before (abstract at' ps)) i at params body (behind entries before (abstract at' ps) es none) stands)).0
+      ∙ first_type es (declared_with before (abstract at' ps)) i at params body (behind entries before (abstract at' ps) es none) stands
   first_type (signature at' vars places ty ∷ es) before (suc i) at params body none stands =
-      first_type es (declared_with before (signature at' vars places ty)) i at params body (behind before (signature at' vars places ty) es none) stands
+      first_type es (declared_with before (signature at' vars places ty)) i at params body (behind entries before (signature at' vars places ty) es none) stands
   first_type (define at' param t ∷ es) before (suc i) at params body none stands =
-      first_type es (declared_with before (define at' param t)) i at params body (behind before (define at' param t) es none) stands
+      first_type es (declared_with before (define at' param t)) i at params body (behind entries before (define at' param t) es none) stands
 
   -- and so the first synonym of its name stands here
   pub first_synonym : (es : List Entry) (before : Before) (b i : ℕ) (at : At) (params : List At) (body : Written) → faults_from entries before es ≡ [] → slice_get es i ≡ Some (synonym at params body)
@@ -89,14 +59,14 @@ module _ (entries : List Entry) where
       ap (λ f. synonym_from b (f ∷ es) at.name) is ∙ ap (λ c. cond c (b ∷ []) (synonym_from (b + 1) es at.name)) (same_name at.name) ∙ ap (λ k. k ∷ []) (omega arith)
   first_synonym (synonym at' ps t ∷ es) before b (suc i) at params body none stands =
       ap (λ c. cond c (b ∷ []) (synonym_from (b + 1) es at.name))
-      (or_left (bytes_eq at.name at'.name) (is_among before.types at.name) (not_before es (declared_with before (synonym at' ps t)) i at params body (behind before (synonym at' ps t) es none) stands))
-      ∙ first_synonym es (declared_with before (synonym at' ps t)) (b + 1) i at params body (behind before (synonym at' ps t) es none) stands ∙ ap (λ k. k ∷ []) (omega arith)
+      (or_parts (bytes_eq at.name at'.name) (is_among before.types at.name) (not_before es (declared_with before (synonym at' ps t)) i at params body (behind entries before (synonym at' ps t) es none) stands)).0
+      ∙ first_synonym es (declared_with before (synonym at' ps t)) (b + 1) i at params body (behind entries before (synonym at' ps t) es none) stands ∙ ap (λ k. k ∷ []) (omega arith)
   first_synonym (abstract at' ps ∷ es) before b (suc i) at params body none stands =
-      first_synonym es (declared_with before (abstract at' ps)) (b + 1) i at params body (behind before (abstract at' ps) es none) stands ∙ ap (λ k. k ∷ []) (omega arith)
+      first_synonym es (declared_with before (abstract at' ps)) (b + 1) i at params body (behind entries before (abstract at' ps) es none) stands ∙ ap (λ k. k ∷ []) (omega arith)
   first_synonym (signature at' vars places ty ∷ es) before b (suc i) at params body none stands =
-      first_synonym es (declared_with before (signature at' vars places ty)) (b + 1) i at params body (behind before (signature at' vars places ty) es none) stands ∙ ap (λ k. k ∷ []) (omega arith)
+      first_synonym es (declared_with before (signature at' vars places ty)) (b + 1) i at params body (behind entries before (signature at' vars places ty) es none) stands ∙ ap (λ k. k ∷ []) (omega arith)
   first_synonym (define at' param t ∷ es) before b (suc i) at params body none stands =
-      first_synonym es (declared_with before (define at' param t)) (b + 1) i at params body (behind before (define at' param t) es none) stands ∙ ap (λ k. k ∷ []) (omega arith)
+      first_synonym es (declared_with before (define at' param t)) (b + 1) i at params body (behind entries before (define at' param t) es none) stands ∙ ap (λ k. k ∷ []) (omega arith)
 
 -- where the first synonym of a name stands there is a synonym of that name
 pub record IsSynonymOf (es : List Entry) (j : ℕ) (n : List ℕ) : Type 0 where

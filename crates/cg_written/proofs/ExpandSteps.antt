@@ -12,9 +12,10 @@ use Rattle.cg_surface.specs.Written.{Written, Writtens, WrittenFields, WrittenAl
 use Rattle.cg_surface.specs.Written as types
 use Rattle.cg_desugar.specs.Declared.{is_variable}
 use Rattle.cg_desugar.specs.Expand.{Bodies, bytes_le, component, components, expanded, expanded_all, expanded_alts, expanded_fields, in_order, inserted, position_of, types_length}
+use Rattle.cg_desugar.proofs.TypesCounted.{types_counted}
 use Rattle.cg_written.specs.Alternatives.{alt_inserted, alt_name, alts_in_order}
 use Rattle.cg_written.specs.Pieces.{alt_piece, applied_type, named_type, payload_type}
-use Rattle.cg_written.proofs.TypeLists.{types_at, fields_at, types_counted}
+use Rattle.cg_written.proofs.TypeLists.{types_at, fields_at}
 use Rattle.cg_surface.proofs.Views.{type_alt_is}
 
 module _ (known : Bodies) (vars : List (List ℕ)) where

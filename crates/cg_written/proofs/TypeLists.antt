@@ -7,16 +7,12 @@ use Rattle.cg_core.specs.declared.at.At.{At}
 use Rattle.cg_surface.specs.declared.written.STy.{STy, the_lemmas}
 use Rattle.cg_surface.specs.declared.written.SPart.{SPart}
 use Rattle.cg_surface.specs.declared.written.SAlt.{SAlt, out-SAlt}
-use Rattle.cg_surface.specs.Written.{Written, Writtens, WrittenFields, WrittenAlts, OneAlt, OneField, written_of, field_of, alt_of, and_type, and_field, and_plain, and_alt, and_one, to_types, to_fields, to_alts, types_behind, fields_behind, alts_behind, no_types, no_fields, no_alts, types_push, fields_push, alts_push, types_none, fields_none, alts_none}
-use Rattle.cg_desugar.specs.Expand.{types_length}
+use Rattle.cg_surface.specs.Written.{Written, WrittenFields, WrittenAlts, OneAlt, OneField, written_of, field_of, alt_of, and_type, and_field, and_one, to_types, to_fields, to_alts, fields_behind, alts_behind, no_fields, no_alts, types_push, fields_push, alts_push, types_none, fields_none, alts_none}
 use Rattle.cg_desugar.specs.Takes.{fields_length, alts_length, widest_alt}
+use Rattle.cg_desugar.proofs.TypesCounted.{types_counted}
 use Rattle.cg_written.specs.Wide.{widest_payload}
 
 -- ---- how many there are
-
-types_more : (before : Writtens) (ts : List Written) → types_length (types_behind before ts) ≡ types_length before + length ts
-types_more before [] = omega arith
-types_more before (t ∷ ts) = types_more (and_type before t) ts ∙ omega arith
 
 fields_more : (before : WrittenFields) (fs : List OneField) → fields_length (fields_behind before fs) ≡ fields_length before + length fs
 fields_more before [] = omega arith
@@ -29,10 +25,6 @@ alts_more before (a ∷ choices) = alts_more (and_one before a.at a.ty) choices 
     one : (t : Option Written) → alts_length (and_one before a.at t) ≡ alts_length before + 1
     one None = refl
     one (Some t) = refl
-
-pub types_counted : (ts : List STy) → types_length (to_types (map written_of ts)) ≡ length ts
-unfolding to_types
-types_counted ts = types_more no_types (map written_of ts) ∙ omega (arith, length-map ts written_of)
 
 pub fields_counted : (fs : List SPart) → fields_length (to_fields (map field_of fs)) ≡ length fs
 unfolding to_fields

@@ -2,16 +2,17 @@ use Rattle.std.proofs.Common.{◌≡◌, Bor, Some, map, sym, ap, ◌∙◌}
 use Rattle.std.proofs.lemmas.Result.{IfOk-weaker}
 use Rattle.std.specs.Option.{option_map, option_copied}
 use Rattle.cg_desugar.specs.Declared.{is_among}
+use Rattle.cg_desugar.proofs.TypesCounted.{types_counted}
 use Rattle.cg_surface.specs.Written.{to_types, written_of}
 use Rattle.cg_takes.specs.Heads.{record_of, component_names, head_of, heads_of, head_by_name}
 use Rattle.cg_takes.specs.declared.head.TypeHead.{TypeHead}
 use Rattle.cg_takes.specs.Views.{head_view, heads_in}
-use Rattle.cg_takes.proofs.HeadSteps.{length_list, tuple_is, by_argument}
+use Rattle.cg_takes.proofs.HeadSteps.{tuple_is, by_argument}
 use Rattle.cg_takes.proofs.known.+head.Goals as goal
 
 pub head-returns-in-Tuple : goal.head-returns-in-Tuple
 head-returns-in-Tuple t c =
-    ap (λ n. record_of (is_among (component_names n))) (c.len.ensures ∙ sym (length_list c.in-Tuple.types))
+    ap (λ n. record_of (is_among (component_names n))) (c.len.ensures ∙ sym (types_counted c.in-Tuple.types))
     ∙ ap (head_of (heads_in c.args.table.now) (map (λ at. at.name) c.args.params.now)) (sym (tuple_is c.args.ty.now c.in-Tuple.types c.in-Tuple.is))
 
 pub named-returns-in-Some : goal.named-returns-in-Some

@@ -1,8 +1,9 @@
 use Rattle.std.proofs.Common.{Some, [], map, take, sym, ap, rules, ◌∙◌}
 use Rattle.std.specs.Option.{option_map}
 use Rattle.cg_desugar.specs.Declared.{is_among}
+use Rattle.cg_desugar.proofs.TypesCounted.{types_counted}
 use Rattle.cg_surface.specs.Written.{to_types, written_of}
-use Rattle.cg_takes.proofs.HeadSteps.{length_list, tuple_is}
+use Rattle.cg_takes.proofs.HeadSteps.{tuple_is}
 use Rattle.cg_takes.proofs.SaySteps.{absent_types, loop_turn, loop_fault, shape_start, shape_turn, say_steps}
 use Rattle.cg_takes.specs.Heads.{component_names, heads_of, shape_at, shape_of, chosen}
 use Rattle.cg_takes.specs.Missing.{absent}
@@ -14,7 +15,7 @@ check_parts-returns-in_err-check_type t c = search (rules, loop_fault, say_steps
 
 pub check_type-returns-in_ok-check_types-in-Tuple-clause-fields : goal.check_type-returns-in_ok-check_types-in-Tuple-clause-fields
 check_type-returns-in_ok-check_types-in-Tuple-clause-fields t c =
-    ap (λ n. Some (is_among (component_names n))) (c.len.ensures ∙ sym (length_list c.in-Tuple.types))
+    ap (λ n. Some (is_among (component_names n))) (c.len.ensures ∙ sym (types_counted c.in-Tuple.types))
     ∙ ap (shape_of (heads_in c.args.table.now)) (sym (tuple_is c.args.ty.now c.in-Tuple.types c.in-Tuple.is))
 
 pub check_types-loop-position-init : goal.check_types-loop-position-init
