@@ -1,6 +1,6 @@
 -- Why the law has a limit of parts: without one it is false, since far beyond the limit two components of a tuple have one name.
 use Rattle.std.proofs.Common.{◌≡◌, ℕ, zero, suc, ◌+◌, ◌-◌, ◌*◌, ◌^◌, ◌<◌, ◌≤◌, ◌||◌, true, false, List, [], ◌∷◌, ◌++◌, length, get_or, ◌⊎◌, inl, inr, refl, sym, ap, ◌∙◌, subst as carry, arith}
-use Rattle.std.proofs.lemmas.Bool.{cases_eq}
+use Rattle.std.proofs.lemmas.Bool.{cases_eq, or_right}
 use Rattle.std.proofs.lemmas.List.{length-map}
 use Rattle.std.proofs.lemmas.List.Elements.{All-cons, All-nil}
 use Rattle.std.specs.Fmt.{digits}
@@ -20,7 +20,6 @@ use Rattle.cg_desugar.proofs.Faultless.{same_name}
 use Rattle.cg_desugar.proofs.PartNames.{piece_names}
 use Rattle.cg_base.specs.Types.{Piece, unit}
 use Rattle.cg_lawful_laws.specs.Shaped.{AreShapedTypes, IsShaped, IsShapedEntry}
-use Rattle.cg_lawful_laws.proofs.Scopes.{either_true}
 use Rattle.cg_lawful_laws.proofs.Types.{names_of_pieces}
 
 -- the law without a limit
@@ -41,7 +40,7 @@ apart_not (n ∷ names) zero (suc j) d lt within same apart = let no : false ≡
     there : (names : List (List ℕ)) (j : ℕ) (d : List ℕ) → j < length names → get_or names j d ≡ n → list_any (bytes_eq n) names ≡ true
     there [] j d within is = absurd (omega arith)
     there (m ∷ names) zero d within is = ap (λ x. bytes_eq n x || list_any (bytes_eq n) names) is ∙ ap (λ b. b || list_any (bytes_eq n) names) (same_name n)
-    there (m ∷ names) (suc j) d within is = either_true (bytes_eq n m) (list_any (bytes_eq n) names) (there names j d (omega arith) is)
+    there (m ∷ names) (suc j) d within is = or_right (bytes_eq n m) (list_any (bytes_eq n) names) (there names j d (omega arith) is)
 apart_not (n ∷ names) (suc i) (suc j) d lt within same apart = apart_not names i j d (omega arith) (omega arith) same apart.1
 
 module _ (p : Place) where

@@ -1,5 +1,6 @@
 -- Fields without a fault, names among names, and names that are apart.
 use Rattle.std.proofs.Common.{◌≡◌, ℕ, ◌||◌, Bool, true, false, cond, List, [], ◌∷◌, ◌++◌, ◌⊎◌, inl, inr, refl, ap, subst as carry}
+use Rattle.std.proofs.lemmas.Bool.{or_right}
 use Rattle.std.specs.Cmp.Lexicographic.{bytes_decides}
 use Rattle.std.specs.Str.{bytes_eq}
 use Rattle.cg_desugar.specs.Declared.{is_among}
@@ -31,13 +32,9 @@ AreNew before names = (n : List ℕ) → is_among before n ≡ true → is_among
 pub one_new : (before : List (List ℕ)) (n : List ℕ) (names : List (List ℕ)) → is_among before n ≡ false → AreNew (n ∷ before) names → AreNew before (n ∷ names)
 one_new before n names once new m among = pick (bytes_eq m n) refl
   where
-    either : (b c : Bool) → c ≡ true → (b || c) ≡ true
-    either true c e = refl
-    either false c e = e
-
     pick : (b : Bool) → bytes_eq m n ≡ b → (b || is_among names m) ≡ false
     pick true e = absurd (let same : is_among before n ≡ true = carry (λ x. is_among before x ≡ true) (is_name m n e) among in cc)
-    pick false e = new m (either (bytes_eq m n) (is_among before m) among)
+    pick false e = new m (or_right (bytes_eq m n) (is_among before m) among)
 
 pub new_here : (before : List (List ℕ)) (n : List ℕ) (names : List (List ℕ)) → AreNew (n ∷ before) names → is_among names n ≡ false
 new_here before n names new = new n (ap (λ b. b || is_among before n) (same_name n))

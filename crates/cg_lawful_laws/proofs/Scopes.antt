@@ -1,5 +1,6 @@
 -- Scopes: a name that stands in one has a variable there, and a scope that goes on keeps its names.
 use Rattle.std.proofs.Common.{◌≡◌, ℕ, ◌<◌, ◌≤◌, ◌||◌, Bool, true, false, cond, List, [], ◌∷◌, ◌++◌, length, Option, Some, None, ◌⊎◌, inl, inr, refl, sym, ap, subst as carry, arith}
+use Rattle.std.proofs.lemmas.Bool.{or_right}
 use Rattle.std.specs.List.{list_any}
 use Rattle.std.specs.Str.{bytes_eq}
 use Rattle.cg_desugar.specs.Declared.{is_among}
@@ -39,16 +40,12 @@ itself scope = record { long = omega arith; kept = λ n h. h }
 pub further : (a b c : Scope) → Extends a b → Extends b c → Extends a c
 further a b c first second = record { long = (let k = first.long in let l = second.long in omega arith); kept = λ n h. second.kept n (first.kept n h) }
 
-pub either_true : (b c : Bool) → c ≡ true → (b || c) ≡ true
-either_true true c e = refl
-either_true false c e = e
-
 pub with_entry : (v : Option (List ℕ)) (a b : Scope) → Extends a b → Extends a (v ∷ b)
-with_entry v a b first = record { long = (let k = first.long in omega arith); kept = λ n h. either_true (has_name n v) (stands_in b n) (first.kept n h) }
+with_entry v a b first = record { long = (let k = first.long in omega arith); kept = λ n h. or_right (has_name n v) (stands_in b n) (first.kept n h) }
 
 -- an entry that no name stands for takes one
 pub named_entry : (m : List ℕ) (outer : Scope) → Extends (None ∷ outer) (Some m ∷ outer)
-named_entry m outer = record { long = omega arith; kept = λ n h. either_true (bytes_eq n m) (stands_in outer n) h }
+named_entry m outer = record { long = omega arith; kept = λ n h. or_right (bytes_eq n m) (stands_in outer n) h }
 
 -- with a name for its last remainder a scope is as long as before
 pub remainder_length : (m : List ℕ) (scope : Scope) → length (named_remainder m scope) ≡ length scope
@@ -67,11 +64,11 @@ remainder_extends m scope r = carry (λ s. Extends s (named_remainder m s)) (sym
   where
     named : (n : List ℕ) (b : Bool) → (b || stands_in (None ∷ r.outer) n) ≡ true → (b || stands_in (Some m ∷ r.outer) n) ≡ true
     named n true h = refl
-    named n false h = either_true (bytes_eq n m) (stands_in r.outer n) h
+    named n false h = or_right (bytes_eq n m) (stands_in r.outer n) h
 
 pub remainder_stands : (m n : List ℕ) (scope : Scope) → HasRemainder scope → bytes_eq n m ≡ true → stands_in (named_remainder m scope) n ≡ true
 remainder_stands m n scope r same =
-    carry (λ s. stands_in (named_remainder m s) n ≡ true) (sym r.is) (either_true (has_name n r.inner) (bytes_eq n m || stands_in r.outer n) (ap (λ b. b || stands_in r.outer n) same))
+    carry (λ s. stands_in (named_remainder m s) n ≡ true) (sym r.is) (or_right (has_name n r.inner) (bytes_eq n m || stands_in r.outer n) (ap (λ b. b || stands_in r.outer n) same))
 
 -- all these names stand in a scope
 pub record Covers (scope : Scope) (names : List (List ℕ)) : Type 0 where

@@ -4,16 +4,14 @@ use Rattle.std.proofs.lemmas.List.{map-append}
 use Rattle.cg_surface.specs.declared.pattern.Pat.{Pat}
 use Rattle.cg_surface.specs.declared.pattern.FPat.{FPat}
 use Rattle.cg_surface.specs.declared.pattern.PatForm.{the_lemmas}
-use Rattle.cg_surface.specs.Patterns.{and_pattern, FieldPatterns, and_field, OneField, pattern_of, field_of, to_patterns, to_fields, patterns_push, fields_push, patterns_none, fields_none}
+use Rattle.cg_surface.specs.Patterns.{and_pattern, pattern_of, field_of, to_patterns, to_fields, patterns_push, fields_push, patterns_none, fields_none}
 use Rattle.cg_desugar.specs.Declared.{is_among}
 use Rattle.cg_desugar.specs.Faults.{names_of, bound, variables, all_variables, field_variables}
 use Rattle.cg_names.specs.Scopes.{SameNames}
+use Rattle.cg_names.proofs.PatternSteps.{one_field}
 use Rattle.cg_names.proofs.ScopeSteps.{among_append}
 use Rattle.cg_surface.proofs.Views.{pattern_field_is}
 use Rattle.cg_mentions.proofs.Pushed.{so_far}
-
-abbrev one_field : FieldPatterns → OneField → FieldPatterns
-one_field fs f = and_field fs f.at f.pattern
 
 -- names that come into scope in two steps
 pub same_twice : (first second names mid new : List (List ℕ)) → SameNames mid (first ++ names) → SameNames new (second ++ mid) → SameNames new ((first ++ second) ++ names)

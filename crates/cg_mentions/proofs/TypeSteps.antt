@@ -5,18 +5,13 @@ use Rattle.cg_surface.specs.declared.written.SAlt.{SAlt}
 use Rattle.cg_surface.specs.declared.written.SPart.{SPart}
 use Rattle.cg_surface.specs.declared.written.STy.{STy}
 use Rattle.cg_surface.specs.declared.written.STyForm.{the_lemmas}
-use Rattle.cg_surface.specs.Written.{Written, and_type, WrittenFields, OneField, and_field, WrittenAlts, OneAlt, and_one, written_of, field_of, alt_of, to_types, to_fields, to_alts, types_push, fields_push, alts_push, types_none, fields_none, alts_none}
+use Rattle.cg_surface.specs.Written.{Written, and_type, WrittenAlts, OneAlt, and_one, written_of, field_of, alt_of, to_types, to_fields, to_alts, types_push, fields_push, alts_push, types_none, fields_none, alts_none}
 use Rattle.cg_desugar.specs.Mentions.{type_mentions, types_mentions, fields_mentions, alts_mentions}
 use Rattle.cg_surface.proofs.Views.{type_field_is}
+use Rattle.cg_names.proofs.TypeSteps.{one_alt, one_field}
 use Rattle.cg_mentions.specs.Parts.{payload_mentions}
 use Rattle.cg_mentions.specs.Positions.{pushed}
 use Rattle.cg_mentions.proofs.Pushed.{turn, pushed_steps}
-
-abbrev one_field : WrittenFields → OneField → WrittenFields
-one_field fs f = and_field fs f.at f.ty
-
-abbrev one_alt : WrittenAlts → OneAlt → WrittenAlts
-one_alt choices a = and_one choices a.at a.ty
 
 alt_step : (choices : WrittenAlts) (a : OneAlt) → alts_mentions (one_alt choices a) ≡ alts_mentions choices ++ payload_mentions a.ty
 alt_step choices a = at_payload a.ty

@@ -47,7 +47,7 @@ twins_pattern names xs x = twins_append names (all_variables xs) (variables x)
 pub twins_field : (names : List (List ℕ)) (fs : FieldPatterns) (f : OneField) → twins names (field_variables (and_field fs f.at f.pattern)) ≡ twins names (field_variables fs) ++ twins (names ++ names_of (field_variables fs)) (variables f.pattern)
 twins_field names fs f = twins_append names (field_variables fs) (variables f.pattern)
 
-abbrev one_field : FieldPatterns → OneField → FieldPatterns
+abbrev pub one_field : FieldPatterns → OneField → FieldPatterns
 one_field fs f = and_field fs f.at f.pattern
 
 -- a turn of the loop over the components of a tuple, and over fields

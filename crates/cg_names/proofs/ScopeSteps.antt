@@ -1,6 +1,7 @@
 -- Names in scope, with one more and with one less.
 use Rattle.std.proofs.Common.{◌≡◌, ℕ, zero, suc, ◌+◌, ◌<◌, Bool, true, false, ◌||◌, not, List, [], ◌∷◌, ◌++◌, length, get_or, take, sym, ap, ◌∙◌, refl, arith, Bor, cond, append-nil, if◌then◌else◌}
-use Rattle.std.proofs.lemmas.Bool.{true≢false}
+use Rattle.std.proofs.Math.Bool.{or-false, or_comm}
+use Rattle.std.proofs.lemmas.Bool.{or_parts, true≢false}
 use Rattle.std.proofs.lemmas.List.{map-append, take_more}
 use Rattle.std.proofs.lemmas.Map.Text.{is_eq-slice_cmp}
 use Rattle.std.specs.BTreeSet.{BTreeSet, Updates, UpdatesBy}
@@ -12,16 +13,6 @@ use Rattle.cg_declared.specs.Tables.{has, texts, IsSetOf}
 use Rattle.cg_declared.proofs.Tables.{has_more, set_none}
 use Rattle.cg_names.specs.Scopes.{AreApart, IsScope, SameNames}
 
-turn : (b c : Bool) → (b || c) ≡ (c || b)
-turn true true = refl
-turn true false = refl
-turn false true = refl
-turn false false = refl
-
-either_false : (b c : Bool) → (b || c) ≡ false → (b ≡ false) × (c ≡ false)
-either_false true c e = absurd (true≢false e)
-either_false false c e = (refl, e)
-
 -- a name among names and others
 pub among_append : (names others : List (List ℕ)) (n : List ℕ) → is_among (names ++ others) n ≡ (is_among names n || is_among others n)
 among_append [] others n = refl
@@ -31,26 +22,22 @@ among_append (m ∷ names) others n = pick (bytes_eq n m) (among_append names ot
     pick true h = refl
     pick false h = h
 
-or_false : (b : Bool) → (b || false) ≡ b
-or_false true = refl
-or_false false = refl
-
 pub among_one : (names : List (List ℕ)) (m n : List ℕ) → is_among (names ++ m ∷ []) n ≡ (bytes_eq m n || is_among names n)
-among_one names m n = among_append names (m ∷ []) n ∙ ap (λ b. is_among names n || b) (or_false (bytes_eq n m) ∙ nat_list_eq_equiv.symm n m) ∙ turn (is_among names n) (bytes_eq m n)
+among_one names m n = among_append names (m ∷ []) n ∙ ap (λ b. is_among names n || b) (or-false (bytes_eq n m) ∙ nat_list_eq_equiv.symm n m) ∙ or_comm (is_among names n) (bytes_eq m n)
 
 -- names that are apart, one more and one less
 apart_more : (names : List (List ℕ)) (m : List ℕ) → AreApart names → is_among names m ≡ false → AreApart (names ++ m ∷ [])
 apart_more [] m apart new = (refl, apart)
 apart_more (n ∷ names) m apart new = (
-  among_one names m n ∙ ap (λ b. b || is_among names n) (either_false (bytes_eq m n) (is_among names m) new).0 ∙ apart.0,
-  apart_more names m apart.1 (either_false (bytes_eq m n) (is_among names m) new).1,
+  among_one names m n ∙ ap (λ b. b || is_among names n) (or_parts (bytes_eq m n) (is_among names m) new).0 ∙ apart.0,
+  apart_more names m apart.1 (or_parts (bytes_eq m n) (is_among names m) new).1,
 )
 
 apart_less : (names : List (List ℕ)) (m : List ℕ) → AreApart (names ++ m ∷ []) → AreApart names × (is_among names m ≡ false)
 apart_less [] m apart = (apart.1, refl)
 apart_less (n ∷ names) m apart = (
-  ((either_false (bytes_eq m n) (is_among names n) (sym (among_one names m n) ∙ apart.0)).1, (apart_less names m apart.1).0),
-  ap (λ b. b || is_among names m) (either_false (bytes_eq m n) (is_among names n) (sym (among_one names m n) ∙ apart.0)).0 ∙ (apart_less names m apart.1).1,
+  ((or_parts (bytes_eq m n) (is_among names n) (sym (among_one names m n) ∙ apart.0)).1, (apart_less names m apart.1).0),
+  ap (λ b. b || is_among names m) (or_parts (bytes_eq m n) (is_among names n) (sym (among_one names m n) ∙ apart.0)).0 ∙ (apart_less names m apart.1).1,
 )
 
 -- a scope with one name more

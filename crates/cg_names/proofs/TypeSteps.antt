@@ -30,10 +30,10 @@ again_same names others p n same = ap (λ b. if b then twice p ∷ [] else []) (
 pub same_more : (names others : List (List ℕ)) (m : List ℕ) → SameNames names others → SameNames (names ++ m ∷ []) (m ∷ others)
 same_more names others m same = λ n. among_one names m n ∙ ap (λ b. bytes_eq m n || b) (same n) ∙ ap (λ b. b || is_among others n) (nat_list_eq_equiv.symm m n)
 
-abbrev one_field : WrittenFields → OneField → WrittenFields
+abbrev pub one_field : WrittenFields → OneField → WrittenFields
 one_field fs f = and_field fs f.at f.ty
 
-abbrev one_alt : WrittenAlts → OneAlt → WrittenAlts
+abbrev pub one_alt : WrittenAlts → OneAlt → WrittenAlts
 one_alt choices a = and_one choices a.at a.ty
 
 module _ (entries : List Entry) (vars : List (List ℕ)) where

@@ -1,5 +1,6 @@
 -- The names of fields, one more.
 use Rattle.std.proofs.Common.{◌≡◌, ℕ, ◌+◌, ◌<◌, Bool, true, false, ◌||◌, List, [], ◌∷◌, ◌++◌, map, length, take, get_or, refl, sym, ap, ◌∙◌, subst}
+use Rattle.std.proofs.Math.Bool.{or-false, or_comm}
 use Rattle.std.proofs.lemmas.List.{map-append, take_more}
 use Rattle.std.specs.Str.{bytes_eq}
 use Rattle.std.specs.Cmp.Lexicographic.{nat_list_eq_equiv}
@@ -15,11 +16,7 @@ use denote.Ref.{Bor}
 
 -- is a name among these, or the last
 pub among_more : (names : List (List ℕ)) (name other : List ℕ) → is_among (names ++ name ∷ []) other ≡ (is_among names other || bytes_eq other name)
-among_more [] name other = pick (bytes_eq other name)
-  where
-    pick : (b : Bool) → (b || false) ≡ b
-    pick true = refl
-    pick false = refl
+among_more [] name other = or-false (bytes_eq other name)
 among_more (first ∷ names) name other = pick (bytes_eq other first) (among_more names name other)
   where
     pick : (b : Bool) → is_among (names ++ name ∷ []) other ≡ (is_among names other || bytes_eq other name) → (b || is_among (names ++ name ∷ []) other) ≡ ((b || is_among names other) || bytes_eq other name)
@@ -28,13 +25,7 @@ among_more (first ∷ names) name other = pick (bytes_eq other first) (among_mor
 
 -- the set with one name more
 set_last : (names : List (List ℕ)) (name : List ℕ) (set new : BTreeSet (Bor (List ℕ))) → IsSetOf names set → ((other : List ℕ) → has new other ≡ (bytes_eq name other || has set other)) → IsSetOf (names ++ name ∷ []) new
-set_last names name set new is added = λ other. added other ∙ turn (bytes_eq name other) (has set other) ∙ ap (λ b. b || bytes_eq name other) (is other) ∙ ap (λ b. is_among names other || b) (nat_list_eq_equiv.symm name other) ∙ sym (among_more names name other)
-  where
-    turn : (b c : Bool) → (b || c) ≡ (c || b)
-    turn true true = refl
-    turn true false = refl
-    turn false true = refl
-    turn false false = refl
+set_last names name set new is added = λ other. added other ∙ or_comm (bytes_eq name other) (has set other) ∙ ap (λ b. b || bytes_eq name other) (is other) ∙ ap (λ b. is_among names other || b) (nat_list_eq_equiv.symm name other) ∙ sym (among_more names name other)
 
 -- a turn of the loop over fields
 names_more : (parts : List SPart) (i : ℕ) (d : SPart) → i < length parts → field_names (to_fields (map field_of (take (i + 1) parts))) ≡ field_names (to_fields (map field_of (take i parts))) ++ (get_or parts i d).at.name ∷ []

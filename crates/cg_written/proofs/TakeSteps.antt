@@ -1,5 +1,6 @@
 -- Fields that are taken, at each list.
-use Rattle.std.proofs.Common.{◌≡◌, ℕ, ◌||◌, Bool, true, false, List, [], ◌∷◌, map, refl, ap}
+use Rattle.std.proofs.Common.{◌≡◌, ℕ, ◌||◌, true, List, [], ◌∷◌, map, refl, ap}
+use Rattle.std.proofs.Math.Bool.{or-false, or-true}
 use Rattle.cg_base.proofs.Views.{piece_of}
 use Rattle.cg_base.specs.declared.ty.Part.{the_lemmas}
 use Rattle.cg_base.specs.Types.{part, Piece, to_parts}
@@ -18,12 +19,4 @@ all_taken_pieces [] = refl
 all_taken_pieces (p ∷ ps) = ap (part p.name p.ty true) (all_taken_pieces ps)
 
 -- a name that is among some is taken, and another stays as it is
-pub or_true : (b : Bool) → (b || true) ≡ true
-or_true true = refl
-or_true false = refl
-
-pub or_false : (b : Bool) → (b || false) ≡ b
-or_false true = refl
-or_false false = refl
-
-pub ruleset take_steps = (piece_of, or_true, or_false, taken_pieces, all_taken_pieces, the_lemmas)
+pub ruleset take_steps = (piece_of, or-true, or-false, taken_pieces, all_taken_pieces, the_lemmas)
