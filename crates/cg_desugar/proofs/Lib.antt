@@ -1,3 +1,4 @@
+pub mod ByteOrder
 pub mod Cases
 pub mod Examples
 pub mod Faultless
