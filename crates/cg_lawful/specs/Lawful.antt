@@ -1,9 +1,12 @@
 -- Lawful kernels (docs/LANGUAGE.md, "Lawful kernels"): positions, functions and type variables are in range; each function has as many type
--- arguments as it takes, `WordArray` one and `SysState` none; each record type, variant type and record has a part, and no name twice; each
--- operator has its number of operands; and no function mentions itself through bodies.
-use Rattle.std.specs.Prelude.{◌≡◌, ℕ, suc, ◌+◌, ◌<◌, Bool, false, List, [], ◌∷◌, ◌++◌, map, length, slice_get, codes, Option, Some, None, ⊤}
+-- arguments as it takes, `WordArray` one and `SysState` none; each record type, variant type and record has a part, and no name twice; the
+-- alternatives of each variant type stand in the byte order of their names; each operator has its number of operands; and no function
+-- mentions itself through bodies.
+use Rattle.std.specs.Prelude.{◌≡◌, ℕ, suc, ◌+◌, ◌<◌, false, List, [], ◌∷◌, ◌++◌, map, length, slice_get, codes, Option, Some, None, ⊤}
+use Rattle.std.specs.Cmp.Lexicographic.{slice_cmp}
 use Rattle.std.specs.List.{All, list_any}
-use Rattle.std.specs.Option.{option_map}
+use Rattle.std.specs.List.Sorted.{IsStrictlySortedBy}
+use Rattle.std.specs.Ordering.{nat_cmp}
 use Rattle.std.specs.Str.{bytes_eq}
 use Rattle.cg_base.specs.declared.fun.Fun.{Fun}
 use Rattle.cg_base.specs.declared.fun.Fun.TheVariants.{User, Lib as OfLib}
@@ -15,7 +18,6 @@ use Rattle.cg_base.specs.Types.{Tau, Taus, Parts}
 use Rattle.cg_circles.specs.Circles.{NoCircle}
 use Rattle.cg_core.specs.declared.op.Op.{Op}
 use Rattle.cg_core.specs.declared.op.Op.TheVariants.{Complement, Not}
-use Rattle.cg_core.specs.declared.term.Seen.{Seen}
 use Rattle.cg_core.specs.Kernels.{Function, Body}
 use Rattle.cg_core.specs.Terms.{Tree, term, Shape, var, unit, bool, lit, fun, op, app, lets, let_bang, if_else, con, case_of, esac, struct, member, take_field, put, cast, annot, Trees, none, more, Named, end, field, Arg}
 
@@ -25,6 +27,10 @@ use Rattle.cg_core.specs.Terms.{Tree, term, Shape, var, unit, bool, lit, fun, op
 abbrev pub AreApart : List (List ℕ) → Type 0
 AreApart [] = ⊤
 AreApart (n ∷ names) = (list_any (bytes_eq n) names ≡ false) × AreApart names
+
+-- names in strictly rising byte order: each is below those behind it
+abbrev pub AreRising : List (List ℕ) → Type 0
+AreRising names = IsStrictlySortedBy (slice_cmp nat_cmp) names
 
 -- there is one at least
 abbrev pub AreSome : List (List ℕ) → Type 0
@@ -54,7 +60,7 @@ abbrev mutual
   IsLawfulType vars types.bool = Unit {0}
   IsLawfulType vars (types.arrow a b) = IsLawfulType vars a × IsLawfulType vars b
   IsLawfulType vars (types.abs n ts sigil) = HasArguments n (types_count ts) × AreLawfulTypes vars ts
-  IsLawfulType vars (types.variant ps) = AreSome (part_names ps) × AreApart (part_names ps) × AreLawfulParts vars ps
+  IsLawfulType vars (types.variant ps) = AreSome (part_names ps) × AreApart (part_names ps) × AreRising (part_names ps) × AreLawfulParts vars ps
   IsLawfulType vars (types.fields ps sigil) = AreSome (part_names ps) × AreApart (part_names ps) × AreLawfulParts vars ps
 
   pub AreLawfulTypes : ℕ → Taus → Type 0

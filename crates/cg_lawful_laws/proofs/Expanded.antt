@@ -23,7 +23,8 @@ use Rattle.cg_desugar.specs.Takes.{alts_length, fields_length, widest, widest_al
 use Rattle.cg_desugar.proofs.Faultless.{none_left, none_right, not_again}
 use Rattle.cg_lawful_laws.specs.Shaped.{AreShapedAlts, AreShapedFields, AreShapedTypes, IsShapedType}
 use Rattle.cg_lawful_laws.proofs.Lists.{AreNew, is_name, new_here, one_new}
-use Rattle.cg_lawful_laws.proofs.Types.{ArePieces, bang_lawful, in_order_pieces, in_order_some, list_count, list_lawful, names_of_pieces, parts_of_pieces, subst_lawful, take_all_lawful, take_some_lawful}
+use Rattle.cg_lawful_laws.proofs.Rising.{in_order_rising}
+use Rattle.cg_lawful_laws.proofs.Types.{ArePieces, alts_of_pieces, bang_lawful, in_order_pieces, in_order_some, list_count, list_lawful, names_of_pieces, parts_of_pieces, subst_lawful, take_all_lawful, take_some_lawful}
 
 -- ---- numbers of arguments
 
@@ -191,8 +192,9 @@ module _ (entries : List Entry) (known : Bodies) where
           parts_of_pieces (length names) (expanded_fields known names fs []) (are_fields fs shaped.0)
           (fields_lawful fs [] none shaped.1 (omega (arith, narrow)) sound (λ n among. refl) (record { apart = tt; lawful = tt }))
       type_lawful (types.variant p choices) none shaped narrow sound =
-          parts_of_pieces (length names) (in_order (expanded_alts known names choices [])) (in_order_some (expanded_alts known names choices []) (are_alts choices shaped.0))
-          (in_order_pieces (length names) (expanded_alts known names choices []) (alts_lawful choices [] none shaped.1 (omega (arith, narrow)) sound (λ n among. refl) (record { apart = tt; lawful = tt })))
+          let choice = expanded_alts known names choices [] in
+          let pieces = alts_lawful choices [] none shaped.1 (omega (arith, narrow)) sound (λ n among. refl) (record { apart = tt; lawful = tt }) in
+          alts_of_pieces (length names) (in_order choice) (in_order_some choice (are_alts choices shaped.0)) (in_order_rising choice pieces.apart) (in_order_pieces (length names) choice pieces)
       type_lawful (types.bang p t) none shaped narrow sound = bang_lawful (length names) (expanded known names t) (type_lawful t none shaped narrow sound)
       type_lawful (types.take_some p t ns) none shaped narrow sound = take_some_lawful (map (λ n. n.name) ns) (length names) (expanded known names t) (type_lawful t none shaped.1 narrow sound)
       type_lawful (types.take_all p t q) none shaped narrow sound = take_all_lawful (length names) (expanded known names t) (type_lawful t none shaped narrow sound)

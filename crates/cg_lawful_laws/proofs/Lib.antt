@@ -7,6 +7,7 @@ pub mod Lists
 pub mod Patterns
 pub mod Positions
 pub mod Proper
+pub mod Rising
 pub mod Scopes
 pub mod Types
 pub mod Walk

@@ -9,18 +9,25 @@ use Rattle.std.specs.List.{All, slice_get}
 use Rattle.std.specs.Str.{bytes_eq}
 use Rattle.cg_base.specs.Types.{Tau, var, seen, unit, word, bool, arrow, abs, variant, fields, Taus, none, more, Parts, end, part, Piece, to_taus, to_parts}
 use Rattle.cg_kinds.specs.Kinds.{bang, bang_all, bang_parts, or_unit, subst, subst_all, subst_parts}
-use Rattle.cg_lawful.specs.Lawful.{AreApart, AreLawfulParts, AreLawfulTypes, AreSome, HasArguments, IsLawfulType, part_names, types_count}
+use Rattle.cg_lawful.specs.Lawful.{AreApart, AreLawfulParts, AreLawfulTypes, AreRising, AreSome, HasArguments, IsLawfulType, part_names, types_count}
 use Rattle.cg_desugar.specs.Declared.{is_among}
 use Rattle.cg_desugar.specs.Expand.{all_taken, bytes_le, in_order, inserted, take_of, taken_parts}
 use Rattle.cg_desugar.proofs.PartNames.{all_names, bang_names, piece_names, subst_names, taken_names}
 
--- parts of a record or a variant: there is one at least, their names are apart, and their types are lawful
+-- parts of a record: there is one at least, their names are apart, and their types are lawful
 abbrev pub ArePartsOf : ℕ → Parts → Type 0
 ArePartsOf vars ps = AreSome (part_names ps) × AreApart (part_names ps) × AreLawfulParts vars ps
 
--- parts with the names of other parts
+-- alternatives of a variant: such parts, whose names rise
+abbrev pub AreAltsOf : ℕ → Parts → Type 0
+AreAltsOf vars ps = AreSome (part_names ps) × AreApart (part_names ps) × AreRising (part_names ps) × AreLawfulParts vars ps
+
+-- parts and alternatives with the names of others
 same_parts : (vars wars : ℕ) (ps qs : Parts) → part_names qs ≡ part_names ps → ArePartsOf vars ps → AreLawfulParts wars qs → ArePartsOf wars qs
 same_parts vars wars ps qs e h l = (carry AreSome (sym e) h.0, carry AreApart (sym e) h.1, l)
+
+same_alts : (vars wars : ℕ) (ps qs : Parts) → part_names qs ≡ part_names ps → AreAltsOf vars ps → AreLawfulParts wars qs → AreAltsOf wars qs
+same_alts vars wars ps qs e h l = (carry AreSome (sym e) h.0, carry AreApart (sym e) h.1, carry AreRising (sym e) h.2, l)
 
 -- ---- what is observed
 
@@ -41,7 +48,7 @@ module _ (vars : ℕ) where
     bang_lawful bool h = h
     bang_lawful (arrow a b) h = h
     bang_lawful (abs n ts s) h = (carry (HasArguments n) (sym (bang_count ts)) h.0, bang_all_lawful ts h.1)
-    bang_lawful (variant ps) h = same_parts vars vars ps (bang_parts ps) (bang_names ps) h (bang_parts_lawful ps h.2)
+    bang_lawful (variant ps) h = same_alts vars vars ps (bang_parts ps) (bang_names ps) h (bang_parts_lawful ps h.3)
     bang_lawful (fields ps s) h = same_parts vars vars ps (bang_parts ps) (bang_names ps) h (bang_parts_lawful ps h.2)
 
     bang_all_lawful : (ts : Taus) → AreLawfulTypes vars ts → AreLawfulTypes vars (bang_all ts)
@@ -75,7 +82,7 @@ module _ (args : List Tau) where
       subst_lawful bool h = h
       subst_lawful (arrow a b) h = (subst_lawful a h.0, subst_lawful b h.1)
       subst_lawful (abs n ts s) h = (carry (HasArguments n) (sym (subst_count ts)) h.0, subst_all_lawful ts h.1)
-      subst_lawful (variant ps) h = same_parts (length args) vars ps (subst_parts args ps) (subst_names args ps) h (subst_parts_lawful ps h.2)
+      subst_lawful (variant ps) h = same_alts (length args) vars ps (subst_parts args ps) (subst_names args ps) h (subst_parts_lawful ps h.3)
       subst_lawful (fields ps s) h = same_parts (length args) vars ps (subst_parts args ps) (subst_names args ps) h (subst_parts_lawful ps h.2)
 
       subst_all_lawful : (ts : Taus) → AreLawfulTypes (length args) ts → AreLawfulTypes vars (subst_all args ts)
@@ -137,6 +144,10 @@ pieces_lawful vars (p ∷ ps) h = (h.0, pieces_lawful vars ps h.1)
 pub parts_of_pieces : (vars : ℕ) (ps : List Piece) → AreSome (names_of_pieces ps) → ArePieces vars ps → ArePartsOf vars (to_parts ps)
 parts_of_pieces vars ps some h = (carry AreSome (sym (piece_names ps)) some, carry AreApart (sym (piece_names ps)) h.apart, pieces_lawful vars ps h.lawful)
 
+pub alts_of_pieces : (vars : ℕ) (ps : List Piece) → AreSome (names_of_pieces ps) → AreRising (names_of_pieces ps) → ArePieces vars ps → AreAltsOf vars (to_parts ps)
+alts_of_pieces vars ps some rising h =
+    (carry AreSome (sym (piece_names ps)) some, carry AreApart (sym (piece_names ps)) h.apart, carry AreRising (sym (piece_names ps)) rising, pieces_lawful vars ps h.lawful)
+
 pub list_count : (ts : List Tau) → types_count (to_taus ts) ≡ length ts
 unfolding to_taus
 list_count [] = refl
@@ -185,7 +196,7 @@ inserted_lawful vars p (q ∷ qs) h rest = pick (bytes_le p.name q.name) (insert
     pick true behind = (h, rest)
     pick false behind = (rest.0, behind)
 
-among_in_order : (ps : List Piece) (n : List ℕ) → is_among (names_of_pieces (in_order ps)) n ≡ is_among (names_of_pieces ps) n
+pub among_in_order : (ps : List Piece) (n : List ℕ) → is_among (names_of_pieces (in_order ps)) n ≡ is_among (names_of_pieces ps) n
 among_in_order [] n = refl
 among_in_order (p ∷ ps) n = among_inserted p (in_order ps) n ∙ ap (λ b. bytes_eq n p.name || b) (among_in_order ps n)
 

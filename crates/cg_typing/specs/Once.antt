@@ -8,11 +8,14 @@ use Rattle.cg_base.specs.Types as types
 use Rattle.cg_base.specs.Types.{Tau, Taus, Parts}
 use Rattle.cg_core.specs.Kernels.{Function, Body}
 use Rattle.cg_core.specs.Terms.{Tree, term, Shape, var, unit, bool, lit, fun, op, app, lets, let_bang, if_else, con, case_of, esac, struct, member, take_field, put, cast, annot, Trees, none, more, Named, end, field}
-use Rattle.cg_lawful.specs.Lawful.{AreApart, AreSome, part_names, types_count, HasArguments, IsLawfulType, AreLawfulTypes, AreLawfulParts, Takes, IsLawfulTerm, IsLawfulShape, AreLawfulTerms, AreLawfulFields, IsLawfulBody, IsLawfulFunction, field_names, IsLawfulKernel}
+use Rattle.cg_lawful.specs.Lawful.{AreApart, AreRising, AreSome, part_names, types_count, HasArguments, IsLawfulType, AreLawfulTypes, AreLawfulParts, Takes, IsLawfulTerm, IsLawfulShape, AreLawfulTerms, AreLawfulFields, IsLawfulBody, IsLawfulFunction, field_names, IsLawfulKernel}
 
 apart_once : (names : List (List ℕ)) → IsProp (AreApart names)
 apart_once [] = hlevel props
 apart_once (n ∷ names) = hlevel (props, apart_once names)
+
+rising_once : (names : List (List ℕ)) → IsProp (AreRising names)
+rising_once names = hlevel props
 
 some_once : (names : List (List ℕ)) → IsProp (AreSome names)
 some_once [] = hlevel props
@@ -30,7 +33,7 @@ mutual
   type_once vars types.bool = hlevel props
   type_once vars (types.arrow a b) = hlevel (type_once vars a, type_once vars b)
   type_once vars (types.abs n ts sigil) = hlevel (arguments_once n (types_count ts), types_once vars ts)
-  type_once vars (types.variant ps) = hlevel (some_once (part_names ps), apart_once (part_names ps), parts_once vars ps)
+  type_once vars (types.variant ps) = hlevel (some_once (part_names ps), apart_once (part_names ps), rising_once (part_names ps), parts_once vars ps)
   type_once vars (types.fields ps sigil) = hlevel (some_once (part_names ps), apart_once (part_names ps), parts_once vars ps)
 
   types_once : (vars : ℕ) (ts : Taus) → IsProp (AreLawfulTypes vars ts)
