@@ -1,14 +1,12 @@
 -- Contexts with type arguments in the place of type variables: entries, splits, and what may be dropped.
-use Rattle.std.proofs.Common.{◌≡◌, ◌≢◌, ℕ, zero, suc, ◌<◌, Bool, IsTrue, Option, Some, None, List, [], ◌∷◌, length, refl, sym, ap, ◌∙◌, subst as at, arith}
-use Rattle.std.specs.Option.{option_map}
-use Rattle.std.proofs.lemmas.List.{length-map}
+use Rattle.std.proofs.Common.{◌≡◌, ℕ, zero, suc, ◌<◌, Bool, IsTrue, Option, Some, None, List, [], ◌∷◌, length, refl, sym, ap, ◌∙◌, subst as at}
 use Rattle.cg_base.specs.declared.kind.Kinds.{Kinds}
 use Rattle.cg_base.specs.Types.{Tau}
 use Rattle.cg_core.specs.declared.derivation.Mark.{Mark}
 use Rattle.cg_core.specs.declared.derivation.Mark.TheVariants.{Gone, Left, Right, Both, Seen}
 use Rattle.cg_core.specs.declared.term.Seen.{Seen as Observer}
-use Rattle.cg_kinds.specs.Kinds.{subst, bang}
-use Rattle.cg_typing.specs.Contexts.{Context, look, mark_at, push, first_side, second_side, first, second, among, drops, shares, Fits, Splits, Drops, DropsBut}
+use Rattle.cg_kinds.specs.Kinds.{subst}
+use Rattle.cg_typing.specs.Contexts.{Context, look, mark_at, push, first_side, second_side, first, second, among, drops, Fits, Splits, Drops, DropsBut}
 use Rattle.cg_rows_subst.specs.Laws.{AreInstance}
 use Rattle.cg_rows_subst.specs.Subst.{subst_direction, subst_context}
 use Rattle.cg_rows_subst.proofs.Types.{subst_bang, kinds_kept}

@@ -1,5 +1,5 @@
 -- Functions at type arguments, with type arguments in the place of type variables.
-use Rattle.std.proofs.Common.{◌≡◌, ℕ, zero, suc, Bool, true, false, ◌&&◌, ◌||◌, not, IsTrue, Option, Some, None, List, [], ◌∷◌, map, codes, refl, sym, ap, ◌∙◌}
+use Rattle.std.proofs.Common.{◌≡◌, ℕ, zero, suc, Bool, ◌||◌, not, IsTrue, Option, Some, None, List, [], ◌∷◌, map, refl, sym, ap, ◌∙◌}
 use Rattle.std.specs.Prelude.{slice_get}
 use Rattle.std.specs.Option.{option_map}
 use Rattle.cg_base.specs.declared.fun.Fun.{Fun}
@@ -7,10 +7,10 @@ use Rattle.cg_base.specs.declared.fun.Fun.TheVariants.{User, Lib as OfLib}
 use Rattle.cg_base.specs.declared.fun.Lib.{Lib}
 use Rattle.cg_base.specs.declared.fun.Lib.TheVariants.{New, Free, Create, FreeArray, Length, Get, Put, Map, Fold, Seq32, Seq64, Seq32Break}
 use Rattle.cg_base.specs.declared.kind.Kinds.{Kinds}
-use Rattle.cg_base.specs.Types.{Tau, unit, arrow}
+use Rattle.cg_base.specs.Types.{Tau, arrow}
 use Rattle.cg_core.specs.Kernels.{Function}
 use Rattle.cg_core.specs.Terms.{Arg}
-use Rattle.cg_kinds.specs.Kinds.{kinds, bang, subst, is_word}
+use Rattle.cg_kinds.specs.Kinds.{kinds, bang, subst}
 use Rattle.cg_kinds.specs.Laws.{AreKept}
 use Rattle.cg_rows.specs.Functions.{Asked, these, a_cell, an_element, nothing, asked_by, next_asked, later_asked, meets_asked, are_good_arguments, has_kinds, arg_types, fun_type}
 use Rattle.cg_rows.specs.Library.{given as argument, library_type, state, pair, maybe}

@@ -1,5 +1,5 @@
 -- Type arguments that are what a function asks of them are an instance of its type variables.
-use Rattle.std.proofs.Common.{◌≡◌, ℕ, zero, suc, Bool, true, ◌||◌, not, IsTrue, Option, Some, None, List, [], ◌∷◌, map, refl, sym, subst}
+use Rattle.std.proofs.Common.{◌≡◌, ℕ, zero, suc, ◌||◌, not, IsTrue, Some, List, [], ◌∷◌, map, subst}
 use Rattle.std.specs.Prelude.{slice_get}
 use Rattle.cg_base.specs.declared.kind.Bound.{Bound}
 use Rattle.cg_base.specs.declared.kind.Kinds.{Kinds}

@@ -3,6 +3,8 @@ pub mod Contexts
 pub mod Functions
 pub mod Instances
 pub mod Named
+pub mod Positions
+pub mod Renumbering
 pub mod Substitution
 pub mod Types
 pub mod Weakening

@@ -1,15 +1,13 @@
 -- Parts by name, of a type whose variables are replaced and of an observed one.
-use Rattle.std.proofs.Common.{◌≡◌, ℕ, Bool, true, false, ◌&&◌, ◌||◌, not, IsTrue, Option, Some, None, List, refl, sym, ap, subst as at, ◌∙◌}
+use Rattle.std.proofs.Common.{◌≡◌, ℕ, Bool, true, false, ◌&&◌, ◌||◌, not, IsTrue, Option, Some, None, List, refl, ap, ◌∙◌}
 use Rattle.std.specs.Prelude.{if◌then◌else◌}
 use Rattle.std.specs.Option.{option_map}
 use Rattle.std.specs.Str.{bytes_eq}
-use Rattle.cg_base.specs.declared.kind.Kinds.{Kinds}
-use Rattle.cg_base.specs.declared.kind.Sigil.{Sigil}
 use Rattle.cg_base.specs.declared.kind.Sigil.TheVariants.{R, W, U}
 use Rattle.cg_base.specs.Types.{Tau, var, seen, unit, word, bool, arrow, abs, variant, fields, Parts, end, part, Piece}
 use Rattle.cg_kinds.specs.Kinds.{bang, bang_parts, bang_piece, bang_sigil, subst, subst_parts, subst_piece}
 use Rattle.cg_rows.specs.Parts.{part_named, parts_with, field_in, alternative_in, held, is_left, is_there, is_read_only, is_last, are_others_taken, is_whole, is_cell, all_taken, all_parts_taken, with_part}
-use Rattle.cg_rows_subst.specs.Laws.{BangKeepsParts, PartsAreObserved}
+use Rattle.cg_rows_subst.specs.Laws.{PartsAreObserved}
 
 -- a choice between what a function gives, and what it gives of a choice
 choose : {A B : Type 0} (f : A → B) (b : Bool) (x y : A) (y' : B) → y' ≡ f y → (if b then f x else y') ≡ f (if b then x else y)
@@ -122,14 +120,19 @@ observed_with n now end = refl
 observed_with n now (part name t taken ps) =
     choose bang_parts (bytes_eq n name) (part name t now ps) (part name t taken (parts_with n now ps)) _ (ap (part name (bang t) taken) (observed_with n now ps))
 
+observed_last : (n : List ℕ) (ps : Parts) → are_others_taken n (bang_parts ps) ≡ are_others_taken n ps
+unfolding bang
+observed_last n end = refl
+observed_last n (part name t taken ps) = ap (λ b. (bytes_eq n name || taken) && b) (observed_last n ps)
+
 pub parts_observed : PartsAreObserved
 unfolding bang
-parts_observed n (variant ps) = record { field = refl; alternative = observed_found n ps; taken = λ now. ap variant (observed_with n now ps) }
-parts_observed n (fields ps sigil) = record { field = observed_found n ps; alternative = refl; taken = λ now. ap (λ qs. fields qs (bang_sigil sigil)) (observed_with n now ps) }
-parts_observed n (var i) = record { field = refl; alternative = refl; taken = λ now. refl }
-parts_observed n (seen i) = record { field = refl; alternative = refl; taken = λ now. refl }
-parts_observed n unit = record { field = refl; alternative = refl; taken = λ now. refl }
-parts_observed n (word w) = record { field = refl; alternative = refl; taken = λ now. refl }
-parts_observed n bool = record { field = refl; alternative = refl; taken = λ now. refl }
-parts_observed n (arrow a b) = record { field = refl; alternative = refl; taken = λ now. refl }
-parts_observed n (abs name ts sigil) = record { field = refl; alternative = refl; taken = λ now. refl }
+parts_observed n (variant ps) = record { field = refl; alternative = observed_found n ps; taken = λ now. ap variant (observed_with n now ps); last = observed_last n ps }
+parts_observed n (fields ps sigil) = record { field = observed_found n ps; alternative = refl; taken = λ now. ap (λ qs. fields qs (bang_sigil sigil)) (observed_with n now ps); last = refl }
+parts_observed n (var i) = record { field = refl; alternative = refl; taken = λ now. refl; last = refl }
+parts_observed n (seen i) = record { field = refl; alternative = refl; taken = λ now. refl; last = refl }
+parts_observed n unit = record { field = refl; alternative = refl; taken = λ now. refl; last = refl }
+parts_observed n (word w) = record { field = refl; alternative = refl; taken = λ now. refl; last = refl }
+parts_observed n bool = record { field = refl; alternative = refl; taken = λ now. refl; last = refl }
+parts_observed n (arrow a b) = record { field = refl; alternative = refl; taken = λ now. refl; last = refl }
+parts_observed n (abs name ts sigil) = record { field = refl; alternative = refl; taken = λ now. refl; last = refl }

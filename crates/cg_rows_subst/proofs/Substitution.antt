@@ -1,26 +1,23 @@
 -- What is derived with type variables is derived with type arguments in their place, at each form.
-use Rattle.std.proofs.Common.{◌≡◌, ℕ, Bool, true, false, ◌||◌, not, IsTrue, Option, Some, None, List, [], ◌∷◌, map, refl, sym, ap, ◌∙◌, subst as at}
+use Rattle.std.proofs.Common.{◌≡◌, ℕ, Bool, true, false, not, IsTrue, Option, Some, None, List, [], refl, sym, ap, ◌∙◌, subst as at}
 use Rattle.std.specs.Option.{option_map}
-use Rattle.cg_base.specs.declared.fun.Fun.{Fun}
 use Rattle.cg_base.specs.declared.kind.Kinds.{Kinds}
 use Rattle.cg_base.specs.declared.kind.Sigil.TheVariants.{U}
 use Rattle.cg_base.specs.Types as types
 use Rattle.cg_base.specs.Types.{Tau, word, arrow, Piece, fields}
 use Rattle.cg_core.specs.declared.derivation.Mark.{Mark}
-use Rattle.cg_core.specs.declared.op.Op.{Op}
-use Rattle.cg_core.specs.declared.term.Seen.{Seen as Observer}
 use Rattle.cg_core.specs.Derivations.{Derivation, Derivations}
 use Rattle.cg_core.specs.Kernels.{Function}
-use Rattle.cg_core.specs.Terms.{Tree, term, Shape, var, unit, bool, lit, fun, op, app, lets, let_bang, if_else, con, case_of, esac, struct, member, take_field, put, cast, annot, none, more, Named, end, field, Note, Arg}
+use Rattle.cg_core.specs.Terms.{Tree, term, Shape, var, unit, bool, lit, fun, op, app, lets, let_bang, if_else, con, case_of, esac, struct, member, take_field, put, cast, annot, none, more, Named, end, field, Note}
 use Rattle.cg_kinds.specs.Kinds.{kinds, subst, subst_parts, is_word, subst_piece}
-use Rattle.cg_typing.specs.Contexts.{Context, look, push, first, second, drops, shares}
-use Rattle.cg_rows.specs.Functions.{fun_type, asked_by, are_good_arguments}
+use Rattle.cg_typing.specs.Contexts.{Context, push, second, drops, shares}
+use Rattle.cg_rows.specs.Functions.{asked_by}
 use Rattle.cg_rows.specs.Operators.{Sort, arithmetic, equality, order, logic, sort_of, takes, gives, along, operand}
 use Rattle.cg_rows.specs.Parts.{widens, field_in, alternative_in, held, is_there, is_left, is_last, is_read_only, may_be_put_over, is_bool, with_part}
 use Rattle.cg_rows.specs.Rules.{Meets, InRange, second_branch, type_at, is_literal, is_literal_shape, parts_made, record_made, Derives, DerivesShape, DerivesFields}
-use Rattle.cg_rows.specs.Trees.{nth, later_parts, sub, first_marks, later_marks, marks_of}
+use Rattle.cg_rows.specs.Trees.{later_parts, first_marks, later_marks, marks_of}
 use Rattle.cg_rows_subst.specs.Laws.{AreInstance, SubstitutionKeepsDerivations}
-use Rattle.cg_rows_subst.specs.Subst.{subst_direction, subst_context, subst_note, subst_arg, subst_core, subst_shape, subst_fields}
+use Rattle.cg_rows_subst.specs.Subst.{subst_direction, subst_context, subst_core, subst_shape, subst_fields}
 use Rattle.cg_rows_subst.proofs.Contexts.{look_subst, first_subst, second_subst, push_subst, splits_kept, drops_kept, drops_but_kept}
 use Rattle.cg_rows_subst.proofs.Functions.{arguments_kept, fun_type_subst}
 use Rattle.cg_rows_subst.proofs.Named.{field_kept, alternative_kept, with_field, with_alternative, written_kept, last_kept, held_kept, left_kept, there_kept, left_is_there}

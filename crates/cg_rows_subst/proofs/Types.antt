@@ -3,11 +3,9 @@ use Rattle.std.proofs.Common.{◌≡◌, ℕ, zero, suc, Bool, true, false, ◌&
 use Rattle.std.specs.Prelude.{slice_get}
 use Rattle.std.specs.Option.{option_map}
 use Rattle.std.specs.Str.{bytes_eq}
-use Rattle.std.proofs.lemmas.Option.{slice_get-map}
 use Rattle.cg_base.specs.declared.kind.Kinds.{Kinds}
-use Rattle.cg_base.specs.declared.kind.Sigil.{Sigil}
 use Rattle.cg_base.specs.Types.{Tau, var, seen, unit, word, bool, arrow, abs, variant, fields, Taus, none, more, Parts, end, part}
-use Rattle.cg_kinds.specs.Kinds.{kinds, kinds_all, kinds_parts, both, sigil_kinds, at_least, bang, bang_all, bang_parts, bang_sigil, subst, subst_all, subst_parts, or_unit, or_none, no_kinds, seen_kinds, all_kinds, is_word}
+use Rattle.cg_kinds.specs.Kinds.{kinds, kinds_all, kinds_parts, both, at_least, bang, bang_all, bang_parts, bang_sigil, subst, subst_all, subst_parts, or_unit, or_none, is_word}
 use Rattle.cg_kinds.specs.Laws.{AreKept}
 use Rattle.cg_kinds.proofs.Laws.{bang_twice, bang_free}
 use Rattle.cg_rows.specs.Parts.{has_word_arrays, have_word_arrays, parts_have_word_arrays, are_words}

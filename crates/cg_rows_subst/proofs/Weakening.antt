@@ -1,7 +1,6 @@
 -- What is derived in a context is derived in a wider one: new entries go to the second side of each split, down to a leaf.
-use Rattle.std.proofs.Common.{◌≡◌, ◌≢◌, ℕ, zero, suc, ◌<◌, Bool, false, IsTrue, Option, Some, None, List, [], ◌∷◌, length, refl, sym, ap, ◌∙◌, subst, arith}
+use Rattle.std.proofs.Common.{◌≡◌, ℕ, zero, suc, ◌<◌, Bool, IsTrue, Option, Some, None, List, [], ◌∷◌, length, refl, sym, ap, ◌∙◌, subst, arith}
 use Rattle.cg_base.specs.declared.kind.Kinds.{Kinds}
-use Rattle.cg_base.specs.Types as types
 use Rattle.cg_base.specs.Types.{Tau}
 use Rattle.cg_core.specs.declared.derivation.Mark.{Mark}
 use Rattle.cg_core.specs.declared.derivation.Mark.TheVariants.{Gone, Left, Right, Both, Seen}
@@ -11,7 +10,6 @@ use Rattle.cg_core.specs.Derivations as trees
 use Rattle.cg_core.specs.Derivations.{Derivation, Derivations, derivation}
 use Rattle.cg_core.specs.Kernels.{Function}
 use Rattle.cg_core.specs.Terms.{Tree, term, Shape, var, unit, bool, lit, fun, op, app, lets, let_bang, if_else, con, case_of, esac, struct, member, take_field, put, cast, annot, none, more, Named, end, field, Note}
-use Rattle.cg_kinds.specs.Kinds.{bang}
 use Rattle.cg_typing.specs.Contexts.{Context, look, mark_at, push, first_side, second_side, first, second, among, drops, Fits, Splits, Drops, DropsBut}
 use Rattle.cg_rows.specs.Rules.{Derives, DerivesShape, DerivesFields}
 use Rattle.cg_rows.specs.Trees.{leaf, one, two, three, first_marks, marks_of}
@@ -53,7 +51,7 @@ module _ (vars : List Kinds) where
   second_none Both = refl
   second_none Seen = refl
 
-  same_wider : (o : Option Tau) → IsWiderEntry vars o o
+  pub same_wider : (o : Option Tau) → IsWiderEntry vars o o
   same_wider None = tt
   same_wider (Some t) = refl
 
@@ -139,10 +137,10 @@ module _ (vars : List Kinds) where
   present_wider g h i t w e = subst (λ o. IsWiderEntry vars o (look h i)) e (look_wider g h w i)
 
 -- the fields of a record, with their mark strings and derivations
-record AreDerived (functions : List Function) (vars : List Kinds) (g : Context) (direction : Option Tau) (fs : Named Note) : Type 0 where
-  strings : List (List Mark)
-  parts : Derivations
-  derives : DerivesFields functions vars g strings parts direction fs
+pub record AreDerived (functions : List Function) (vars : List Kinds) (g : Context) (direction : Option Tau) (fs : Named Note) : Type 0 where
+  pub strings : List (List Mark)
+  pub parts : Derivations
+  pub derives : DerivesFields functions vars g strings parts direction fs
 
 module _ (functions : List Function) (vars : List Kinds) where
   abbrev D : Context → Option Tau → Tree Note → Type 0

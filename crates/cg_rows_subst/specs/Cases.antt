@@ -1,6 +1,6 @@
 -- Computed cases of the laws: what is derived at a variable and at its argument, what is refused at an argument without the
 -- variable's kinds or with an array of no word, and the mark of an entry that is new.
-use Rattle.std.specs.Prelude.{◌≡◌, Option, Some, None, List, [], ◌∷◌}
+use Rattle.std.specs.Prelude.{◌≡◌, ℕ, Some, None, List, [], ◌∷◌}
 use Rattle.cg_base.specs.declared.kind.Kinds.{Kinds}
 use Rattle.cg_base.specs.declared.kind.Sigil.TheVariants.{R}
 use Rattle.cg_base.specs.Types as types
@@ -9,7 +9,6 @@ use Rattle.cg_core.specs.declared.derivation.Mark.{Mark}
 use Rattle.cg_core.specs.declared.derivation.Mark.TheVariants.{Gone, Right, Both}
 use Rattle.cg_core.specs.declared.derivation.Node.TheVariants as nodes
 use Rattle.cg_core.specs.declared.op.Op.TheVariants.{Add}
-use Rattle.cg_core.specs.Derivations.{Derivation}
 use Rattle.cg_core.specs.Terms.{Tree, var, op, member, annot, none, more, Note}
 use Rattle.cg_kinds.specs.Kinds.{no_kinds, seen_kinds}
 use Rattle.cg_typing.specs.Contexts.{Context}
@@ -17,6 +16,7 @@ use Rattle.cg_rows.specs.Cases.{core, named, written, u8, x, cell}
 use Rattle.cg_rows.specs.Library.{array, whole}
 use Rattle.cg_rows.specs.Rules.{Derives}
 use Rattle.cg_rows.specs.Trees.{leaf, one, two}
+use Rattle.cg_rows_subst.specs.Inserted.{raise}
 use Rattle.cg_rows_subst.specs.Subst.{subst_core}
 
 -- ---- substitution
@@ -50,16 +50,19 @@ pub record Substituted : Type 0 where
 
 -- ---- weakening
 
--- `v + v`, of a variable at U8
-abbrev pub doubled : Tree Note
-doubled = core 2 u8 (op Add (more (core 1 u8 (var 0)) (more (core 3 u8 (var 0)) none)))
+-- `v + v`, of the variable at this position, of type U8
+abbrev pub doubled : ℕ → Tree Note
+doubled i = core 2 u8 (op Add (more (core 1 u8 (var i)) (more (core 3 u8 (var i)) none)))
 
 -- a derivation of it with these marks in a context
-abbrev pub IsDoubled : Context → List Mark → Type 0
-IsDoubled g marks = Derives [] [] g (two nodes.Op marks (leaf nodes.Var) (leaf nodes.Var)) (Some u8) doubled
+abbrev pub IsDoubled : ℕ → Context → List Mark → Type 0
+IsDoubled i g marks = Derives [] [] g (two nodes.Op marks (leaf nodes.Var) (leaf nodes.Var)) (Some u8) (doubled i)
 
--- beside an entry that is gone its mark is `Gone`; beside one that is present, and may be dropped, it is another
+-- beside an entry that is gone its mark is `Gone`; beside one that is present, and may be dropped, it is another. Behind a new
+-- entry the variable is renumbered
 pub record Weakened : Type 0 where
-  pub gone : IsDoubled (Some u8 ∷ (None ∷ [])) (Both ∷ (Gone ∷ []))
-  pub present : IsDoubled (Some u8 ∷ (Some types.bool ∷ [])) (Both ∷ (Right ∷ []))
-  pub same_marks : IsDoubled (Some u8 ∷ (Some types.bool ∷ [])) (Both ∷ (Gone ∷ [])) → ⊥
+  pub gone : IsDoubled 0 (Some u8 ∷ (None ∷ [])) (Both ∷ (Gone ∷ []))
+  pub present : IsDoubled 0 (Some u8 ∷ (Some types.bool ∷ [])) (Both ∷ (Right ∷ []))
+  pub same_marks : IsDoubled 0 (Some u8 ∷ (Some types.bool ∷ [])) (Both ∷ (Gone ∷ [])) → ⊥
+  pub renumbered : raise 0 (doubled 0) ≡ doubled 1
+  pub behind : IsDoubled 1 (Some types.bool ∷ (Some u8 ∷ [])) (Right ∷ (Both ∷ []))

@@ -1,5 +1,5 @@
 -- The laws of substitution, of bang and of weakening, at all forms.
-use Rattle.std.specs.Prelude.{◌≡◌, ℕ, Bool, IsTrue, Some, List, [], ◌∷◌, Option, map, slice_get}
+use Rattle.std.specs.Prelude.{◌≡◌, ℕ, ◌≤◌, length, Bool, IsTrue, Some, None, List, [], ◌∷◌, Option, map, slice_get}
 use Rattle.std.specs.Option.{option_map}
 use Rattle.cg_base.specs.declared.kind.Kinds.{Kinds}
 use Rattle.cg_base.specs.Types.{Tau}
@@ -11,10 +11,11 @@ use Rattle.cg_kinds.specs.Laws.{AreKept}
 use Rattle.cg_typing.specs.Contexts.{Context}
 use Rattle.cg_rows.specs.Accepted.{kinds_of_vars}
 use Rattle.cg_rows.specs.Functions.{arg_types, asked_by_user, are_good_arguments}
-use Rattle.cg_rows.specs.Parts.{has_word_arrays, field_in, alternative_in, with_part}
+use Rattle.cg_rows.specs.Parts.{has_word_arrays, field_in, alternative_in, with_part, is_last}
 use Rattle.cg_rows.specs.Rules.{Derives}
+use Rattle.cg_rows_subst.specs.Inserted.{inserted, raise}
 use Rattle.cg_rows_subst.specs.Subst.{subst_direction, subst_context, subst_core}
-use Rattle.cg_rows_subst.specs.Wider.{IsWider, IsDerived}
+use Rattle.cg_rows_subst.specs.Wider.{IsWiderEntry, IsWider, IsDerived}
 
 -- type arguments that may stand for type variables of these kinds: each has its variable's kinds, and is written with arrays of
 -- words alone. Positions need not be in range: a variable without an argument becomes unit, which has all kinds
@@ -49,11 +50,13 @@ SubstitutionsCompose = (outer inner : List Tau) (t : Tau) → subst outer (subst
 abbrev pub BangIsSubstituted : Type 0
 BangIsSubstituted = (given : List Tau) (t : Tau) → subst given (bang t) ≡ bang (subst given t)
 
--- the parts of an observed type have the same names, are taken where they were, and are observed
+-- the parts of an observed type have the same names, are taken where they were, and are observed; an alternative is the last one
+-- that is left where it was
 pub record BangKeepsParts (name : List ℕ) (t : Tau) : Type 0 where
   pub field : field_in name (bang t) ≡ option_map bang_piece (field_in name t)
   pub alternative : alternative_in name (bang t) ≡ option_map bang_piece (alternative_in name t)
   pub taken : (now : Bool) → with_part name now (bang t) ≡ bang (with_part name now t)
+  pub last : is_last name (bang t) ≡ is_last name t
 
 abbrev pub PartsAreObserved : Type 0
 PartsAreObserved = (name : List ℕ) (t : Tau) → BangKeepsParts name t
@@ -63,3 +66,10 @@ abbrev pub DerivationsAreWeakened : Type 0
 DerivationsAreWeakened =
     (functions : List Function) (vars : List Kinds) (g wide : Context) → IsWider vars g wide
     → (d : Derivation) (direction : Option Tau) (c : Tree Note) → Derives functions vars g d direction c → IsDerived functions vars wide direction c
+
+-- and in one with an entry more at any position, gone or such that it may be dropped, with the variables renumbered
+abbrev pub EntriesAreInserted : Type 0
+EntriesAreInserted =
+    (functions : List Function) (vars : List Kinds) (k : ℕ) (entry : Option Tau) (g : Context) → k ≤ length g → IsWiderEntry vars None entry
+    → (d : Derivation) (direction : Option Tau) (c : Tree Note) → Derives functions vars g d direction c
+    → IsDerived functions vars (inserted k entry g) direction (raise k c)

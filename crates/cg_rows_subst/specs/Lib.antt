@@ -1,4 +1,5 @@
 pub mod Cases
+pub mod Inserted
 pub mod Laws
 pub mod Subst
 pub mod Wider

@@ -1,6 +1,6 @@
 // The laws of substitution, of bang and of weakening, and cases of them.
 ghost use Rattle.cg_rows_subst.specs.Cases.{Substituted, Weakened};
-ghost use Rattle.cg_rows_subst.specs.Laws.{SubstitutionKeepsDerivations, CheckedArgumentsAreInstance, InstancesAreDerived, SubstitutionsCompose, BangIsSubstituted, PartsAreObserved, DerivationsAreWeakened};
+ghost use Rattle.cg_rows_subst.specs.Laws.{SubstitutionKeepsDerivations, CheckedArgumentsAreInstance, InstancesAreDerived, SubstitutionsCompose, BangIsSubstituted, PartsAreObserved, DerivationsAreWeakened, EntriesAreInserted};
 
 /// What is derived with type variables is derived, by the same derivation, with type arguments in their place that have the
 /// variables' kinds and are written with arrays of words alone.
@@ -38,12 +38,18 @@ pub fn derivations_are_weakened()
     ensures { DerivationsAreWeakened }
 {}
 
+/// What is derived in a context is derived in one with an entry more at any position, gone or such that it may be dropped, with
+/// the variables renumbered.
+pub fn entries_are_inserted()
+    ensures { EntriesAreInserted }
+{}
+
 /// A member and an annotation at a type variable and at arguments, of which one may not be shared and one is an array of no word.
 pub fn substitution_cases()
     ensures { Substituted }
 {}
 
-/// Beside a new entry that may be dropped a derivation has another mark.
+/// Beside a new entry that may be dropped a derivation has another mark, and behind it a variable another position.
 pub fn weakening_cases()
     ensures { Weakened }
 {}
