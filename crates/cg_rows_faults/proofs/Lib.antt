@@ -1,0 +1,12 @@
+pub mod Bound
+pub mod Moments
+pub mod Parts
+pub mod Paths
+pub mod PlainFirst
+pub mod PlainForms
+pub mod PlainKernel
+pub mod PlainRows
+pub mod Scopes
+pub mod Tells
+pub mod Touches
+pub mod Uses
