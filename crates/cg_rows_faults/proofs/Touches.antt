@@ -21,7 +21,7 @@ use Rattle.cg_rows_faults.proofs.Scopes.{some_is, Has, keeps_all, keeps_push, ke
 use Rattle.cg_rows_faults.proofs.Uses.{moved, down_append, below, root_well}
 use Rattle.cg_rows_faults.proofs.Parts.{IsWell, InOrder, left_first, right_first, operands_are, part_is, site_of, LawfulSome}
 
-among_at : (os : List Seen) (n : ℕ) (o : Seen) (i : ℕ) → slice_get os n ≡ Some o → i ≡ o.var → among i os ≡ true
+pub among_at : (os : List Seen) (n : ℕ) (o : Seen) (i : ℕ) → slice_get os n ≡ Some o → i ≡ o.var → among i os ≡ true
 among_at [] n o i h e = absurd (cc)
 among_at (p ∷ os) zero o i h e = let same : p ≡ o = cc in or_left (nat_eq i p.var) (among i os) (eq-eqb i p.var (e ∙ sym (ap (λ p. p.var) same)))
 among_at (p ∷ os) (suc n) o i h e = or_right (nat_eq i p.var) (among i os) (among_at os n o i h e)
@@ -33,7 +33,7 @@ observer_touched : (t : Tree Place) (i : ℕ) (os : List Seen) (v : Place) (e k 
 observer_touched (term a shape) i os v e k h q = subst (λ s. touched i (term a s) ≡ true) (sym h) (or_left (among i os) (touched i e || touched i k) q)
 
 module _ (functions : List Function) where
-  sighting_from : (a b : Site) (x : Variable) (p q : Path) (n : ℕ) (o : Seen) → ((s : Site) → down functions (Some a) p ≡ Some s → down functions (Some b) q ≡ Some s)
+  pub sighting_from : (a b : Site) (x : Variable) (p q : Path) (n : ℕ) (o : Seen) → ((s : Site) → down functions (Some a) p ≡ Some s → down functions (Some b) q ≡ Some s)
       → IsSighting functions a x p n o → IsSighting functions b x q n o
   sighting_from a b x p q n o f u =
       record {
@@ -68,7 +68,7 @@ module _ (functions : List Function) where
   to_root root s path below at z h = sym (down_append functions (Some root) path below ∙ ap (λ o. down functions o below) at) ∙ h
 
   -- a variable that stands unobserved in a scope without double entries
-  here : (x : Variable) (i j : ℕ) (o : Bool) (s z : Site) → IsWell s → Has x i o s.scope → Some s ≡ Some z → IsUnobserved functions s x z j → (o ≡ false) × (i ≡ j)
+  pub here : (x : Variable) (i j : ℕ) (o : Bool) (s z : Site) → IsWell s → Has x i o s.scope → Some s ≡ Some z → IsUnobserved functions s x z j → (o ≡ false) × (i ≡ j)
   here x i j o s z w h stands u =
       let same : s ≡ z = some_is (Some s) s z refl stands in
       let at : slice_get s.scope j ≡ Some u.entry = subst (λ s. slice_get s.scope j ≡ Some u.entry) (sym same) u.in_scope in

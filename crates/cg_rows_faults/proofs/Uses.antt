@@ -108,14 +108,14 @@ module _ (functions : List Function) where
 
 module _ (functions : List Function) (types_in : ℕ) (x : Variable) (i : ℕ) where
   -- a use stands in a site, at its own path or below
-  abbrev UsedIn : Site → Type 0
+  abbrev pub UsedIn : Site → Type 0
   UsedIn s = (path : Path) × IsUse functions s x path
 
   through : (s p : Site) (j : ℕ) → slice_get (parts functions s) j ≡ Some p → UsedIn p → UsedIn s
   through s p j at u = (j ∷ u.0, use_of_part functions x s p j u.0 at u.1)
 
   -- where the test says that a variable is used which isn't observed, a use stands there
-  abbrev Finds : Tree Place → Type 0
+  abbrev pub Finds : Tree Place → Type 0
   Finds e = (path : Path) (scope : List Entry) (dir : Option Tau) → LawfulSome functions types_in e → Has x i false scope → used i e ≡ true → UsedIn (site_of path scope dir e)
 
   keep_push : (scope : List Entry) (e : Entry) → Has x i false scope → Has x i false (push scope e)
@@ -138,7 +138,7 @@ module _ (functions : List Function) (types_in : ℕ) (x : Variable) (i : ℕ) w
   and_parts false u h = (refl, h)
 
   mutual
-    find : (e : Tree Place) → Finds e
+    pub find : (e : Tree Place) → Finds e
     find (term a shape) path scope dir l h u = find_shape a shape path scope dir l h u
 
     find_shape : (a : Place) (shape : Shape Place) → Finds (term a shape)

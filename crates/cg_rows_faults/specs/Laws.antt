@@ -3,14 +3,15 @@
 use Rattle.std.specs.Prelude.{◌≡◌, ◌↔◌, ◌++◌, ℕ, true, false, Option, Some, None, List, slice_get}
 use Rattle.cg_base.specs.declared.place.Place.{Place}
 use Rattle.cg_core.specs.Kernels.{Function, Body}
-use Rattle.cg_rows.specs.Events.{kernel_events, first_failing}
-use Rattle.cg_rows.specs.Fails.{Judged, root_of, Fails}
+use Rattle.cg_lawful.specs.Lawful.{IsLawfulKernel}
+use Rattle.cg_rows.specs.Accepted.{IsAcceptedKernel}
+use Rattle.cg_rows.specs.Events.{LimitsHold, kernel_events, first_failing}
+use Rattle.cg_rows.specs.Fails.{Judged, root_of, FailsAt, Fails}
 use Rattle.cg_rows.specs.Laws.{IsLawfulIn}
 use Rattle.cg_rows.specs.Occurrences.{touched, used}
 use Rattle.cg_rows.specs.Rule.{Test}
 use Rattle.cg_rows.specs.Sites.{Path, Variable, bound_at, Entry, Site}
 use Rattle.cg_rows.specs.Touches.{Stands, IsTouchAt, HasUse}
-use Rattle.cg_rows_faults.specs.Plainly.{is_on_occurrences, plain_events, FailsPlainlyAt, FailsPlainly}
 
 -- at each site of a lawful body, for each variable in scope that isn't observed: the test by its position says that it is used
 -- in the site's node exactly where a use of it stands at the site's path or below
@@ -41,18 +42,12 @@ BoundVariablesStandBelow =
     (functions : List Function) (f : Function) (body : Body) (path : Path) (number : ℕ) (q : Path) (observer : Option ℕ)
     → IsTouchAt functions (root_of f body) (bound_at path number) q observer → (below : Path) × (q ≡ path ++ below)
 
--- of any kernel: the first event of plain typing that fails tells the first condition of plain typing that fails, its test and its
--- place; and where none of those events fails, none of those conditions does. The rules on occurrences are left out on both sides
-pub record PlainEventsArePlainFaults : Type 0 where
-  pub first : (functions : List Function) (test : Test) (place : Place) → first_failing (plain_events (kernel_events functions)) ≡ Some (test, place)
-      → FailsPlainly functions test place
-  pub clear : (functions : List Function) → first_failing (plain_events (kernel_events functions)) ≡ None
-      → (judged : Judged) (test : Test) (place : Place) → FailsPlainlyAt functions judged test place → ⊥
-
--- where what fails first of all is a test of plain typing, it is the first of these that fails: by the events, and by the
--- definition in its own words
-pub record FirstFaultsArePlain : Type 0 where
-  pub event : (functions : List Function) (test : Test) (place : Place) → first_failing (kernel_events functions) ≡ Some (test, place)
-      → is_on_occurrences test ≡ false → FailsPlainly functions test place
-  pub condition : (functions : List Function) (test : Test) (place : Place) → Fails functions test place
-      → is_on_occurrences test ≡ false → FailsPlainly functions test place
+-- of a lawful kernel: no event fails exactly where it is accepted, with any splits, and no type passes the limit, and there nothing is
+-- at fault; else the first event that fails is the one fault, its test and its place
+pub record KernelsAreAcceptedOrAtFault : Type 0 where
+  pub accepted : (functions : List Function) → IsLawfulKernel functions
+      → (first_failing (kernel_events functions) ≡ None ↔ IsAcceptedKernel functions × LimitsHold (kernel_events functions))
+  pub fault : (functions : List Function) → IsLawfulKernel functions → (test : Test) (place : Place)
+      → (first_failing (kernel_events functions) ≡ Some (test, place) ↔ Fails functions test place)
+  pub faultless : (functions : List Function) → IsLawfulKernel functions
+      → (first_failing (kernel_events functions) ≡ None ↔ ((judged : Judged) (test : Test) (place : Place) → FailsAt functions judged test place → ⊥))

@@ -1,10 +1,10 @@
 // The laws that join the faults in their own words and the events.
-ghost use Rattle.cg_rows_faults.specs.Laws.{BoundVariablesStandBelow, FirstFaultsArePlain, PlainEventsArePlainFaults, TouchesAgree, UsesAgree};
+ghost use Rattle.cg_rows_faults.specs.Laws.{BoundVariablesStandBelow, KernelsAreAcceptedOrAtFault, TouchesAgree, UsesAgree};
 
-/// The first event of plain typing that fails, in any kernel, is the first condition of plain typing that does, with its test and place;
-/// and where no such event fails, no such condition does. K3, K4 and K5 are left out on both sides.
-pub fn plain_events_are_plain_faults()
-    ensures { PlainEventsArePlainFaults }
+/// Of a lawful kernel: where no event fails, it is accepted, with any splits, no type passes the limit, and nothing is at fault in the
+/// definition's own words; and else the first event that fails is the one fault that these name, its rule and its place.
+pub fn kernels_are_accepted_or_at_fault()
+    ensures { KernelsAreAcceptedOrAtFault }
 {}
 
 /// A variable that is in scope and not observed is used in a term, by the events' test, exactly where a use of it stands there or below.
@@ -20,9 +20,4 @@ pub fn touches_agree()
 /// What is bound at a node is touched only below it.
 pub fn bound_variables_stand_below()
     ensures { BoundVariablesStandBelow }
-{}
-
-/// Where what fails first of all is a test of plain typing, by the events or by the definition in its own words, it is the first of these.
-pub fn first_faults_are_plain()
-    ensures { FirstFaultsArePlain }
 {}
