@@ -1,12 +1,6 @@
-pub mod Basics
-pub mod Complete
-pub mod FlagLists
-pub mod KernelSteps
-pub mod Linear
-pub mod Main
-pub mod OnePass
+pub mod ArmSteps
+pub mod BodySteps
+pub mod FormSteps
+pub mod JudgeSteps
+pub mod OperandSteps
 pub mod PassSteps
-pub mod SameTypes
-pub mod SmallLaws
-pub mod SmallSteps
-pub mod Sound

@@ -1,5 +1,4 @@
-pub mod Laws
-pub mod Pass
-pub mod Small
-pub mod Uses
-pub mod View
+pub mod Bodies
+pub mod Forms
+pub mod Judged
+pub mod Operators

@@ -1,110 +1,152 @@
 // The check of a kernel: its functions in turn.
-#![tactic(auto, using(crate::proofs::KernelSteps::kernel_steps))]
+#![tactic(auto, using(crate::proofs::BodySteps::body_steps))]
 
-ghost use Rattle.std.specs.Prelude.{◌≡◌, ◌||◌, true, length, map, IfOk, Some, Ok};
+ghost use Rattle.std.specs.Prelude.{◌≡◌, IfOk, Ok, Some, [], ◌∷◌, false, map};
 ghost use Rattle.cg_base.specs.Types.{type_of};
-ghost use Rattle.cg_core.specs.Kernels.{the_term, function_of, body_of, kernel_of, maybe_body_of};
-ghost use Rattle.cg_faults.specs.declared.rule.Rule.TheVariants.{K3};
-ghost use Rattle.cg_core.specs.Small.{IsSmall, IsSmallBody, IsSmallKernel};
+ghost use Rattle.cg_core.specs.Derivations.{derivation_of};
+ghost use Rattle.cg_core.specs.Kernels.{body_of, function_of, kernel_of, the_term};
 ghost use Rattle.cg_lawful.specs.Lawful.{IsLawfulKernel};
-ghost use Rattle.cg_check.specs.Small.{is_small_kernel};
-ghost use Rattle.cg_check.specs.Pass.{need, last as last_of, check_body as body_pass, check_function as function_pass, check_kernel};
-ghost use Rattle.cg_typing.specs.Accepted.{IsAcceptedKernel};
-ghost use Rattle.cg_check.specs.View.{bounds_of, unit_of, Agrees, IsJudged, IsChecked, Judges};
+ghost use Rattle.cg_check_laws.specs.Pass as pass;
+ghost use Rattle.cg_check.specs.Bodies.{a_body, as_lists, both_in, lists_of, maybe_both, refusal_of};
+ghost use Rattle.cg_context.specs.Ended.{ended};
+ghost use Rattle.cg_check.specs.Judged.{Judges};
+ghost use Rattle.cg_context.specs.View.{Agrees, bounds_of, entries_of, fresh};
+ghost use Rattle.cg_nodes.specs.Gots.{got_of};
+ghost use Rattle.cg_uses.specs.Marks as splits;
+ghost use Rattle.cg_uses.specs.Uses as tables;
 
 use crate::Refusal;
-use crate::pass::{Got, check_term};
-use cg_base::{Items, Memory, Place, Ty};
-use cg_core::{KBody, KFun, Kernel};
-use cg_derive::{Source, alone, cores_of, no_uses, trees_of};
-use cg_faults::Rule;
+use crate::kept::{KeptBodies, KeptBody};
+use crate::pass::check_term;
+use cg_base::{Items, Limit, Memory, Place, Ty};
+use cg_context::{Known, Source, Stop, end_scope};
+use cg_core::{Deriv, KBody, KFun, Kernel, Term};
+use cg_faults::{Rule, Use};
 use cg_kinds::kinds_of;
+use cg_nodes::Got;
+use cg_parts::has_word_arrays;
 use cg_typing::Checked;
+use cg_uses::{keep_new, leave, settle};
 use std::alloc::Global;
 
-/// Judges a lawful kernel that is small (docs/LANGUAGE.md, "Typing"). Ok exactly where it is accepted: the kernel with the
-/// core of each body and its derivation, which has the occurrence marks. `Rule` comes exactly where some event of it
-/// fails, with the rule and the place of the first that does; and `Memory` for want of memory.
+/// Judges a lawful kernel (docs/LANGUAGE.md, "Typing"). Ok exactly where the typing rules derive it and no type passes the limit: the
+/// kernel with the core of each body and its derivation, which has the occurrence marks. Else `Rule`, with the one rule and place that
+/// the definition of a fault names, or `Limit` where that is the limit on types; and `Memory` for want of memory.
+#[tactic(auto, using(crate::proofs::JudgeSteps::judge_steps))]
 pub fn check(alloc: Global, kernel: Kernel) -> Result<Checked, Refusal>
     requires lawful { IsLawfulKernel (kernel_of kernel) }
-    requires small { is_small_kernel (kernel_of kernel) ≡ true }
     ensures { Judges kernel result }
 {
-    judge(alloc, &kernel.funs)?;
-    Ok(kept(alloc, kernel)?)
-}
-
-// Whether a kernel is accepted.
-fn judge(alloc: Global, functions: &Items<KFun>) -> Result<(), Refusal>
-    requires small { IsSmallKernel (map function_of functions.now) }
-    ensures { IsJudged (map function_of functions.now) result }
-{
-    check_functions(alloc, functions)
-}
-
-// What is kept of a kernel that is accepted.
-fn kept(alloc: Global, kernel: Kernel) -> Result<Checked, Memory>
-    requires lawful { IsLawfulKernel (kernel_of kernel) }
-    requires small { IsSmallKernel (kernel_of kernel) }
-    requires accepted { IsAcceptedKernel (kernel_of kernel) }
-    ensures { IfOk result (λ checked. IsChecked kernel checked) }
-{
-    let cores = cores_of(alloc, &kernel.funs)?;
-    let derivs = trees_of(alloc, &kernel.funs)?;
-    Ok(Checked::new(kernel, cores, derivs))
-}
-
-fn check_functions(alloc: Global, functions: &Items<KFun>) -> Result<(), Refusal>
-    requires small { IsSmallKernel (map function_of functions.now) }
-    ensures { Agrees unit_of result (check_kernel (map function_of functions.now)) }
-{
-    for fun in functions.as_slice() {
-        check_function(alloc, functions, fun)?;
+    match check_functions(alloc, &kernel.funs) {
+        Ok(KeptBodies { cores, trees }) => Ok(Checked::new(kernel, cores, trees)),
+        Err(stop) => Err(refused(stop)),
     }
-    Ok(())
 }
 
-fn check_function(alloc: Global, functions: &Items<KFun>, fun: &KFun) -> Result<(), Refusal>
-    requires small { IsSmallBody (length (map function_of functions.now)) (maybe_body_of fun.now.body) }
-    ensures { Agrees unit_of result (function_pass (map function_of functions.now) (function_of fun.now)) }
+// Why a kernel is refused where the pass stops.
+fn refused(stop: Stop) -> Refusal
+    ensures { result ≡ refusal_of stop }
+{
+    match stop {
+        Stop::Rule(rule, place) => Refusal::Rule(rule, place),
+        Stop::Size(_) => Refusal::Limit(Limit::Ty),
+        Stop::Memory => Refusal::Memory,
+    }
+}
+
+// What is kept of each function.
+fn check_functions(alloc: Global, functions: &Items<KFun>) -> Result<KeptBodies, Stop>
+    ensures { Agrees lists_of result (as_lists (pass.check_kernel (map function_of functions.now))) }
+{
+    let mut kept = KeptBodies::new(alloc);
+    for fun in functions.as_slice() {
+        kept.push(check_function(alloc, functions, fun)?)?;
+    }
+    Ok(kept)
+}
+
+// A function: its signature's type, and then its body.
+fn check_function(
+    alloc: Global,
+    functions: &Items<KFun>,
+    fun: &KFun,
+) -> Result<Option<KeptBody>, Stop>
+    ensures { Agrees maybe_both result (pass.check_function (map function_of functions.now) (function_of fun.now)) }
 {
     let Ty::Arrow(argument, gives) = &fun.ty.ty else {
-        return Err(Refusal::Rule(Rule::T4, fun.ty.place));
+        return Err(Stop::Rule(Rule::T4, fun.ty.place));
     };
+    if !has_word_arrays(&fun.ty.ty) {
+        return Err(Stop::Rule(Rule::T14, fun.ty.place));
+    }
     let Some(body) = &fun.body else {
-        return Ok(());
+        return Ok(None);
     };
     let source = Source {
         alloc,
         functions,
         vars: &fun.vars,
     };
-    check_body(&source, argument, gives, body)
+    Ok(Some(check_body(&source, argument, gives, body)?))
 }
 
-// A body, in the context of its argument alone, checked against the result.
-fn check_body(source: &Source, argument: &Ty, gives: &Ty, body: &KBody) -> Result<(), Refusal>
-    requires small { IsSmall (length (map function_of source.now.functions.now)) 1 (the_term body.now.term) }
-    ensures { Agrees unit_of result (body_pass (map function_of source.now.functions.now) (bounds_of source.now.vars.now)
-        (type_of argument.now) (type_of gives.now) (Some (body_of body.now))) }
+// A body in the context of its argument alone, checked against the result.
+fn check_body(source: &Source, argument: &Ty, gives: &Ty, body: &KBody) -> Result<KeptBody, Stop>
+    ensures { Agrees a_body result (pass.check_body (map function_of source.now.functions.now) (bounds_of source.now.vars.now) (type_of argument.now) (type_of gives.now) (Some (body_of body.now))) }
+{
+    let got = check_alone(source, argument, gives, &body.term)?;
+    let droppable = kinds_of(argument, source.vars).drop;
+    end_body(source.alloc, droppable, body.param, got)
+}
+
+// A term in the context of an argument alone.
+fn check_alone(source: &Source, argument: &Ty, gives: &Ty, term: &Term<Place>) -> Result<Got, Stop>
+    ensures { Agrees got_of result (pass.check (map function_of source.now.functions.now) (bounds_of source.now.vars.now) (type_of argument.now ∷ []) (false ∷ []) (Some (type_of gives.now)) (the_term term.now)) }
 {
     let mut context = alone(source.alloc, argument)?;
-    let before = no_uses(source.alloc, 1)?;
-    let direction = Some(gives.copy(source.alloc)?);
-    let got = check_term(source, &mut context, &before, &direction, &body.term)?;
-    end_body(body.param, kinds_of(argument, source.vars).drop, got)
+    let before = untouched(source.alloc)?;
+    check_term(source, &mut context, &before, Some(gives), term)
 }
 
-// K3 where a body ends.
-fn end_body(binder: Place, drops: bool, got: Got) -> Result<(), Refusal>
-    requires one { length got.uses.items ≡ 1 }
-    ensures { Agrees unit_of result (need K3 binder (drops || last_of got.uses.items) (Ok tt)) }
+// The context of an argument alone. Want of memory is its one refusal.
+fn alone(alloc: Global, argument: &Ty) -> Result<Vec<Known>, Memory>
+    ensures { IfOk result (λ context. entries_of context.items ≡ fresh (type_of argument.now) ∷ []) }
 {
-    let mut uses = got.uses;
-    let used = uses.pop().unwrap_or(false);
-    if drops || used {
-        Ok(())
-    } else {
-        Err(Refusal::Rule(Rule::K3, binder))
-    }
+    let mut context = Vec::new(alloc);
+    context.push(Known {
+        ty: argument.copy(alloc)?,
+        observed: false,
+    })?;
+    Ok(context)
+}
+
+// One variable that isn't touched. Want of memory is its one refusal.
+fn untouched(alloc: Global) -> Result<Vec<bool>, Memory>
+    ensures { IfOk result (λ flags. flags.items ≡ false ∷ []) }
+{
+    Ok(vec![in alloc; false; 1]?)
+}
+
+// Where a body ends: K3, and what is kept of it.
+fn end_body(alloc: Global, droppable: bool, binder: Place, got: Got) -> Result<KeptBody, Stop>
+    ensures { Agrees a_body result (ended droppable binder (tables.last (got_of got).uses) (Ok (Some (both_in (got_of got))))) }
+{
+    let (core, tree, mut uses) = got.apart();
+    let given = leave(&mut uses);
+    end_scope(droppable, binder, given)?;
+    let tree = settled(alloc, given, tree)?;
+    Ok(KeptBody {
+        core: Box::into_inner(core),
+        tree,
+    })
+}
+
+// The derivation of a body where its argument is present, of which this becomes. Want of memory is its one refusal.
+fn settled(alloc: Global, given: Use, mut tree: Deriv) -> Result<Deriv, Memory>
+    ensures { IfOk result (λ t. derivation_of t ≡ splits.settled (splits.kept_new 0 given) (derivation_of tree)) }
+{
+    let mut kept = Vec::new(alloc);
+    keep_new(&mut kept, 0, given)?;
+    settle(&mut tree, &kept);
+    Ok(tree)
 }

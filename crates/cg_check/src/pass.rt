@@ -1,438 +1,1279 @@
 // The pass over a term.
-#![tactic(auto, unfolding(crate::specs::Pass::check, cg_derive::proofs::SourceSteps::size), using(crate::proofs::PassSteps::pass_steps))]
+#![tactic(auto, unfolding(cg_check_laws::specs::Pass::check, crate::proofs::PassSteps::size), using(crate::proofs::PassSteps::pass_steps))]
 
-ghost use Rattle.std.specs.Prelude.{◌≡◌, ◌<◌, ◌||◌, suc, not, length, map, IfOk, MatchOption, true, false, Some, None, Ok};
-ghost use Rattle.cg_base.specs.Types.{type_of, word as word_type};
-ghost use Rattle.cg_core.specs.Kernels.{the_term, function_of};
-ghost use Rattle.cg_core.specs.Terms.{var as var_of, op as op_of, app as app_of, lets as lets_of, more, none};
-ghost use Rattle.cg_core.specs.declared.op.Op.TheVariants.{Add};
-ghost use Rattle.cg_base.specs.declared.fun.Fun.TheVariants.{User};
-ghost use Rattle.cg_kinds.specs.Kinds.{is_word as word_of};
-ghost use Rattle.cg_typing.specs.Contexts.{push as push_of, shares, drops};
-ghost use Rattle.cg_typing.specs.Rules.{is_literal as literal_of};
-ghost use Rattle.cg_faults.specs.Faults.{plain_at, in_range as in_range_of, is_arrow, taken_by, given_by};
-ghost use Rattle.cg_faults.specs.declared.rule.Rule.TheVariants.{K3};
-ghost use Rattle.cg_core.specs.Small.{IsSmall, IsSmallShape};
-ghost use Rattle.cg_check.specs.Pass.{meet as meet_of, check as check_of, check_shape, joined as joined_of, front as front_of, last as last_of, flag_at, synthesised, literal, need};
-ghost use Rattle.cg_derive.specs.View.{direction_of};
-ghost use Rattle.cg_check.specs.View.{bounds_of, got_of, unit_of, Agrees};
+ghost use Rattle.std.specs.Prelude.{◌≡◌, IfOk, length, map, None, Some, false, true};
+ghost use Rattle.std.specs.Option.{option_copied, option_map};
+ghost use Rattle.cg_base.specs.Types.{type_of, bool as bool_type, part_of, to_parts, unit as unit_type};
+ghost use Rattle.cg_core.specs.Kernels.{function_of, the_core_form, the_field, the_term};
+ghost use Rattle.cg_core.specs.Terms as terms;
+ghost use Rattle.cg_core.specs.Terms.{arg_of, to_named, to_trees};
+ghost use Rattle.cg_check_laws.specs.Pass.{binary, check as check_of, check_shape, check_fields as fields_by, leaf as leaf_by, unary};
+ghost use Rattle.cg_context.specs.View.{Agrees, bounds_of, entries_of, types_in, way_of};
+ghost use Rattle.cg_nodes.specs.Gots.{got_of};
+ghost use Rattle.cg_typing.specs.Contexts.{push as push_of};
+ghost use Rattle.cg_typing.specs.Rules.{is_literal as literal_of, note_at as note_of, second_branch};
+ghost use Rattle.cg_nodes.specs.Fields.{fields_of};
+ghost use Rattle.cg_check.specs.Forms.{case_by, case_end, if_by, let_bang_by, let_by, matched_by, member_by, other_by, put_by, scoped, take_by, taken_by};
+ghost use Rattle.cg_nodes.specs.Nodes.{shape_at};
+ghost use Rattle.cg_context.specs.Observed.{see};
+ghost use Rattle.cg_check.specs.Operators.{compared, comparison};
+ghost use Rattle.cg_faults.specs.Events.{part_directions};
+ghost use Rattle.cg_faults.specs.Plain.{mentioned as mentioned_type, observed};
+ghost use Rattle.cg_parts.specs.Views.{the_sort};
+ghost use Rattle.cg_typing.specs.Operators.{arithmetic, logic, sort_of as sort_by};
+ghost use Rattle.cg_uses.specs.Uses as tables;
+ghost use Rattle.cg_core.specs.declared.derivation.Node.TheVariants as nodes;
 
-use crate::Refusal;
-use crate::flags::{joined, one_use};
-use cg_base::{Memory, Place, Ty, Word};
-use cg_core::{Form, Fun, Term};
-use cg_derive::{Source, both_of, enter, is_literal, leave, no_uses, type_at, type_of_function};
-use cg_faults::Rule;
-use cg_kinds::{kinds_of, same};
+use cg_base::{Fun, Items, Memory, Name, Part, Place, Ty};
+use cg_context::{
+    Known, Source, Stop, alternative_type, branches, but_last, copied_arguments, end, enter,
+    escape, flags_of, injected_type, inner, inner_seen, inner_two, last_type, last_use, leave,
+    may_touch, meet, member_type, need, observe, observe_all, put_type, restore, taken_type,
+    type_at, use_before_last,
+};
+use cg_core::{At, FieldTerm, Form, Node, Op, Seen, Term, TyArg, Typed};
+use cg_faults::{Rule, Use};
+use cg_nodes::{
+    Fields, Got, annot_node, app_node, are_none, case_node, cast_node, con_node, esac_node,
+    if_node, later_wanted, leaf_of, let_bang_node, let_node, member_node, next_wanted, no_fields,
+    operated, operated_both, parts_of, put_in_front, put_node, record_node, struct_node, take_node,
+};
+use cg_parts::{
+    Sort, arguments_fault, has_word_arrays, in_range, is_made_of, is_small_enough, is_word,
+    mentioned, sort_of, takes, widens, with_part,
+};
+use cg_uses::{mark, no_uses, one_use, seen_places};
 use std::alloc::Global;
 
-/// The type of a term, and which variables of the context it uses.
-#[derive(Drop)]
-pub struct Got {
-    pub ty: Ty,
-    pub uses: Vec<bool>,
-}
-
-// T1 where a synthesised type is checked.
-fn meet(direction: &Option<Ty>, place: Place, ty: &Ty) -> Result<(), Refusal>
-    ensures { Agrees unit_of result (meet_of (direction_of direction.now) place (type_of ty.now) (Ok tt)) }
+/// What a term comes to, in a context and a direction, behind parts that touched some variables: as the pass answers it.
+#[cycle(check)]
+pub fn check_term(
+    source: &Source,
+    context: &mut Vec<Known>,
+    before: &Vec<bool>,
+    direction: Option<&Ty>,
+    term: &Term<Place>,
+) -> Result<Got, Stop>
+    ensures answer { Agrees got_of result (check_of (map function_of source.now.functions.now) (bounds_of source.now.vars.now) (types_in (entries_of context.old.items)) before.now.items (way_of (option_copied direction.entry)) (the_term term.now)) }
+    ensures same { IfOk result (λ _. entries_of context.new.items ≡ entries_of context.old.items) }
 {
-    match direction {
-        None => Ok(()),
-        Some(wanted) => {
-            if same(wanted, ty) {
-                Ok(())
-            } else {
-                Err(Refusal::Rule(Rule::T1, place))
-            }
-        }
+    let got = check_form(source, context, before, direction, term)?;
+    if is_small_enough(got.ty()) {
+        Ok(got)
+    } else {
+        Err(Stop::Size(term.note))
     }
 }
 
-// The answer of a form that synthesises.
-fn met(direction: &Option<Ty>, place: Place, ty: Ty, uses: Vec<bool>) -> Result<Got, Refusal>
-    ensures answer { Agrees got_of result (meet_of (direction_of direction.now) place (type_of ty) (Ok (type_of ty, uses.items))) }
-    ensures long { IfOk result (λ got. length got.uses.items ≡ length uses.items) }
+// The same, whatever the size of its type.
+#[cycle(check)]
+fn check_form(
+    source: &Source,
+    context: &mut Vec<Known>,
+    before: &Vec<bool>,
+    direction: Option<&Ty>,
+    term: &Term<Place>,
+) -> Result<Got, Stop>
+    ensures answer { Agrees got_of result (check_shape (map function_of source.now.functions.now) (bounds_of source.now.vars.now) (types_in (entries_of context.old.items)) before.now.items (way_of (option_copied direction.entry)) (note_of (the_term term.now)) (shape_at (the_term term.now))) }
+    ensures same { IfOk result (λ _. entries_of context.new.items ≡ entries_of context.old.items) }
 {
-    meet(direction, place, &ty)?;
-    Ok(Got { ty, uses })
-}
-
-// Whether a variable may be used.
-fn may_use(source: &Source, context: &Vec<Ty>, before: &Vec<bool>, at: usize) -> bool
-    requires within { at < length context.now.items }
-    requires long { length before.now.items ≡ length context.now.items }
-    ensures { result ≡ (not (flag_at before.now.items at) || shares (bounds_of source.now.vars.now) (plain_at (map type_of context.now.items) at)) }
-{
-    !before[at] || kinds_of(&context[at], source.vars).share
+    let place = term.note;
+    match &term.form {
+        Form::Var(at) => check_var(source, context, before, direction, place, *at),
+        Form::Unit => check_unit(source, context, before, direction, place),
+        Form::Bool(value) => check_bool(source, context, before, direction, place, *value),
+        Form::Lit(value) => check_literal(source, context, before, direction, place, *value),
+        Form::Fun(fun, args) => check_mention(
+            source, context, before, direction, place, *fun, args,
+        ),
+        Form::Op(op, operands) => check_op(
+            source, context, before, direction, place, *op, operands,
+        ),
+        Form::App(fun, arg) => check_app(source, context, before, direction, place, fun, arg),
+        Form::Let(binder, value, body) => check_let(
+            source, context, before, direction, place, *binder, value, body,
+        ),
+        Form::LetBang(observers, binder, value, body) => {
+            check_let_bang(
+                source, context, before, direction, place, observers, *binder, value, body,
+            )
+        }
+        Form::If(test, first, second) => check_if(
+            source, context, before, direction, place, test, first, second,
+        ),
+        Form::Con(name, part) => check_con(source, context, before, direction, place, name, part),
+        Form::Case(value, at, binder, first, second) => {
+            check_case(
+                source, context, before, direction, place, value, at, *binder, first, second,
+            )
+        }
+        Form::Esac(at, part) => check_esac(source, context, before, direction, place, at, part),
+        Form::Struct(fields) => check_struct(source, context, before, direction, place, fields),
+        Form::Member(part, at) => check_member(source, context, before, direction, place, part, at),
+        Form::Take(value, at, rest, binder, body) => {
+            check_take(
+                source, context, before, direction, place, value, at, *rest, *binder, body,
+            )
+        }
+        Form::Put(value, at, part) => check_put(
+            source, context, before, direction, place, value, at, part,
+        ),
+        Form::Cast(part) => check_cast(source, context, before, direction, place, part),
+        Form::Annot(part, arg) => check_annot(source, context, before, direction, place, part, arg),
+    }
 }
 
 // A variable.
 fn check_var(
     source: &Source,
-    context: &Vec<Ty>,
+    context: &mut Vec<Known>,
     before: &Vec<bool>,
-    direction: &Option<Ty>,
+    direction: Option<&Ty>,
     place: Place,
-    var: u32,
-) -> Result<Got, Refusal>
-    requires within { var < length context.now.items }
-    requires long { length before.now.items ≡ length context.now.items }
-    ensures answer { Agrees got_of result (check_shape (map function_of source.now.functions.now) (bounds_of source.now.vars.now)
-        (map type_of context.now.items) before.now.items (direction_of direction.now) place (var_of var)) }
-    ensures uses { IfOk result (λ got. length got.uses.items ≡ length context.now.items) }
+    at: u32,
+) -> Result<Got, Stop>
+    ensures answer { Agrees got_of result (check_shape (map function_of source.now.functions.now) (bounds_of source.now.vars.now) (types_in (entries_of context.old.items)) before.now.items (way_of (option_copied direction.entry)) place (terms.var at)) }
+    ensures same { IfOk result (λ _. entries_of context.new.items ≡ entries_of context.old.items) }
 {
-    let at = var as usize;
-    if !may_use(source, context, before, at) {
-        return Err(Refusal::Rule(Rule::K4, place));
+    let var = at as usize;
+    if !may_touch(source, context, before, var) {
+        return Err(Stop::Rule(Rule::K4, place));
     }
-    let ty = type_at(source, context, at)?;
-    let uses = one_use(source.alloc, context.len(), at)?;
-    met(direction, place, ty, uses)
+    let ty = type_at(source.alloc, context, var)?;
+    meet(direction, place, &ty)?;
+    let uses = one_use(source.alloc, context.len(), var)?;
+    Ok(leaf_of(source.alloc, place, ty, Form::Var(at), Node::Var, uses)?)
 }
 
-// A leaf that synthesises a type.
-fn check_leaf(
+// A leaf of this type.
+fn check_bool(
     source: &Source,
-    context: &Vec<Ty>,
-    direction: &Option<Ty>,
+    context: &mut Vec<Known>,
+    before: &Vec<bool>,
+    direction: Option<&Ty>,
     place: Place,
-    ty: Ty,
-) -> Result<Got, Refusal>
-    ensures answer { Agrees got_of result
-        (synthesised (length (map type_of context.now.items)) (direction_of direction.now) place (type_of ty)) }
-    ensures uses { IfOk result (λ got. length got.uses.items ≡ length context.now.items) }
+    value: bool,
+) -> Result<Got, Stop>
+    ensures answer { Agrees got_of result (check_shape (map function_of source.now.functions.now) (bounds_of source.now.vars.now) (types_in (entries_of context.old.items)) before.now.items (way_of (option_copied direction.entry)) place (terms.bool value)) }
+    ensures same { IfOk result (λ _. entries_of context.new.items ≡ entries_of context.old.items) }
 {
     let uses = no_uses(source.alloc, context.len())?;
-    met(direction, place, ty, uses)
+    meet(direction, place, &Ty::Bool)?;
+    Ok(leaf_of(
+        source.alloc,
+        place,
+        Ty::Bool,
+        Form::Bool(value),
+        Node::Bool,
+        uses,
+    )?)
 }
 
-// Whether a literal is in range of a word.
-fn in_range(value: Option<u64>, word: Word) -> bool
-    ensures { result ≡ in_range_of value (word_type word) }
+// Unit.
+fn check_unit(
+    source: &Source,
+    context: &mut Vec<Known>,
+    before: &Vec<bool>,
+    direction: Option<&Ty>,
+    place: Place,
+) -> Result<Got, Stop>
+    ensures answer { Agrees got_of result (check_shape (map function_of source.now.functions.now) (bounds_of source.now.vars.now) (types_in (entries_of context.old.items)) before.now.items (way_of (option_copied direction.entry)) place (terms.unit)) }
+    ensures same { IfOk result (λ _. entries_of context.new.items ≡ entries_of context.old.items) }
 {
-    let Some(value) = value else { return false };
-    match word {
-        Word::U8 => value < 0x100,
-        Word::U16 => value < 0x1_0000,
-        Word::U32 => value < 0x1_0000_0000,
-        Word::U64 => true,
-    }
+    let uses = no_uses(source.alloc, context.len())?;
+    meet(direction, place, &Ty::Unit)?;
+    Ok(leaf_of(source.alloc, place, Ty::Unit, Form::Unit, Node::Unit, uses)?)
 }
 
 // A literal.
-fn check_lit(
+fn check_literal(
     source: &Source,
-    context: &Vec<Ty>,
-    direction: &Option<Ty>,
+    context: &mut Vec<Known>,
+    before: &Vec<bool>,
+    direction: Option<&Ty>,
     place: Place,
     value: Option<u64>,
-) -> Result<Got, Refusal>
-    ensures answer { Agrees got_of result
-        (literal (length (map type_of context.now.items)) (direction_of direction.now) place value) }
-    ensures uses { IfOk result (λ got. length got.uses.items ≡ length context.now.items) }
+) -> Result<Got, Stop>
+    ensures answer { Agrees got_of result (check_shape (map function_of source.now.functions.now) (bounds_of source.now.vars.now) (types_in (entries_of context.old.items)) before.now.items (way_of (option_copied direction.entry)) place (terms.lit value)) }
+    ensures same { IfOk result (λ _. entries_of context.new.items ≡ entries_of context.old.items) }
 {
-    let Some(wanted) = direction else {
-        return Err(Refusal::Rule(Rule::T2, place));
+    let Some(ty) = direction else {
+        return Err(Stop::Rule(Rule::T2, place));
     };
-    let Ty::Word(word) = wanted else {
-        return Err(Refusal::Rule(Rule::T1, place));
-    };
-    if !in_range(value, *word) {
-        return Err(Refusal::Rule(Rule::T3, place));
-    }
+    need(Rule::T1, place, is_word(ty))?;
+    need(Rule::T3, place, in_range(value, ty))?;
     let uses = no_uses(source.alloc, context.len())?;
-    Ok(Got {
-        ty: Ty::Word(*word),
-        uses,
-    })
+    let ty = ty.copy(source.alloc)?;
+    Ok(leaf_of(source.alloc, place, ty, Form::Lit(value), Node::Lit, uses)?)
 }
 
-// An arrow's two types.
-fn ends_of(ty: Ty) -> Option<(Ty, Ty)>
-    ensures { MatchOption result (is_arrow (type_of ty) ≡ false)
-        (λ ends. (is_arrow (type_of ty) ≡ true) × (type_of ends.0 ≡ taken_by (type_of ty)) × (type_of ends.1 ≡ given_by (type_of ty))) }
-{
-    match ty {
-        Ty::Arrow(from, to) => Some((Box::into_inner(from), Box::into_inner(to))),
-        _ => None,
-    }
-}
-
-fn is_word(ty: &Ty) -> bool
-    ensures { result ≡ word_of (type_of ty.now) }
-{
-    matches!(ty, Ty::Word(_))
-}
-
-fn join_got(alloc: Global, uses: &Vec<bool>, got: Got) -> Result<Vec<bool>, Memory>
-    requires long { length uses.now.items ≡ length got.uses.items }
-    ensures items { IfOk result (λ all. all.items ≡ joined_of uses.now.items got.uses.items) }
-    ensures long { IfOk result (λ all. length all.items ≡ length uses.now.items) }
-{
-    joined(alloc, uses, &got.uses)
-}
-
-// What is used before the next part.
-fn after(alloc: Global, before: &Vec<bool>, uses: &Vec<bool>) -> Result<Vec<bool>, Memory>
-    requires long { length uses.now.items ≡ length before.now.items }
-    ensures items { IfOk result (λ all. all.items ≡ joined_of before.now.items uses.now.items) }
-    ensures long { IfOk result (λ all. length all.items ≡ length before.now.items) }
-{
-    joined(alloc, before, uses)
-}
-
-// The same before the last part of a binder, whose variable is new.
-fn after_binder(alloc: Global, before: &Vec<bool>, uses: &Vec<bool>) -> Result<Vec<bool>, Memory>
-    requires long { length uses.now.items ≡ length before.now.items }
-    ensures items { IfOk result (λ all. all.items ≡ push_of (joined_of before.now.items uses.now.items) false) }
-    ensures long { IfOk result (λ all. length all.items ≡ suc (length before.now.items)) }
-{
-    let mut all = after(alloc, before, uses)?;
-    all.push(false)?;
-    Ok(all)
-}
-
-// The end of a scope: K3, and the uses of both parts.
-fn end_let(
-    alloc: Global,
-    binder: Place,
-    drops: bool,
-    uses: &Vec<bool>,
-    got: Got,
-) -> Result<Got, Refusal>
-    requires long { length got.uses.items ≡ suc (length uses.now.items) }
-    ensures answer { Agrees got_of result (need K3 binder (drops || last_of got.uses.items) (Ok (type_of got.ty, joined_of uses.now.items (front_of got.uses.items)))) }
-    ensures long { IfOk result (λ all. length all.uses.items ≡ length uses.now.items) }
-{
-    let Got {
-        ty,
-        uses: mut outer,
-    } = got;
-    let used = outer.pop().unwrap_or(false);
-    if !drops && !used {
-        return Err(Refusal::Rule(Rule::K3, binder));
-    }
-    let uses = joined(alloc, uses, &outer)?;
-    Ok(Got { ty, uses })
-}
-
-#[cycle(check)]
-pub fn check_term(
+// A function that is mentioned.
+fn check_mention(
     source: &Source,
-    context: &mut Vec<Ty>,
+    context: &mut Vec<Known>,
     before: &Vec<bool>,
-    direction: &Option<Ty>,
-    term: &Term<Place>,
-) -> Result<Got, Refusal>
-    requires small { IsSmall (length (map function_of source.now.functions.now)) (length context.old.items) (the_term term.now) }
-    requires long { length before.now.items ≡ length context.old.items }
-    ensures answer { Agrees got_of result (check_of (map function_of source.now.functions.now) (bounds_of source.now.vars.now)
-        (map type_of context.old.items) before.now.items (direction_of direction.now) (the_term term.now)) }
-    ensures uses { IfOk result (λ got. length got.uses.items ≡ length context.old.items) }
-    ensures same { IfOk result (λ got. map type_of context.new.items ≡ map type_of context.old.items) }
-    ensures size { IfOk result (λ got. length context.new.items ≡ length context.old.items) }
-{
-    let place = term.note;
-    match &term.form {
-        Form::Var(var) => check_var(source, context, before, direction, place, *var),
-        Form::Unit => check_leaf(source, context, direction, place, Ty::Unit),
-        Form::Lit(value) => check_lit(source, context, direction, place, *value),
-        Form::Fun(Fun::User(function), _) => {
-            let ty = type_of_function(source, *function)?;
-            check_leaf(source, context, direction, place, ty)
-        }
-        Form::Op(_, operands) => {
-            let (left, right) = both_of(operands);
-            check_sum(source, context, before, direction, place, left, right)
-        }
-        Form::App(fun, arg) => check_app(source, context, before, direction, place, fun, arg),
-        Form::Let(binder, value, body) => {
-            check_let(
-                source, context, before, direction, place, *binder, value, body,
-            )
-        }
-        _ => unreachable!(),
-    }
-}
-
-#[cycle(check)]
-fn check_sum(
-    source: &Source,
-    context: &mut Vec<Ty>,
-    before: &Vec<bool>,
-    direction: &Option<Ty>,
+    direction: Option<&Ty>,
     place: Place,
-    left: &Term<Place>,
-    right: &Term<Place>,
-) -> Result<Got, Refusal>
-    requires small { IsSmallShape (length (map function_of source.now.functions.now)) (length context.old.items) (op_of Add (more (the_term left.now) (more (the_term right.now) none))) }
-    requires long { length before.now.items ≡ length context.old.items }
-    ensures answer { Agrees got_of result (check_shape (map function_of source.now.functions.now) (bounds_of source.now.vars.now)
-        (map type_of context.old.items) before.now.items (direction_of direction.now) place (op_of Add (more (the_term left.now) (more (the_term right.now) none)))) }
-    ensures uses { IfOk result (λ got. length got.uses.items ≡ length context.old.items) }
-    ensures same { IfOk result (λ got. map type_of context.new.items ≡ map type_of context.old.items) }
-    ensures size { IfOk result (λ got. length context.new.items ≡ length context.old.items) }
+    fun: Fun,
+    args: &Items<TyArg>,
+) -> Result<Got, Stop>
+    ensures answer { Agrees got_of result (check_shape (map function_of source.now.functions.now) (bounds_of source.now.vars.now) (types_in (entries_of context.old.items)) before.now.items (way_of (option_copied direction.entry)) place (terms.fun fun (map arg_of args.now))) }
+    ensures same { IfOk result (λ _. entries_of context.new.items ≡ entries_of context.old.items) }
 {
-    match direction {
-        Some(wanted) => check_sum_against(source, context, before, wanted, place, left, right),
-        None => {
-            if is_literal(left) {
-                check_sum_by_right(source, context, before, place, left, right)
-            } else {
-                check_sum_by_left(source, context, before, place, left, right)
-            }
-        }
+    match arguments_fault(source.functions, source.vars, fun, args) {
+        Some((rule, at)) => Err(Stop::Rule(rule, at)),
+        None => check_instance(source, context, direction, place, fun, args),
     }
 }
 
-// A sum that is checked against a type.
-#[cycle(check)]
-fn check_sum_against(
+// A function that is mentioned with type arguments as it asks for them.
+fn check_instance(
     source: &Source,
-    context: &mut Vec<Ty>,
+    context: &Vec<Known>,
+    direction: Option<&Ty>,
+    place: Place,
+    fun: Fun,
+    args: &Items<TyArg>,
+) -> Result<Got, Stop>
+    ensures { Agrees got_of result (leaf_by (length (types_in (entries_of context.now.items))) (way_of (option_copied direction.entry)) place
+        (mentioned_type (map function_of source.now.functions.now) fun (map arg_of args.now)) (terms.fun fun (map arg_of args.now)) nodes.Fun) }
+{
+    let ty = mentioned(source.alloc, source.functions, fun, args)?;
+    meet(direction, place, &ty)?;
+    let uses = no_uses(source.alloc, context.len())?;
+    let args = copied_arguments(source.alloc, args)?;
+    Ok(leaf_of(
+        source.alloc,
+        place,
+        ty,
+        Form::Fun(fun, args),
+        Node::Fun,
+        uses,
+    )?)
+}
+
+// An operator.
+#[cycle(check)]
+fn check_op(
+    source: &Source,
+    context: &mut Vec<Known>,
+    before: &Vec<bool>,
+    direction: Option<&Ty>,
+    place: Place,
+    op: Op,
+    operands: &Items<Term<Place>>,
+) -> Result<Got, Stop>
+    ensures answer { Agrees got_of result (check_shape (map function_of source.now.functions.now) (bounds_of source.now.vars.now) (types_in (entries_of context.old.items)) before.now.items (way_of (option_copied direction.entry)) place (terms.op op (to_trees (map the_term operands.now)))) }
+    ensures same { IfOk result (λ _. entries_of context.new.items ≡ entries_of context.old.items) }
+{
+    match operands.as_slice() {
+        [part] => check_unary(source, context, before, direction, place, op, part),
+        [left, right] => check_binary(source, context, before, direction, place, op, left, right),
+        _ => check_bare(source, context, place, op),
+    }
+}
+
+// Whether a term is a literal.
+fn is_literal(term: &Term<Place>) -> bool
+    ensures { result ≡ literal_of (the_term term.now) }
+{
+    matches!(term.form, Form::Lit(_))
+}
+
+// No use of any variable of a context.
+#[tactic(auto, using(crate::proofs::OperandSteps::bare_steps))]
+fn unused(alloc: Global, context: &Vec<Known>) -> Result<Vec<Use>, Memory>
+    ensures { IfOk result (λ uses. uses.items ≡ tables.no_uses (length (types_in (entries_of context.now.items)))) }
+{
+    no_uses(alloc, context.len())
+}
+
+// The form of an operator without operands.
+#[tactic(auto, using(crate::proofs::OperandSteps::bare_steps))]
+fn bare(alloc: Global, op: Op) -> Form<Typed>
+    ensures { the_core_form result ≡ terms.op op terms.none }
+{
+    Form::Op(op, Items::new(alloc))
+}
+
+// An operator that has neither one operand nor two.
+fn check_bare(source: &Source, context: &Vec<Known>, place: Place, op: Op) -> Result<Got, Stop>
+    ensures { Agrees got_of result (leaf_by (length (types_in (entries_of context.now.items))) None place unit_type (terms.op op terms.none) nodes.Op) }
+{
+    let uses = unused(source.alloc, context)?;
+    let form = bare(source.alloc, op);
+    Ok(leaf_of(source.alloc, place, Ty::Unit, form, Node::Op, uses)?)
+}
+
+// An operator with one operand.
+#[cycle(check)]
+fn check_unary(
+    source: &Source,
+    context: &mut Vec<Known>,
+    before: &Vec<bool>,
+    direction: Option<&Ty>,
+    place: Place,
+    op: Op,
+    part: &Term<Place>,
+) -> Result<Got, Stop>
+    ensures answer { Agrees got_of result (unary (sort_by op) op (way_of (option_copied direction.entry)) place before.now.items (λ flags way. check_of (map function_of source.now.functions.now) (bounds_of source.now.vars.now) (types_in (entries_of context.old.items)) flags way (the_term part.now))) }
+    ensures same { IfOk result (λ _. entries_of context.new.items ≡ entries_of context.old.items) }
+{
+    let sort = sort_of(op);
+    match sort {
+        Sort::Logic => check_logic(source, context, before, direction, place, op, part),
+        Sort::Arithmetic => match direction {
+            Some(wanted) => check_arithmetic_against(
+                source, context, before, wanted, place, op, part,
+            ),
+            None => check_arithmetic(source, context, before, place, op, part),
+        },
+        Sort::Equality | Sort::Order => check_compared(
+            source, context, before, direction, place, op, sort, part,
+        ),
+    }
+}
+
+// A truth value of one.
+#[cycle(check)]
+fn check_logic(
+    source: &Source,
+    context: &mut Vec<Known>,
+    before: &Vec<bool>,
+    direction: Option<&Ty>,
+    place: Place,
+    op: Op,
+    part: &Term<Place>,
+) -> Result<Got, Stop>
+    ensures answer { Agrees got_of result (unary logic op (way_of (option_copied direction.entry)) place before.now.items (λ flags way. check_of (map function_of source.now.functions.now) (bounds_of source.now.vars.now) (types_in (entries_of context.old.items)) flags way (the_term part.now))) }
+    ensures same { IfOk result (λ _. entries_of context.new.items ≡ entries_of context.old.items) }
+{
+    let got = check_term(source, context, before, Some(&Ty::Bool), part)?;
+    meet(direction, place, &Ty::Bool)?;
+    Ok(operated(source.alloc, op, place, Ty::Bool, got)?)
+}
+
+// A word of one that is checked against its type.
+#[cycle(check)]
+fn check_arithmetic_against(
+    source: &Source,
+    context: &mut Vec<Known>,
     before: &Vec<bool>,
     wanted: &Ty,
     place: Place,
-    left: &Term<Place>,
-    right: &Term<Place>,
-) -> Result<Got, Refusal>
-    requires small { IsSmallShape (length (map function_of source.now.functions.now)) (length context.old.items) (op_of Add (more (the_term left.now) (more (the_term right.now) none))) }
-    requires long { length before.now.items ≡ length context.old.items }
-    ensures answer { Agrees got_of result (check_shape (map function_of source.now.functions.now) (bounds_of source.now.vars.now)
-        (map type_of context.old.items) before.now.items (Some (type_of wanted.now)) place (op_of Add (more (the_term left.now) (more (the_term right.now) none)))) }
-    ensures uses { IfOk result (λ got. length got.uses.items ≡ length context.old.items) }
-    ensures same { IfOk result (λ got. map type_of context.new.items ≡ map type_of context.old.items) }
-    ensures size { IfOk result (λ got. length context.new.items ≡ length context.old.items) }
+    op: Op,
+    part: &Term<Place>,
+) -> Result<Got, Stop>
+    ensures answer { Agrees got_of result (unary arithmetic op (Some (type_of wanted.now)) place before.now.items (λ flags way. check_of (map function_of source.now.functions.now) (bounds_of source.now.vars.now) (types_in (entries_of context.old.items)) flags way (the_term part.now))) }
+    ensures same { IfOk result (λ _. entries_of context.new.items ≡ entries_of context.old.items) }
 {
     if !is_word(wanted) {
-        return Err(Refusal::Rule(Rule::T12, place));
+        return Err(Stop::Rule(Rule::T12, place));
     }
-    let direction = Some(wanted.copy(source.alloc)?);
-    let first = check_term(source, context, before, &direction, left)?;
-    let marked = after(source.alloc, before, &first.uses)?;
-    let second = check_term(source, context, &marked, &direction, right)?;
-    let uses = join_got(source.alloc, &first.uses, second)?;
-    Ok(Got {
-        ty: wanted.copy(source.alloc)?,
-        uses,
-    })
+    let got = check_term(source, context, before, Some(wanted), part)?;
+    let ty = wanted.copy(source.alloc)?;
+    Ok(operated(source.alloc, op, place, ty, got)?)
 }
 
-// A sum that is synthesised, whose guide is the left operand.
+// A word of one that is synthesised.
+#[cycle(check)]
+fn check_arithmetic(
+    source: &Source,
+    context: &mut Vec<Known>,
+    before: &Vec<bool>,
+    place: Place,
+    op: Op,
+    part: &Term<Place>,
+) -> Result<Got, Stop>
+    ensures answer { Agrees got_of result (unary arithmetic op None place before.now.items (λ flags way. check_of (map function_of source.now.functions.now) (bounds_of source.now.vars.now) (types_in (entries_of context.old.items)) flags way (the_term part.now))) }
+    ensures same { IfOk result (λ _. entries_of context.new.items ≡ entries_of context.old.items) }
+{
+    let got = check_term(source, context, before, None, part)?;
+    if !is_word(got.ty()) {
+        return Err(Stop::Rule(Rule::T12, place));
+    }
+    let ty = got.ty().copy(source.alloc)?;
+    Ok(operated(source.alloc, op, place, ty, got)?)
+}
+
+// A comparison with one operand.
+#[cycle(check)]
+fn check_compared(
+    source: &Source,
+    context: &mut Vec<Known>,
+    before: &Vec<bool>,
+    direction: Option<&Ty>,
+    place: Place,
+    op: Op,
+    sort: Sort,
+    part: &Term<Place>,
+) -> Result<Got, Stop>
+    ensures answer { Agrees got_of result (compared (the_sort sort) op (way_of (option_copied direction.entry)) place before.now.items (λ flags way. check_of (map function_of source.now.functions.now) (bounds_of source.now.vars.now) (types_in (entries_of context.old.items)) flags way (the_term part.now))) }
+    ensures same { IfOk result (λ _. entries_of context.new.items ≡ entries_of context.old.items) }
+{
+    let got = check_term(source, context, before, None, part)?;
+    if !takes(sort, got.ty()) {
+        return Err(Stop::Rule(Rule::T12, place));
+    }
+    meet(direction, place, &Ty::Bool)?;
+    Ok(operated(source.alloc, op, place, Ty::Bool, got)?)
+}
+
+// An operator with two operands.
+#[cycle(check)]
+fn check_binary(
+    source: &Source,
+    context: &mut Vec<Known>,
+    before: &Vec<bool>,
+    direction: Option<&Ty>,
+    place: Place,
+    op: Op,
+    left: &Term<Place>,
+    right: &Term<Place>,
+) -> Result<Got, Stop>
+    ensures answer { Agrees got_of result (binary (sort_by op) op (way_of (option_copied direction.entry)) place (literal_of (the_term left.now)) before.now.items (λ flags way. check_of (map function_of source.now.functions.now) (bounds_of source.now.vars.now) (types_in (entries_of context.old.items)) flags way (the_term left.now)) (λ flags way. check_of (map function_of source.now.functions.now) (bounds_of source.now.vars.now) (types_in (entries_of context.old.items)) flags way (the_term right.now))) }
+    ensures same { IfOk result (λ _. entries_of context.new.items ≡ entries_of context.old.items) }
+{
+    let sort = sort_of(op);
+    match sort {
+        Sort::Logic => check_logic_of_both(
+            source, context, before, direction, place, op, left, right,
+        ),
+        Sort::Arithmetic => match direction {
+            Some(wanted) => check_sum_against(
+                source, context, before, wanted, place, op, left, right,
+            ),
+            None => check_sum(source, context, before, place, op, left, right),
+        },
+        Sort::Equality | Sort::Order => check_comparison(
+            source, context, before, direction, place, op, sort, left, right,
+        ),
+    }
+}
+
+// A truth value of two.
+#[cycle(check)]
+fn check_logic_of_both(
+    source: &Source,
+    context: &mut Vec<Known>,
+    before: &Vec<bool>,
+    direction: Option<&Ty>,
+    place: Place,
+    op: Op,
+    left: &Term<Place>,
+    right: &Term<Place>,
+) -> Result<Got, Stop>
+    ensures answer { Agrees got_of result (binary logic op (way_of (option_copied direction.entry)) place (literal_of (the_term left.now)) before.now.items (λ flags way. check_of (map function_of source.now.functions.now) (bounds_of source.now.vars.now) (types_in (entries_of context.old.items)) flags way (the_term left.now)) (λ flags way. check_of (map function_of source.now.functions.now) (bounds_of source.now.vars.now) (types_in (entries_of context.old.items)) flags way (the_term right.now))) }
+    ensures same { IfOk result (λ _. entries_of context.new.items ≡ entries_of context.old.items) }
+{
+    let first = check_term(source, context, before, Some(&Ty::Bool), left)?;
+    let marked = mark(source.alloc, before, &first.uses)?;
+    let second = check_term(source, context, &marked, Some(&Ty::Bool), right)?;
+    meet(direction, place, &Ty::Bool)?;
+    Ok(operated_both(source.alloc, op, place, Ty::Bool, first, second)?)
+}
+
+// A word of two that is checked against its type.
+#[cycle(check)]
+fn check_sum_against(
+    source: &Source,
+    context: &mut Vec<Known>,
+    before: &Vec<bool>,
+    wanted: &Ty,
+    place: Place,
+    op: Op,
+    left: &Term<Place>,
+    right: &Term<Place>,
+) -> Result<Got, Stop>
+    ensures answer { Agrees got_of result (binary arithmetic op (Some (type_of wanted.now)) place (literal_of (the_term left.now)) before.now.items (λ flags way. check_of (map function_of source.now.functions.now) (bounds_of source.now.vars.now) (types_in (entries_of context.old.items)) flags way (the_term left.now)) (λ flags way. check_of (map function_of source.now.functions.now) (bounds_of source.now.vars.now) (types_in (entries_of context.old.items)) flags way (the_term right.now))) }
+    ensures same { IfOk result (λ _. entries_of context.new.items ≡ entries_of context.old.items) }
+{
+    if !is_word(wanted) {
+        return Err(Stop::Rule(Rule::T12, place));
+    }
+    let first = check_term(source, context, before, Some(wanted), left)?;
+    let marked = mark(source.alloc, before, &first.uses)?;
+    let second = check_term(source, context, &marked, Some(wanted), right)?;
+    let ty = wanted.copy(source.alloc)?;
+    Ok(operated_both(source.alloc, op, place, ty, first, second)?)
+}
+
+// A word of two that is synthesised.
+#[cycle(check)]
+fn check_sum(
+    source: &Source,
+    context: &mut Vec<Known>,
+    before: &Vec<bool>,
+    place: Place,
+    op: Op,
+    left: &Term<Place>,
+    right: &Term<Place>,
+) -> Result<Got, Stop>
+    ensures answer { Agrees got_of result (binary arithmetic op None place (literal_of (the_term left.now)) before.now.items (λ flags way. check_of (map function_of source.now.functions.now) (bounds_of source.now.vars.now) (types_in (entries_of context.old.items)) flags way (the_term left.now)) (λ flags way. check_of (map function_of source.now.functions.now) (bounds_of source.now.vars.now) (types_in (entries_of context.old.items)) flags way (the_term right.now))) }
+    ensures same { IfOk result (λ _. entries_of context.new.items ≡ entries_of context.old.items) }
+{
+    if is_literal(left) {
+        check_sum_by_right(source, context, before, place, op, left, right)
+    } else {
+        check_sum_by_left(source, context, before, place, op, left, right)
+    }
+}
+
+// The same, whose guide is the left operand.
 #[cycle(check)]
 fn check_sum_by_left(
     source: &Source,
-    context: &mut Vec<Ty>,
+    context: &mut Vec<Known>,
     before: &Vec<bool>,
     place: Place,
+    op: Op,
     left: &Term<Place>,
     right: &Term<Place>,
-) -> Result<Got, Refusal>
-    requires guide { literal_of (the_term left.now) ≡ false }
-    requires small { IsSmallShape (length (map function_of source.now.functions.now)) (length context.old.items) (op_of Add (more (the_term left.now) (more (the_term right.now) none))) }
-    requires long { length before.now.items ≡ length context.old.items }
-    ensures answer { Agrees got_of result (check_shape (map function_of source.now.functions.now) (bounds_of source.now.vars.now)
-        (map type_of context.old.items) before.now.items None place (op_of Add (more (the_term left.now) (more (the_term right.now) none)))) }
-    ensures uses { IfOk result (λ got. length got.uses.items ≡ length context.old.items) }
-    ensures same { IfOk result (λ got. map type_of context.new.items ≡ map type_of context.old.items) }
-    ensures size { IfOk result (λ got. length context.new.items ≡ length context.old.items) }
+) -> Result<Got, Stop>
+    ensures answer { Agrees got_of result (binary arithmetic op None place false before.now.items (λ flags way. check_of (map function_of source.now.functions.now) (bounds_of source.now.vars.now) (types_in (entries_of context.old.items)) flags way (the_term left.now)) (λ flags way. check_of (map function_of source.now.functions.now) (bounds_of source.now.vars.now) (types_in (entries_of context.old.items)) flags way (the_term right.now))) }
+    ensures same { IfOk result (λ _. entries_of context.new.items ≡ entries_of context.old.items) }
 {
-    let Got { ty, uses } = check_term(source, context, before, &None, left)?;
-    if !is_word(&ty) {
-        return Err(Refusal::Rule(Rule::T12, place));
+    let first = check_term(source, context, before, None, left)?;
+    if !is_word(first.ty()) {
+        return Err(Stop::Rule(Rule::T12, place));
     }
-    let marked = after(source.alloc, before, &uses)?;
-    let direction = Some(ty.copy(source.alloc)?);
-    let second = check_term(source, context, &marked, &direction, right)?;
-    let uses = join_got(source.alloc, &uses, second)?;
-    Ok(Got { ty, uses })
+    let marked = mark(source.alloc, before, &first.uses)?;
+    let second = check_term(source, context, &marked, Some(first.ty()), right)?;
+    let ty = first.ty().copy(source.alloc)?;
+    Ok(operated_both(source.alloc, op, place, ty, first, second)?)
 }
 
-// A sum that is synthesised, whose guide is the right operand.
+// The same, whose guide is the right operand.
 #[cycle(check)]
 fn check_sum_by_right(
     source: &Source,
-    context: &mut Vec<Ty>,
+    context: &mut Vec<Known>,
     before: &Vec<bool>,
     place: Place,
+    op: Op,
     left: &Term<Place>,
     right: &Term<Place>,
-) -> Result<Got, Refusal>
-    requires guide { literal_of (the_term left.now) ≡ true }
-    requires small { IsSmallShape (length (map function_of source.now.functions.now)) (length context.old.items) (op_of Add (more (the_term left.now) (more (the_term right.now) none))) }
-    requires long { length before.now.items ≡ length context.old.items }
-    ensures answer { Agrees got_of result (check_shape (map function_of source.now.functions.now) (bounds_of source.now.vars.now)
-        (map type_of context.old.items) before.now.items None place (op_of Add (more (the_term left.now) (more (the_term right.now) none)))) }
-    ensures uses { IfOk result (λ got. length got.uses.items ≡ length context.old.items) }
-    ensures same { IfOk result (λ got. map type_of context.new.items ≡ map type_of context.old.items) }
-    ensures size { IfOk result (λ got. length context.new.items ≡ length context.old.items) }
+) -> Result<Got, Stop>
+    ensures answer { Agrees got_of result (binary arithmetic op None place true before.now.items (λ flags way. check_of (map function_of source.now.functions.now) (bounds_of source.now.vars.now) (types_in (entries_of context.old.items)) flags way (the_term left.now)) (λ flags way. check_of (map function_of source.now.functions.now) (bounds_of source.now.vars.now) (types_in (entries_of context.old.items)) flags way (the_term right.now))) }
+    ensures same { IfOk result (λ _. entries_of context.new.items ≡ entries_of context.old.items) }
 {
-    let second = check_term(source, context, before, &None, right)?;
-    if !is_word(&second.ty) {
-        return Err(Refusal::Rule(Rule::T12, place));
+    let second = check_term(source, context, before, None, right)?;
+    if !is_word(second.ty()) {
+        return Err(Stop::Rule(Rule::T12, place));
     }
-    let direction = Some(second.ty.copy(source.alloc)?);
-    let first = check_term(source, context, before, &direction, left)?;
-    let uses = joined(source.alloc, &first.uses, &second.uses)?;
-    Ok(Got {
-        ty: second.ty,
-        uses,
-    })
+    let first = check_term(source, context, before, Some(second.ty()), left)?;
+    let ty = second.ty().copy(source.alloc)?;
+    Ok(operated_both(source.alloc, op, place, ty, first, second)?)
 }
 
+// A comparison.
+#[cycle(check)]
+fn check_comparison(
+    source: &Source,
+    context: &mut Vec<Known>,
+    before: &Vec<bool>,
+    direction: Option<&Ty>,
+    place: Place,
+    op: Op,
+    sort: Sort,
+    left: &Term<Place>,
+    right: &Term<Place>,
+) -> Result<Got, Stop>
+    ensures answer { Agrees got_of result (comparison (the_sort sort) op (way_of (option_copied direction.entry)) place (literal_of (the_term left.now)) before.now.items (λ flags way. check_of (map function_of source.now.functions.now) (bounds_of source.now.vars.now) (types_in (entries_of context.old.items)) flags way (the_term left.now)) (λ flags way. check_of (map function_of source.now.functions.now) (bounds_of source.now.vars.now) (types_in (entries_of context.old.items)) flags way (the_term right.now))) }
+    ensures same { IfOk result (λ _. entries_of context.new.items ≡ entries_of context.old.items) }
+{
+    if is_literal(left) {
+        check_comparison_by_right(
+            source, context, before, direction, place, op, sort, left, right,
+        )
+    } else {
+        check_comparison_by_left(
+            source, context, before, direction, place, op, sort, left, right,
+        )
+    }
+}
+
+// The same, whose guide is the left operand.
+#[cycle(check)]
+fn check_comparison_by_left(
+    source: &Source,
+    context: &mut Vec<Known>,
+    before: &Vec<bool>,
+    direction: Option<&Ty>,
+    place: Place,
+    op: Op,
+    sort: Sort,
+    left: &Term<Place>,
+    right: &Term<Place>,
+) -> Result<Got, Stop>
+    ensures answer { Agrees got_of result (comparison (the_sort sort) op (way_of (option_copied direction.entry)) place false before.now.items (λ flags way. check_of (map function_of source.now.functions.now) (bounds_of source.now.vars.now) (types_in (entries_of context.old.items)) flags way (the_term left.now)) (λ flags way. check_of (map function_of source.now.functions.now) (bounds_of source.now.vars.now) (types_in (entries_of context.old.items)) flags way (the_term right.now))) }
+    ensures same { IfOk result (λ _. entries_of context.new.items ≡ entries_of context.old.items) }
+{
+    let first = check_term(source, context, before, None, left)?;
+    if !takes(sort, first.ty()) {
+        return Err(Stop::Rule(Rule::T12, place));
+    }
+    let marked = mark(source.alloc, before, &first.uses)?;
+    let second = check_term(source, context, &marked, Some(first.ty()), right)?;
+    meet(direction, place, &Ty::Bool)?;
+    Ok(operated_both(source.alloc, op, place, Ty::Bool, first, second)?)
+}
+
+// The same, whose guide is the right operand.
+#[cycle(check)]
+fn check_comparison_by_right(
+    source: &Source,
+    context: &mut Vec<Known>,
+    before: &Vec<bool>,
+    direction: Option<&Ty>,
+    place: Place,
+    op: Op,
+    sort: Sort,
+    left: &Term<Place>,
+    right: &Term<Place>,
+) -> Result<Got, Stop>
+    ensures answer { Agrees got_of result (comparison (the_sort sort) op (way_of (option_copied direction.entry)) place true before.now.items (λ flags way. check_of (map function_of source.now.functions.now) (bounds_of source.now.vars.now) (types_in (entries_of context.old.items)) flags way (the_term left.now)) (λ flags way. check_of (map function_of source.now.functions.now) (bounds_of source.now.vars.now) (types_in (entries_of context.old.items)) flags way (the_term right.now))) }
+    ensures same { IfOk result (λ _. entries_of context.new.items ≡ entries_of context.old.items) }
+{
+    let second = check_term(source, context, before, None, right)?;
+    if !takes(sort, second.ty()) {
+        return Err(Stop::Rule(Rule::T12, place));
+    }
+    let first = check_term(source, context, before, Some(second.ty()), left)?;
+    meet(direction, place, &Ty::Bool)?;
+    Ok(operated_both(source.alloc, op, place, Ty::Bool, first, second)?)
+}
+
+// An application.
 #[cycle(check)]
 fn check_app(
     source: &Source,
-    context: &mut Vec<Ty>,
+    context: &mut Vec<Known>,
     before: &Vec<bool>,
-    direction: &Option<Ty>,
+    direction: Option<&Ty>,
     place: Place,
     fun: &Term<Place>,
     arg: &Term<Place>,
-) -> Result<Got, Refusal>
-    requires small { IsSmallShape (length (map function_of source.now.functions.now)) (length context.old.items) (app_of (the_term fun.now) (the_term arg.now)) }
-    requires long { length before.now.items ≡ length context.old.items }
-    ensures answer { Agrees got_of result (check_shape (map function_of source.now.functions.now) (bounds_of source.now.vars.now)
-        (map type_of context.old.items) before.now.items (direction_of direction.now) place (app_of (the_term fun.now) (the_term arg.now))) }
-    ensures uses { IfOk result (λ got. length got.uses.items ≡ length context.old.items) }
-    ensures same { IfOk result (λ got. map type_of context.new.items ≡ map type_of context.old.items) }
-    ensures size { IfOk result (λ got. length context.new.items ≡ length context.old.items) }
+) -> Result<Got, Stop>
+    ensures answer { Agrees got_of result (check_shape (map function_of source.now.functions.now) (bounds_of source.now.vars.now) (types_in (entries_of context.old.items)) before.now.items (way_of (option_copied direction.entry)) place (terms.app (the_term fun.now) (the_term arg.now))) }
+    ensures same { IfOk result (λ _. entries_of context.new.items ≡ entries_of context.old.items) }
 {
-    let Got { ty, uses } = check_term(source, context, before, &None, fun)?;
-    let Some((from, to)) = ends_of(ty) else {
-        return Err(Refusal::Rule(Rule::T4, fun.note));
+    let first = check_term(source, context, before, None, fun)?;
+    let Ty::Arrow(from, to) = first.ty() else {
+        return Err(Stop::Rule(Rule::T4, fun.note));
     };
-    let marked = after(source.alloc, before, &uses)?;
-    let got = check_term(source, context, &marked, &Some(from), arg)?;
-    let uses = join_got(source.alloc, &uses, got)?;
-    met(direction, place, to, uses)
+    let marked = mark(source.alloc, before, &first.uses)?;
+    let second = check_term(source, context, &marked, Some(from), arg)?;
+    meet(direction, place, to)?;
+    let ty = to.copy(source.alloc)?;
+    Ok(app_node(source.alloc, place, ty, first, second)?)
 }
 
+// A `let`.
 #[cycle(check)]
 fn check_let(
     source: &Source,
-    context: &mut Vec<Ty>,
+    context: &mut Vec<Known>,
     before: &Vec<bool>,
-    direction: &Option<Ty>,
+    direction: Option<&Ty>,
     place: Place,
     binder: Place,
     value: &Term<Place>,
     body: &Term<Place>,
-) -> Result<Got, Refusal>
-    requires small { IsSmallShape (length (map function_of source.now.functions.now)) (length context.old.items) (lets_of binder (the_term value.now) (the_term body.now)) }
-    requires long { length before.now.items ≡ length context.old.items }
-    ensures answer { Agrees got_of result (check_shape (map function_of source.now.functions.now) (bounds_of source.now.vars.now)
-        (map type_of context.old.items) before.now.items (direction_of direction.now) place (lets_of binder (the_term value.now) (the_term body.now))) }
-    ensures uses { IfOk result (λ got. length got.uses.items ≡ length context.old.items) }
-    ensures same { IfOk result (λ got. map type_of context.new.items ≡ map type_of context.old.items) }
-    ensures size { IfOk result (λ got. length context.new.items ≡ length context.old.items) }
+) -> Result<Got, Stop>
+    ensures answer { Agrees got_of result (let_by (map function_of source.now.functions.now) (bounds_of source.now.vars.now) (types_in (entries_of context.old.items)) before.now.items (way_of (option_copied direction.entry)) place binder (the_term value.now) (the_term body.now)) }
+    ensures same { IfOk result (λ _. entries_of context.new.items ≡ entries_of context.old.items) }
 {
-    let Got { ty, uses } = check_term(source, context, before, &None, value)?;
-    let marked = after_binder(source.alloc, before, &uses)?;
-    let drops = kinds_of(&ty, source.vars).drop;
+    let count = context.len();
+    let first = check_term(source, context, before, None, value)?;
+    let marked = inner(source.alloc, before, &first.uses)?;
+    let second = check_scoped(
+        source,
+        context,
+        &marked,
+        direction,
+        binder,
+        first.ty(),
+        body,
+    )?;
+    Ok(let_node(source.alloc, count, place, binder, first, second)?)
+}
+
+// A `let!`.
+#[cycle(check)]
+fn check_let_bang(
+    source: &Source,
+    context: &mut Vec<Known>,
+    before: &Vec<bool>,
+    direction: Option<&Ty>,
+    place: Place,
+    observers: &Items<Seen>,
+    binder: Place,
+    value: &Term<Place>,
+    body: &Term<Place>,
+) -> Result<Got, Stop>
+    ensures answer { Agrees got_of result (let_bang_by (map function_of source.now.functions.now) (bounds_of source.now.vars.now) (types_in (entries_of context.old.items)) before.now.items (way_of (option_copied direction.entry)) place observers.now binder (the_term value.now) (the_term body.now)) }
+    ensures same { IfOk result (λ _. entries_of context.new.items ≡ entries_of context.old.items) }
+{
+    observe_all(source, context, before, observers)?;
+    let count = context.len();
+    let first = check_observed(source, context, before, observers, value)?;
+    escape(source, value.note, first.ty())?;
+    let seen = seen_places(source.alloc, count, observers)?;
+    let marked = inner_seen(source.alloc, &seen, before, &first.uses)?;
+    let second = check_scoped(
+        source,
+        context,
+        &marked,
+        direction,
+        binder,
+        first.ty(),
+        body,
+    )?;
+    Ok(let_bang_node(
+        source.alloc,
+        count,
+        &seen,
+        place,
+        observers,
+        binder,
+        first,
+        second,
+    )?)
+}
+
+// A conditional.
+#[cycle(check)]
+fn check_if(
+    source: &Source,
+    context: &mut Vec<Known>,
+    before: &Vec<bool>,
+    direction: Option<&Ty>,
+    place: Place,
+    test: &Term<Place>,
+    first: &Term<Place>,
+    second: &Term<Place>,
+) -> Result<Got, Stop>
+    ensures answer { Agrees got_of result (if_by (map function_of source.now.functions.now) (bounds_of source.now.vars.now) (types_in (entries_of context.old.items)) before.now.items (way_of (option_copied direction.entry)) place (the_term test.now) (the_term first.now) (the_term second.now)) }
+    ensures same { IfOk result (λ _. entries_of context.new.items ≡ entries_of context.old.items) }
+{
+    let part = check_term(source, context, before, Some(&Ty::Bool), test)?;
+    let marked = mark(source.alloc, before, &part.uses)?;
+    let one = check_term(source, context, &marked, direction, first)?;
+    let way = other_way(direction, one.ty());
+    let other = check_term(source, context, &marked, way, second)?;
+    branches(
+        source,
+        context,
+        first.note,
+        second.note,
+        &one.uses,
+        &other.uses,
+    )?;
+    Ok(if_node(source.alloc, place, part, one, other)?)
+}
+
+// A value of a variant type.
+#[cycle(check)]
+fn check_con(
+    source: &Source,
+    context: &mut Vec<Known>,
+    before: &Vec<bool>,
+    direction: Option<&Ty>,
+    place: Place,
+    name: &Name,
+    part: &Term<Place>,
+) -> Result<Got, Stop>
+    ensures answer { Agrees got_of result (check_shape (map function_of source.now.functions.now) (bounds_of source.now.vars.now) (types_in (entries_of context.old.items)) before.now.items (way_of (option_copied direction.entry)) place (terms.con name.now (the_term part.now))) }
+    ensures same { IfOk result (λ _. entries_of context.new.items ≡ entries_of context.old.items) }
+{
+    let Some(ty) = direction else {
+        return Err(Stop::Rule(Rule::T2, place));
+    };
+    let held = injected_type(source, place, name, ty)?;
+    let got = check_term(source, context, before, Some(&held), part)?;
+    let ty = ty.copy(source.alloc)?;
+    Ok(con_node(source.alloc, place, ty, name, got)?)
+}
+
+// A match on one alternative.
+#[cycle(check)]
+fn check_case(
+    source: &Source,
+    context: &mut Vec<Known>,
+    before: &Vec<bool>,
+    direction: Option<&Ty>,
+    place: Place,
+    value: &Term<Place>,
+    at: &At,
+    binder: Place,
+    first: &Term<Place>,
+    second: &Term<Place>,
+) -> Result<Got, Stop>
+    ensures answer { Agrees got_of result (case_by (map function_of source.now.functions.now) (bounds_of source.now.vars.now) (types_in (entries_of context.old.items)) before.now.items (way_of (option_copied direction.entry)) place (the_term value.now) at.now binder (the_term first.now) (the_term second.now)) }
+    ensures same { IfOk result (λ _. entries_of context.new.items ≡ entries_of context.old.items) }
+{
+    let part = check_term(source, context, before, None, value)?;
+    let held = alternative_type(source, at, part.ty())?;
+    check_matched(
+        source, context, before, direction, place, at, binder, part, &held, first, second,
+    )
+}
+
+// A match on the last alternative.
+#[cycle(check)]
+fn check_esac(
+    source: &Source,
+    context: &mut Vec<Known>,
+    before: &Vec<bool>,
+    direction: Option<&Ty>,
+    place: Place,
+    at: &At,
+    part: &Term<Place>,
+) -> Result<Got, Stop>
+    ensures answer { Agrees got_of result (check_shape (map function_of source.now.functions.now) (bounds_of source.now.vars.now) (types_in (entries_of context.old.items)) before.now.items (way_of (option_copied direction.entry)) place (terms.esac at.now (the_term part.now))) }
+    ensures same { IfOk result (λ _. entries_of context.new.items ≡ entries_of context.old.items) }
+{
+    let got = check_term(source, context, before, None, part)?;
+    let ty = last_type(source, at, got.ty())?;
+    meet(direction, place, &ty)?;
+    Ok(esac_node(source.alloc, place, ty, at, got)?)
+}
+
+// A record.
+#[cycle(check)]
+fn check_struct(
+    source: &Source,
+    context: &mut Vec<Known>,
+    before: &Vec<bool>,
+    direction: Option<&Ty>,
+    place: Place,
+    fields: &Items<FieldTerm<Place>>,
+) -> Result<Got, Stop>
+    ensures answer { Agrees got_of result (check_shape (map function_of source.now.functions.now) (bounds_of source.now.vars.now) (types_in (entries_of context.old.items)) before.now.items (way_of (option_copied direction.entry)) place (terms.struct (to_named (map the_field fields.now)))) }
+    ensures same { IfOk result (λ _. entries_of context.new.items ≡ entries_of context.old.items) }
+{
+    match direction {
+        Some(wanted) => check_record(source, context, before, wanted, place, fields),
+        None => check_own_record(source, context, before, place, fields),
+    }
+}
+
+// A record that is checked against its type.
+#[cycle(check)]
+fn check_record(
+    source: &Source,
+    context: &mut Vec<Known>,
+    before: &Vec<bool>,
+    wanted: &Ty,
+    place: Place,
+    fields: &Items<FieldTerm<Place>>,
+) -> Result<Got, Stop>
+    ensures answer { Agrees got_of result (check_shape (map function_of source.now.functions.now) (bounds_of source.now.vars.now) (types_in (entries_of context.old.items)) before.now.items (Some (type_of wanted.now)) place (terms.struct (to_named (map the_field fields.now)))) }
+    ensures same { IfOk result (λ _. entries_of context.new.items ≡ entries_of context.old.items) }
+{
+    if !is_made_of(wanted, fields) {
+        return Err(Stop::Rule(Rule::T1, place));
+    }
+    let made = check_fields(
+        source,
+        context,
+        before,
+        parts_of(Some(wanted)),
+        fields.as_slice(),
+    )?;
+    let ty = wanted.copy(source.alloc)?;
+    Ok(struct_node(source.alloc, place, ty, made)?)
+}
+
+// A record of the type that its fields make.
+#[cycle(check)]
+fn check_own_record(
+    source: &Source,
+    context: &mut Vec<Known>,
+    before: &Vec<bool>,
+    place: Place,
+    fields: &Items<FieldTerm<Place>>,
+) -> Result<Got, Stop>
+    ensures answer { Agrees got_of result (check_shape (map function_of source.now.functions.now) (bounds_of source.now.vars.now) (types_in (entries_of context.old.items)) before.now.items None place (terms.struct (to_named (map the_field fields.now)))) }
+    ensures same { IfOk result (λ _. entries_of context.new.items ≡ entries_of context.old.items) }
+{
+    let made = check_fields(source, context, before, parts_of(None), fields.as_slice())?;
+    Ok(record_node(source.alloc, place, made)?)
+}
+
+// Fields in their order, each against the part of a record type that stands where it does.
+#[cycle(check)]
+fn check_fields(
+    source: &Source,
+    context: &mut Vec<Known>,
+    before: &Vec<bool>,
+    wanted: &[Part],
+    fields: &[FieldTerm<Place>],
+) -> Result<Fields, Stop>
+    ensures answer { Agrees fields_of result (fields_by (map function_of source.now.functions.now) (bounds_of source.now.vars.now) (types_in (entries_of context.old.items)) before.now.items (part_directions (to_parts (map part_of wanted.now))) (to_named (map the_field fields.now))) }
+    ensures same { IfOk result (λ _. entries_of context.new.items ≡ entries_of context.old.items) }
+{
+    match fields {
+        [] => Ok(no_fields(source.alloc, context)?),
+        [field, rest @ ..] => check_more_fields(source, context, before, wanted, field, rest),
+    }
+}
+
+// A field and the later ones.
+#[cycle(check)]
+fn check_more_fields(
+    source: &Source,
+    context: &mut Vec<Known>,
+    before: &Vec<bool>,
+    wanted: &[Part],
+    field: &FieldTerm<Place>,
+    rest: &[FieldTerm<Place>],
+) -> Result<Fields, Stop>
+    ensures answer { Agrees fields_of result (fields_by (map function_of source.now.functions.now) (bounds_of source.now.vars.now) (types_in (entries_of context.old.items)) before.now.items (part_directions (to_parts (map part_of wanted.now))) (terms.field field.now.name (the_term field.now.term) (to_named (map the_field rest.now)))) }
+    ensures same { IfOk result (λ _. entries_of context.new.items ≡ entries_of context.old.items) }
+{
+    let got = check_term(source, context, before, next_wanted(wanted), &field.term)?;
+    let marked = mark(source.alloc, before, &got.uses)?;
+    let mut later = check_fields(source, context, &marked, later_wanted(wanted), rest)?;
+    put_in_front(source.alloc, &field.name, got, are_none(rest), &mut later)?;
+    Ok(later)
+}
+
+// A member.
+#[cycle(check)]
+fn check_member(
+    source: &Source,
+    context: &mut Vec<Known>,
+    before: &Vec<bool>,
+    direction: Option<&Ty>,
+    place: Place,
+    part: &Term<Place>,
+    at: &At,
+) -> Result<Got, Stop>
+    ensures answer { Agrees got_of result (member_by (map function_of source.now.functions.now) (bounds_of source.now.vars.now) (types_in (entries_of context.old.items)) before.now.items (way_of (option_copied direction.entry)) place (the_term part.now) at.now) }
+    ensures same { IfOk result (λ _. entries_of context.new.items ≡ entries_of context.old.items) }
+{
+    let got = check_term(source, context, before, None, part)?;
+    let ty = member_type(source, at, got.ty())?;
+    meet(direction, place, &ty)?;
+    Ok(member_node(source.alloc, place, ty, at, got)?)
+}
+
+// A take.
+#[cycle(check)]
+fn check_take(
+    source: &Source,
+    context: &mut Vec<Known>,
+    before: &Vec<bool>,
+    direction: Option<&Ty>,
+    place: Place,
+    value: &Term<Place>,
+    at: &At,
+    rest: Place,
+    binder: Place,
+    body: &Term<Place>,
+) -> Result<Got, Stop>
+    ensures answer { Agrees got_of result (take_by (map function_of source.now.functions.now) (bounds_of source.now.vars.now) (types_in (entries_of context.old.items)) before.now.items (way_of (option_copied direction.entry)) place (the_term value.now) at.now rest binder (the_term body.now)) }
+    ensures same { IfOk result (λ _. entries_of context.new.items ≡ entries_of context.old.items) }
+{
+    let count = context.len();
+    let first = check_term(source, context, before, None, value)?;
+    let held = taken_type(source, at, first.ty())?;
+    let left = with_part(source.alloc, &at.name, true, first.ty())?;
+    let marked = inner_two(source.alloc, before, &first.uses)?;
+    let second = check_taken(
+        source, context, &marked, direction, rest, binder, &left, &held, body,
+    )?;
+    Ok(take_node(source.alloc, count, place, at, rest, binder, first, second)?)
+}
+
+// A put.
+#[cycle(check)]
+fn check_put(
+    source: &Source,
+    context: &mut Vec<Known>,
+    before: &Vec<bool>,
+    direction: Option<&Ty>,
+    place: Place,
+    value: &Term<Place>,
+    at: &At,
+    part: &Term<Place>,
+) -> Result<Got, Stop>
+    ensures answer { Agrees got_of result (put_by (map function_of source.now.functions.now) (bounds_of source.now.vars.now) (types_in (entries_of context.old.items)) before.now.items (way_of (option_copied direction.entry)) place (the_term value.now) at.now (the_term part.now)) }
+    ensures same { IfOk result (λ _. entries_of context.new.items ≡ entries_of context.old.items) }
+{
+    let first = check_term(source, context, before, None, value)?;
+    let held = put_type(source, at, first.ty())?;
+    let marked = mark(source.alloc, before, &first.uses)?;
+    let second = check_term(source, context, &marked, Some(&held), part)?;
+    let ty = with_part(source.alloc, &at.name, false, first.ty())?;
+    meet(direction, place, &ty)?;
+    Ok(put_node(source.alloc, place, ty, at, first, second)?)
+}
+
+// A cast.
+#[cycle(check)]
+fn check_cast(
+    source: &Source,
+    context: &mut Vec<Known>,
+    before: &Vec<bool>,
+    direction: Option<&Ty>,
+    place: Place,
+    part: &Term<Place>,
+) -> Result<Got, Stop>
+    ensures answer { Agrees got_of result (check_shape (map function_of source.now.functions.now) (bounds_of source.now.vars.now) (types_in (entries_of context.old.items)) before.now.items (way_of (option_copied direction.entry)) place (terms.cast (the_term part.now))) }
+    ensures same { IfOk result (λ _. entries_of context.new.items ≡ entries_of context.old.items) }
+{
+    let Some(ty) = direction else {
+        return Err(Stop::Rule(Rule::T2, place));
+    };
+    let got = check_term(source, context, before, None, part)?;
+    need(Rule::T11, place, widens(got.ty(), ty))?;
+    let ty = ty.copy(source.alloc)?;
+    Ok(cast_node(source.alloc, place, ty, got)?)
+}
+
+// A term with its type written.
+#[cycle(check)]
+fn check_annot(
+    source: &Source,
+    context: &mut Vec<Known>,
+    before: &Vec<bool>,
+    direction: Option<&Ty>,
+    place: Place,
+    part: &Term<Place>,
+    arg: &TyArg,
+) -> Result<Got, Stop>
+    ensures answer { Agrees got_of result (check_shape (map function_of source.now.functions.now) (bounds_of source.now.vars.now) (types_in (entries_of context.old.items)) before.now.items (way_of (option_copied direction.entry)) place (terms.annot (the_term part.now) (arg_of arg.now))) }
+    ensures same { IfOk result (λ _. entries_of context.new.items ≡ entries_of context.old.items) }
+{
+    need(Rule::T14, arg.place, has_word_arrays(&arg.ty))?;
+    let got = check_term(source, context, before, Some(&arg.ty), part)?;
+    meet(direction, place, &arg.ty)?;
+    Ok(annot_node(source.alloc, place, arg, got)?)
+}
+
+// A term in the scope of a new variable of this type.
+#[cycle(check)]
+fn check_in_scope(
+    source: &Source,
+    context: &mut Vec<Known>,
+    before: &Vec<bool>,
+    direction: Option<&Ty>,
+    ty: Ty,
+    body: &Term<Place>,
+) -> Result<Got, Stop>
+    ensures answer { Agrees got_of result (check_of (map function_of source.now.functions.now) (bounds_of source.now.vars.now)
+        (push_of (types_in (entries_of context.old.items)) (type_of ty)) before.now.items (way_of (option_copied direction.entry)) (the_term body.now)) }
+    ensures same { IfOk result (λ _. entries_of context.new.items ≡ entries_of context.old.items) }
+{
     enter(context, ty)?;
-    let got = check_term(source, context, &marked, direction, body)?;
+    let got = check_term(source, context, before, direction, body)?;
     leave(context);
-    end_let(source.alloc, binder, drops, &uses, got)
+    Ok(got)
+}
+
+// A term in the scope of what is left of a record and of the field that is taken, with K3 at the end of both.
+#[cycle(check)]
+fn check_taken(
+    source: &Source,
+    context: &mut Vec<Known>,
+    before: &Vec<bool>,
+    direction: Option<&Ty>,
+    rest: Place,
+    binder: Place,
+    left: &Ty,
+    held: &Ty,
+    body: &Term<Place>,
+) -> Result<Got, Stop>
+    ensures answer { Agrees got_of result (taken_by (map function_of source.now.functions.now) (bounds_of source.now.vars.now) (types_in (entries_of context.old.items)) before.now.items (way_of (option_copied direction.entry)) rest binder (type_of left.now) (type_of held.now) (the_term body.now)) }
+    ensures same { IfOk result (λ _. entries_of context.new.items ≡ entries_of context.old.items) }
+{
+    let got = check_in_both(source, context, before, direction, left, held, body)?;
+    end(source, rest, left, use_before_last(&got.uses))?;
+    end(source, binder, held, last_use(&got.uses))?;
+    Ok(got)
+}
+
+// A term while a `let!` observes some variables.
+#[cycle(check)]
+fn check_observed(
+    source: &Source,
+    context: &mut Vec<Known>,
+    before: &Vec<bool>,
+    observers: &Items<Seen>,
+    value: &Term<Place>,
+) -> Result<Got, Stop>
+    ensures answer { Agrees got_of result (check_of (map function_of source.now.functions.now) (bounds_of source.now.vars.now) (observed observers.now (types_in (entries_of context.old.items))) before.now.items None (the_term value.now)) }
+    ensures same { IfOk result (λ _. entries_of context.new.items ≡ entries_of context.old.items) }
+{
+    let seen = seen_places(source.alloc, context.len(), observers)?;
+    check_seen(source, context, before, &seen, value)
+}
+
+// The same, by which of the variables are observed.
+#[cycle(check)]
+fn check_seen(
+    source: &Source,
+    context: &mut Vec<Known>,
+    before: &Vec<bool>,
+    seen: &Vec<Option<Place>>,
+    value: &Term<Place>,
+) -> Result<Got, Stop>
+    ensures answer { Agrees got_of result (check_of (map function_of source.now.functions.now) (bounds_of source.now.vars.now) (types_in (see seen.now.items (entries_of context.old.items))) before.now.items None (the_term value.now)) }
+    ensures same { IfOk result (λ _. entries_of context.new.items ≡ entries_of context.old.items) }
+{
+    let flags = flags_of(source.alloc, context)?;
+    observe(context, seen);
+    let got = check_term(source, context, before, None, value)?;
+    restore(context, &flags);
+    Ok(got)
+}
+
+// The direction of a second branch: that of both, or the type of the first one.
+fn other_way<'a>(direction: Option<&'a Ty>, first: &'a Ty) -> Option<&'a Ty>
+    ensures { way_of (option_copied result) ≡ second_branch (way_of (option_copied direction.entry)) (type_of first.now) }
+{
+    match direction {
+        Some(wanted) => Some(wanted),
+        None => Some(first),
+    }
+}
+
+// The branches of a match, whose first one gets a value of this type.
+#[cycle(check)]
+fn check_matched(
+    source: &Source,
+    context: &mut Vec<Known>,
+    before: &Vec<bool>,
+    direction: Option<&Ty>,
+    place: Place,
+    at: &At,
+    binder: Place,
+    part: Got,
+    held: &Ty,
+    first: &Term<Place>,
+    second: &Term<Place>,
+) -> Result<Got, Stop>
+    ensures answer { Agrees got_of result (matched_by (map function_of source.now.functions.now) (bounds_of source.now.vars.now) (types_in (entries_of context.old.items)) before.now.items (way_of (option_copied direction.entry)) place at.now binder (the_term first.now) (the_term second.now) (got_of part) (type_of held.now)) }
+    ensures same { IfOk result (λ _. entries_of context.new.items ≡ entries_of context.old.items) }
+{
+    let marked = inner(source.alloc, before, &part.uses)?;
+    let one = check_scoped(source, context, &marked, direction, binder, held, first)?;
+    check_other(
+        source, context, &marked, direction, place, at, binder, part, one, first.note, second,
+    )
+}
+
+// The other branch of a match, behind the first, whose note this is.
+#[cycle(check)]
+fn check_other(
+    source: &Source,
+    context: &mut Vec<Known>,
+    before: &Vec<bool>,
+    direction: Option<&Ty>,
+    place: Place,
+    at: &At,
+    binder: Place,
+    part: Got,
+    one: Got,
+    note: Place,
+    second: &Term<Place>,
+) -> Result<Got, Stop>
+    ensures answer { Agrees got_of result (other_by (map function_of source.now.functions.now) (bounds_of source.now.vars.now) (types_in (entries_of context.old.items)) before.now.items (way_of (option_copied direction.entry)) place at.now binder note (the_term second.now) (got_of part) (got_of one)) }
+    ensures same { IfOk result (λ _. entries_of context.new.items ≡ entries_of context.old.items) }
+{
+    let left = with_part(source.alloc, &at.name, true, part.ty())?;
+    let way = other_way(direction, one.ty());
+    let other = check_scoped(source, context, before, way, at.place, &left, second)?;
+    end_case(
+        source,
+        context,
+        place,
+        at,
+        binder,
+        part,
+        one,
+        other,
+        note,
+        second.note,
+    )
+}
+
+// The end of a match behind its branches, whose notes these are.
+fn end_case(
+    source: &Source,
+    context: &Vec<Known>,
+    place: Place,
+    at: &At,
+    binder: Place,
+    part: Got,
+    one: Got,
+    other: Got,
+    first: Place,
+    second: Place,
+) -> Result<Got, Stop>
+    ensures { Agrees got_of result (case_end (map function_of source.now.functions.now) (bounds_of source.now.vars.now) (types_in (entries_of context.now.items)) place at.now binder first second (got_of part) (got_of one) (got_of other)) }
+{
+    branches(
+        source,
+        context,
+        first,
+        second,
+        but_last(&one.uses),
+        but_last(&other.uses),
+    )?;
+    Ok(case_node(
+        source.alloc,
+        context.len(),
+        place,
+        at,
+        binder,
+        part,
+        one,
+        other,
+    )?)
+}
+
+// A term in the scope of a new variable of this type, with K3 at its end.
+#[cycle(check)]
+fn check_scoped(
+    source: &Source,
+    context: &mut Vec<Known>,
+    before: &Vec<bool>,
+    direction: Option<&Ty>,
+    binder: Place,
+    ty: &Ty,
+    body: &Term<Place>,
+) -> Result<Got, Stop>
+    ensures answer { Agrees got_of result (scoped (map function_of source.now.functions.now) (bounds_of source.now.vars.now) (types_in (entries_of context.old.items)) before.now.items (way_of (option_copied direction.entry)) binder (type_of ty.now) (the_term body.now)) }
+    ensures same { IfOk result (λ _. entries_of context.new.items ≡ entries_of context.old.items) }
+{
+    let held = ty.copy(source.alloc)?;
+    let got = check_in_scope(source, context, before, direction, held, body)?;
+    end(source, binder, ty, last_use(&got.uses))?;
+    Ok(got)
+}
+
+// A term in the scope of two new variables of these types.
+#[cycle(check)]
+fn check_in_both(
+    source: &Source,
+    context: &mut Vec<Known>,
+    before: &Vec<bool>,
+    direction: Option<&Ty>,
+    left: &Ty,
+    held: &Ty,
+    body: &Term<Place>,
+) -> Result<Got, Stop>
+    ensures answer { Agrees got_of result (check_of (map function_of source.now.functions.now) (bounds_of source.now.vars.now) (push_of (push_of (types_in (entries_of context.old.items)) (type_of left.now)) (type_of held.now)) before.now.items (way_of (option_copied direction.entry)) (the_term body.now)) }
+    ensures same { IfOk result (λ _. entries_of context.new.items ≡ entries_of context.old.items) }
+{
+    let left = left.copy(source.alloc)?;
+    let held = held.copy(source.alloc)?;
+    enter(context, left)?;
+    let got = check_in_scope(source, context, before, direction, held, body)?;
+    leave(context);
+    Ok(got)
 }

@@ -1,4 +1,3 @@
 pub mod Derivations
 pub mod Kernels
 pub mod Terms
-pub mod Small

@@ -1,8 +1,8 @@
 -- The steps of `check` come to status 0 over exactly the files whose source is accepted.
-use Rattle.std.proofs.Common.{◌≡◌, ◌∙◌, ◌+◌, ◌≤◌, ◌⊎◌, inl, inr, ℕ, true, List, [], ◌∷◌, Option, Some, None, take, length, refl, ap, subst, arith}
+use Rattle.std.proofs.Common.{◌≡◌, ◌∙◌, ◌+◌, ◌≤◌, ◌⊎◌, inl, inr, ℕ, List, [], ◌∷◌, Option, Some, None, take, length, refl, ap, subst, arith}
 use Rattle.std.proofs.lemmas.List.{take_all, length-take}
 use Rattle.cg_base.specs.declared.limit.Limit.TheVariants.{Nesting, Functions, Fields, Ty, Depth}
-use Rattle.cg_check.specs.Small.{is_small_kernel}
+use Rattle.cg_check.specs.Judged.{AreTypesWithin}
 use Rattle.cg_circles.specs.Circles.{NoCircle}
 use Rattle.cg_desugar.specs.Faults.{program_faults}
 use Rattle.cg_desugar.specs.Mentions.{mentions}
@@ -51,6 +51,11 @@ stays : (P Q : Type 0) (js : List Judgement) (f n : Found) → (⊥ × Q) ⊎ ((
 stays P Q js f n (inl r) = absurd r.0
 stays P Q js f n (inr r) = (r.1.1, subst (λ x. Settles Judges js x (goes n)) r.1.0 r.2)
 
+-- the rule that judges the kernel, by two facts
+derives : (P R Q : Type 0) (js : List Judgement) (f n : Found) → (⊥ × Q) ⊎ ((next : Found) × ((next ≡ f) × P × R) × Settles Judges js next (goes n)) → P × R × Settles Judges js f (goes n)
+derives P R Q js f n (inl r) = absurd r.0
+derives P R Q js f n (inr r) = (r.1.1, r.1.2, subst (λ x. Settles Judges js x (goes n)) r.1.0 r.2)
+
 -- the rule that reads the program
 spells : (Q : Type 0) (js : List Judgement) (f n : Found) → (⊥ × Q) ⊎ ((next : Found) × ((p : List Entry) × (next ≡ with_program p f) × Spells f.source p) × Settles Judges js next (goes n))
     → (p : List Entry) × Spells f.source p × Settles Judges js (with_program p f) (goes n)
@@ -71,16 +76,15 @@ accepted_of file f n r =
     let narrow = stays (widest_part read.0 ≤ parts_limit) _ (within Ty ∷ within Depth ∷ kernel_rules file) g n few.1 in
     let light = stays (largest_type read.0 ≤ type_limit) _ (within Depth ∷ kernel_rules file) g n narrow.1 in
     let low = stays (deepest_body (functions_of read.0) ≤ term_limit) _ (kernel_rules file) g n light.1 in
-    let little = stays (is_small_kernel (functions_of read.0) ≡ true) _ (typed file ∷ []) g n low.1 in
-    let derived = stays (IsAcceptedKernel (functions_of read.0)) _ [] g n little.1 in
-    let last : goes n ≡ goes g = derived.1 in
+    let derived = derives (IsAcceptedKernel (functions_of read.0)) (AreTypesWithin (functions_of read.0)) _ [] g n low.1 in
+    let last : goes n ≡ goes g = derived.2 in
     let same : n ≡ g = cc in
     record {
       program = read.0;
       short = short.0;
       resolved = record { spelled = read.1; shallow = shallow.0; names = record { names = names.0; circles = circles.0; fields = fields.0 }; limits = (few.0, narrow.0, light.0, low.0) };
-      small = little.0;
       typed = derived.0;
+      within = derived.1;
       kernel = ap functions same;
     }
 

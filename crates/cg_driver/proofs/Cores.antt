@@ -2,7 +2,7 @@
 use Rattle.std.proofs.Common.{◌≡◌, ◌∙◌, List, [], ◌∷◌, Option, Some, None, refl, sym, ap, subst}
 use Rattle.cg_base.specs.declared.kind.Kinds.{Kinds}
 use Rattle.cg_base.specs.Types.{Tau, arrow}
-use Rattle.cg_check.proofs.Main.{one_core}
+use Rattle.cg_check_laws.proofs.Main.{one_core}
 use Rattle.cg_core.specs.Derivations.{Derivation}
 use Rattle.cg_core.specs.Kernels.{Function, Body}
 use Rattle.cg_core.specs.Terms.{Note, Tree}

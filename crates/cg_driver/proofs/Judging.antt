@@ -1,10 +1,12 @@
 -- Each judgement comes to one outcome, refuses with a status of its own, and each command says one text of what it found.
-use Rattle.std.proofs.Common.{◌≡◌, ◌<◌, ◌∙◌, ◌+◌, ℕ, List, [], ◌∷◌, Option, Some, None, Result, Err, sym, ap, subst, arith}
+use Rattle.std.proofs.Common.{◌≡◌, ◌⊎◌, inl, inr, ◌<◌, ◌∙◌, ◌+◌, ℕ, List, [], ◌∷◌, Option, Some, None, Result, Err, refl, sym, ap, subst, arith}
 use Rattle.std.specs.Prelude.{codes, slice_get}
 use Rattle.std.proofs.lemmas.Option.{same_Some}
 use Rattle.cg_base.specs.declared.fun.Fun.TheVariants.{User}
 use Rattle.cg_base.specs.declared.kind.Word.TheVariants.{U32}
 use Rattle.cg_base.specs.declared.place.Place.{Place}
+use Rattle.cg_check.specs.Judged.{AreTypesWithin}
+use Rattle.cg_check_laws.proofs.OneFault.{one_fault}
 use Rattle.cg_core.specs.Kernels.{Function}
 use Rattle.cg_cread.proofs.One.{one_program as one_text}
 use Rattle.cg_ctree.specs.Runs.{crun, done, typed as typed_result}
@@ -12,7 +14,13 @@ use Rattle.cg_ctree.specs.Spells.{CSpells}
 use Rattle.cg_desugar.specs.Desugar.{entry_at as name_at}
 use Rattle.cg_desugar.specs.Faults.{NameFault, program_faults}
 use Rattle.cg_eval.specs.Evaluation.{evaluation}
+use Rattle.cg_faults.specs.declared.rule.Rule.{Rule}
+use Rattle.cg_faults.specs.Events.{kernel_events, first_failing}
+use Rattle.cg_faults.specs.Fails.{Fails}
+use Rattle.cg_faults.specs.Rule.{Test, rule, type_limit}
+use Rattle.cg_faults_laws.proofs.Occurring.{kernels_are_accepted_or_at_fault}
 use Rattle.cg_heaptext.proofs.Reading.{one_argument}
+use Rattle.cg_lawful.specs.Lawful.{IsLawfulKernel}
 use Rattle.cg_lower.specs.Lowered.{function_name}
 use Rattle.cg_names.specs.Says.{IsFirst}
 use Rattle.cg_parser.specs.Answers.{NoProgram, Answers as Parses}
@@ -28,11 +36,12 @@ use Rattle.cg_steps.specs.Scripts.{IsRuling}
 use Rattle.cg_surface.specs.declared.program.Program.{Program}
 use Rattle.cg_surface.specs.Programs.{Entry}
 use Rattle.cg_takes.specs.Says as takes
+use Rattle.cg_typing.specs.Accepted.{IsAcceptedKernel}
 use Rattle.cg_value.specs.Values.{Val, number, function}
 use Rattle.cg_words.specs.Words.{Command, check, run}
-use Rattle.cg_driver.specs.Commands.{Judgement, no_command, within, spelled, named, acyclic, with_fields, small, typed, plain, has_entry, heap_spelled, in_range, evaluated, RefusesSyntax, unknown_byte, open_comment, unexpected, wrong_bar, Judges, script_of}
+use Rattle.cg_driver.specs.Commands.{Judgement, no_command, within, spelled, named, acyclic, with_fields, typed, plain, has_entry, heap_spelled, in_range, evaluated, RefusesSyntax, unknown_byte, open_comment, unexpected, wrong_bar, RefusesTyping, RefusesType, Judges, script_of}
 use Rattle.cg_driver.specs.Found.{Found, with_program, with_entry, with_argument, with_value, functions}
-use Rattle.cg_driver.specs.Lines.{fault_line, name_rule, report}
+use Rattle.cg_driver.specs.Lines.{fault_line, name_rule, rule_line, limit_line, report}
 use Rattle.cg_driver.specs.Run.{table_in, emitted, budget, Evaluates, RunsOut, IsReport}
 use Rattle.cg_driver.proofs.Cores.{one_list}
 
@@ -96,6 +105,43 @@ same_circle entries p q is also =
     let item : is.2.0 ≡ also.2.0 = same_Some is.2.0 also.2.0 (sym is.2.1 ∙ ap (slice_get entries) one ∙ also.2.1) in
     sym is.2.2 ∙ ap (λ e. (name_at e).place) item ∙ also.2.2
 
+-- ---- faults of typing
+
+-- of a lawful kernel that is accepted within the limits nothing fails
+none_fails : (fs : List Function) (test : Test) (place : Place) → IsLawfulKernel fs → Fails fs test place → IsAcceptedKernel fs → AreTypesWithin fs → ⊥
+none_fails fs test place lawful fails accepted narrow =
+    let some : first_failing (kernel_events fs) ≡ Some (test, place) = (kernels_are_accepted_or_at_fault.fault fs lawful test place).1 fails in
+    let none : first_failing (kernel_events fs) ≡ None = (kernels_are_accepted_or_at_fault.accepted fs lawful).1 (accepted, narrow) in
+    absurd (cc)
+
+rule_same : (r s : Rule) → rule r ≡ rule s → r ≡ s
+rule_same r s e = cc
+
+no_limit : (r : Rule) → rule r ≡ type_limit → ⊥
+no_limit r e = absurd (cc)
+
+same_typing : (file : List ℕ) (fs : List Function) (t t' : List ℕ) → RefusesTyping file fs t → RefusesTyping file fs t' → t ≡ t'
+same_typing file fs t t' a b =
+    let one = one_fault fs (rule a.broken) (rule b.broken) a.place b.place a.fails b.fails in
+    a.line ∙ ap (λ p. fault_line file p (rule_line a.broken)) one.1 ∙ ap (λ r. fault_line file b.place (rule_line r)) (rule_same a.broken b.broken one.0) ∙ sym b.line
+
+one_kind : (file : List ℕ) (fs : List Function) (t t' : List ℕ) → RefusesTyping file fs t → RefusesType fs t' → ⊥
+one_kind file fs t t' a b = no_limit a.broken (one_fault fs (rule a.broken) type_limit a.place b.place a.fails b.fails).0
+
+-- what `typed` says of functions that it refuses
+abbrev Untyped : List ℕ → List Function → Status → List ℕ → Type 0
+Untyped file fs s t = ((s ≡ Refused) × RefusesTyping file fs t) ⊎ ((s ≡ TooLarge) × RefusesType fs t)
+
+one_untyped : (file : List ℕ) (fs : List Function) (s s' : Status) (t t' : List ℕ) → Untyped file fs s t → Untyped file fs s' t' → the_refusal s t ≡ the_refusal s' t'
+one_untyped file fs s s' t t' (inl a) (inl b) = refused_same s s' Refused t t' a.0 b.0 (same_typing file fs t t' a.1 b.1)
+one_untyped file fs s s' t t' (inl a) (inr b) = absurd (one_kind file fs t t' a.1 b.1)
+one_untyped file fs s s' t t' (inr a) (inl b) = absurd (one_kind file fs t' t b.1 a.1)
+one_untyped file fs s s' t t' (inr a) (inr b) = refused_same s s' TooLarge t t' a.0 b.0 (a.1.line ∙ sym b.1.line)
+
+not_typed : (file : List ℕ) (fs : List Function) (s : Status) (t : List ℕ) → Untyped file fs s t → IsAcceptedKernel fs → AreTypesWithin fs → ⊥
+not_typed file fs s t (inl a) accepted narrow = none_fails fs (rule a.1.broken) a.1.place a.1.lawful a.1.fails accepted narrow
+not_typed file fs s t (inr a) accepted narrow = none_fails fs type_limit a.1.place a.1.lawful a.1.fails accepted narrow
+
 -- ---- evaluation
 
 record SameGiven (v w k l : ℕ) : Type 0 where
@@ -153,13 +199,9 @@ single (with_fields file) f (refuses s t) (refuses s' t') d d' =
 single (with_fields file) f (refuses s t) (goes n) d d' = absurd (no_take d.1.place _ d.1.first d'.1)
 single (with_fields file) f (goes n) (refuses s t) d d' = absurd (no_take d'.1.place _ d'.1.first d.1)
 single (with_fields file) f (goes n) (goes n') d d' = ap goes (d.0 ∙ sym d'.0)
-single (small file) f (refuses s t) (refuses s' t') d d' = refused_same s s' Refused t t' d.0 d'.0 (d.1 ∙ sym d'.1)
-single (small file) f (refuses s t) (goes n) d d' = let x = d.2 in let y = d'.1 in absurd (cc)
-single (small file) f (goes n) (refuses s t) d d' = let x = d'.2 in let y = d.1 in absurd (cc)
-single (small file) f (goes n) (goes n') d d' = ap goes (d.0 ∙ sym d'.0)
-single (typed file) f (refuses s t) (refuses s' t') d d' = refused_same s s' Refused t t' d.0 d'.0 (d.1 ∙ sym d'.1)
-single (typed file) f (refuses s t) (goes n) d d' = absurd (d.2 d'.1)
-single (typed file) f (goes n) (refuses s t) d d' = absurd (d'.2 d.1)
+single (typed file) f (refuses s t) (refuses s' t') d d' = one_untyped file (functions f) s s' t t' d d'
+single (typed file) f (refuses s t) (goes n) d d' = absurd (not_typed file (functions f) s t d d'.1 d'.2)
+single (typed file) f (goes n) (refuses s t) d d' = absurd (not_typed file (functions f) s t d' d.1 d.2)
 single (typed file) f (goes n) (goes n') d d' = ap goes (d.0 ∙ sym d'.0)
 single (plain file) f (refuses s t) (refuses s' t') d d' = refused_same s s' Refused t t' d.0 d'.0 (d.1 ∙ sym d'.1)
 single (plain file) f (refuses s t) (goes n) d d' = let x = d.2 in let y = d'.1 in absurd (cc)
@@ -184,6 +226,20 @@ single (evaluated steps) f (goes n) (goes n') d d' =
     let e = evaluates_once (functions f) f.at f.argument steps d.0 d.1 d'.0 d'.1 d.3 d'.3 in
     ap goes (d.2 ∙ ap (λ v. with_value v d.1 f) e.value ∙ ap (λ k. with_value d'.0 k f) e.cost ∙ sym d'.2)
 
+-- of lawful functions the rules decide
+pub typing_decides : (file : List ℕ) (f : Found) → IsLawfulKernel (functions f) → (o : Outcome Found) × Judges (typed file) f o
+typing_decides file f lawful = go (first_failing (kernel_events (functions f))) refl
+  where
+    fault : (test : Test) (place : Place) → first_failing (kernel_events (functions f)) ≡ Some (test, place) → Fails (functions f) test place
+    fault test place is = (kernels_are_accepted_or_at_fault.fault (functions f) lawful test place).0 is
+
+    go : (first : Option (Test × Place)) → first_failing (kernel_events (functions f)) ≡ first → (o : Outcome Found) × Judges (typed file) f o
+    go None is = let a = (kernels_are_accepted_or_at_fault.accepted (functions f) lawful).0 is in (goes f, (refl, a.0, a.1))
+    go (Some (rule r, place)) is =
+        (refuses Refused (fault_line file place (rule_line r)), inl (refl, record { lawful = lawful; broken = r; place = place; fails = fault (rule r) place is; line = refl }))
+    go (Some (type_limit, place)) is =
+        (refuses TooLarge (limit_line (codes "type")), inr (refl, record { lawful = lawful; place = place; fails = fault type_limit place is; line = refl }))
+
 -- no judgement refuses with a status of a fault or of want of memory
 pub ruling : (j : Judgement) (f : Found) (s : Status) (t : List ℕ) → Judges j f (refuses s t) → IsRuling s
 ruling no_command f s t d = subst IsRuling (sym d.0) tt
@@ -192,8 +248,8 @@ ruling (spelled file) f s t d = subst IsRuling (sym d.0) tt
 ruling (named file) f s t d = subst IsRuling (sym d.0) tt
 ruling (acyclic file) f s t d = subst IsRuling (sym d.0) tt
 ruling (with_fields file) f s t d = subst IsRuling (sym d.0) tt
-ruling (small file) f s t d = subst IsRuling (sym d.0) tt
-ruling (typed file) f s t d = subst IsRuling (sym d.0) tt
+ruling (typed file) f s t (inl d) = subst IsRuling (sym d.0) tt
+ruling (typed file) f s t (inr d) = subst IsRuling (sym d.0) tt
 ruling (plain file) f s t d = subst IsRuling (sym d.0) tt
 ruling (has_entry file name) f s t d = subst IsRuling (sym d.0) tt
 ruling (heap_spelled heap) f s t d = subst IsRuling (sym d.0) tt
@@ -215,8 +271,8 @@ not_usage (spelled file) f s t of d = λ e. let x = d.0 in absurd (cc)
 not_usage (named file) f s t of d = λ e. let x = d.0 in absurd (cc)
 not_usage (acyclic file) f s t of d = λ e. let x = d.0 in absurd (cc)
 not_usage (with_fields file) f s t of d = λ e. let x = d.0 in absurd (cc)
-not_usage (small file) f s t of d = λ e. let x = d.0 in absurd (cc)
-not_usage (typed file) f s t of d = λ e. let x = d.0 in absurd (cc)
+not_usage (typed file) f s t of (inl d) = λ e. let x = d.0 in absurd (cc)
+not_usage (typed file) f s t of (inr d) = λ e. let x = d.0 in absurd (cc)
 not_usage (plain file) f s t of d = λ e. let x = d.0 in absurd (cc)
 not_usage (has_entry file name) f s t of d = λ e. let x = d.0 in absurd (cc)
 not_usage (heap_spelled heap) f s t of d = λ e. let x = d.0 in absurd (cc)

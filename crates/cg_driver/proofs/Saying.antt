@@ -7,7 +7,8 @@ use Rattle.cg_base.specs.declared.limit.Limit.TheVariants as limits
 use Rattle.cg_base.specs.declared.memory.Memory.{Memory}
 use Rattle.cg_base.specs.declared.place.Place.{Place}
 use Rattle.cg_base.specs.Places.{most}
-use Rattle.cg_check.specs.Small.{is_small_kernel}
+use Rattle.cg_check.specs.declared.refusal.Refusal.TheVariants.{Limit as Beyond}
+use Rattle.cg_check.specs.Judged.{IsChecked, Refuses}
 use Rattle.cg_core.specs.declared.kernel.KFun.{KFun}
 use Rattle.cg_core.specs.declared.kernel.Kernel.{Kernel}
 use Rattle.cg_core.specs.Kernels.{Function, function_of, kernel_of}
@@ -18,7 +19,11 @@ use Rattle.cg_desugar.specs.Order.{AreOrdered, AreGrowing}
 use Rattle.cg_desugar.specs.Takes.{missing_fields}
 use Rattle.cg_circles.specs.Circles.{NoCircle}
 use Rattle.cg_eval.specs.Plain.{plain_kernel}
+use Rattle.cg_faults.specs.declared.rule.Rule.{Rule}
+use Rattle.cg_faults.specs.Fails.{Fails}
+use Rattle.cg_faults.specs.Rule.{rule, type_limit}
 use Rattle.cg_heaptext.specs.HeapText.{HeapText}
+use Rattle.cg_lawful.specs.Lawful.{IsLawfulKernel}
 use Rattle.cg_names.specs.Says.{IsFirst}
 use Rattle.cg_takes.specs.Says as takes
 use Rattle.cg_parser.specs.Grammar.{Spells}
@@ -35,14 +40,14 @@ use Rattle.cg_steps.specs.Steps.{refuses, goes, Settles}
 use Rattle.cg_steps.specs.Parts.{IsLine, Reports, Steps, Judged}
 use Rattle.cg_steps.proofs.Joining.{then_settles}
 use Rattle.cg_surface.specs.Programs.{Entry, program_depth}
-use Rattle.cg_typing.specs.Accepted.{IsAcceptedKernel}
 use Rattle.cg_typing.specs.declared.checked.Checked.{Checked}
-use Rattle.cg_typing.specs.Holds.{kernel_in}
+use Rattle.cg_typing.specs.Holds.{kernel_in, cores_in, trees_in}
+use Rattle.cg_typing.specs.Kept.{AreKept, maybe_core, maybe_tree}
 use Rattle.cg_driver.specs.Accepted.{IsAcceptedSource}
 use Rattle.cg_driver.specs.Commands.{Judgement, RefusesSyntax, Judges, kernel_rules, resolving_rules, program_rules, source_rules, entry_rules, heap_rules, entry_at}
 use Rattle.cg_driver.specs.Found.{Found, with_program, with_entry, with_argument, functions, source_limit, heap_limit}
 use Rattle.cg_driver.specs.Judged.{functions_in, IsCheckedKernel, IsCheckedProgram, IsCheckedSource, Keeps, RefusesKernel, RefusesProgram, RefusesSource, RefusesEntry, RefusesBytes, IsEntry, IsArgument}
-use Rattle.cg_driver.specs.Lines.{fault_line, name_rule, not_built_line, not_accepted_line, no_entry_line, no_heap_text_line, out_of_range_line, limit_name, limit_line}
+use Rattle.cg_driver.specs.Lines.{fault_line, name_rule, rule_line, not_built_line, no_entry_line, no_heap_text_line, out_of_range_line, limit_name, limit_line}
 
 -- a report of a line says what the line says
 pub line_says : (Q : Status → List ℕ → Type 0) (wanted : Status) (line : List ℕ) (r : Report) → IsLine wanted line r → Q wanted line → Reports Q r
@@ -72,11 +77,41 @@ steps_judged P S K js f on out (Err e) said = tt
 
 -- ---- kernels
 
-pub unsmall_refused : (file : List ℕ) (fs : List Function) → is_small_kernel fs ≡ false → RefusesKernel file fs Refused (not_built_line file)
-unsmall_refused file fs is f same = inl (tt, (refl, refl, ap is_small_kernel same ∙ is))
+-- a kernel that the checker keeps
+pub kernel_kept : (kernel : Kernel) (checked : Checked) → IsChecked kernel checked → IsCheckedKernel (kernel_of kernel) checked
+kernel_kept kernel checked c =
+    record {
+      accepted = c.accepted;
+      within = c.within;
+      same = ap kernel_of c.same;
+      cores = (
+        map maybe_tree (trees_in checked),
+        subst (λ k. AreKept (kernel_of k) (kernel_of k) (map maybe_core (cores_in checked)) (map maybe_tree (trees_in checked))) (sym c.same) c.kept,
+      );
+    }
 
-pub untyped_refused : (file : List ℕ) (fs : List Function) → is_small_kernel fs ≡ true → (IsAcceptedKernel fs → ⊥) → RefusesKernel file fs Refused (not_accepted_line file)
-untyped_refused file fs is never f same = inr (f, (refl, ap is_small_kernel same ∙ is), inl (tt, (refl, refl, λ a. never (subst IsAcceptedKernel same a))))
+-- one of which a rule fails
+pub rule_refused : (file : List ℕ) (fs : List Function) (broken : Rule) (place : Place) → IsLawfulKernel fs → Fails fs (rule broken) place
+    → RefusesKernel file fs Refused (fault_line file place (rule_line broken))
+rule_refused file fs broken place lawful fails f same =
+    inl (tt, inl (refl, record { lawful = subst IsLawfulKernel (sym same) lawful; broken = broken; place = place; fails = subst (λ x. Fails x (rule broken) place) (sym same) fails; line = refl }))
+
+-- one of which a type passes the limit
+pub type_refused : (file : List ℕ) (fs : List Function) (limit : Limit) (name : List ℕ) → name ≡ limit_name limit → IsLawfulKernel fs → Refuses fs (Beyond limit)
+    → RefusesKernel file fs TooLarge (limit_line name)
+type_refused file fs limit name is lawful h f same =
+    inl (
+      tt,
+      inr (
+        refl,
+        record {
+          lawful = subst IsLawfulKernel (sym same) lawful;
+          place = h.1.0;
+          fails = subst (λ x. Fails x type_limit h.1.0) (sym same) h.1.1;
+          line = ap limit_line (is ∙ ap limit_name h.0);
+        },
+      ),
+    )
 
 -- ---- programs
 
@@ -172,8 +207,8 @@ program_checked source p short spelled deep checked c =
         program = p;
         short = short;
         resolved = record { spelled = spelled; shallow = deep; names = c.names; limits = c.limits };
-        small = c.kernel.small;
         typed = c.kernel.accepted;
+        within = c.kernel.within;
         kernel = c.kernel.same;
       };
       cores = c.kernel.cores;
@@ -225,7 +260,7 @@ accepted_settles file source fs a f same =
           next,
           (refl, a.resolved.shallow),
           then_settles Judges (resolving_rules file) (kernel_rules file) next next (goes next) (resolved file a.program a.resolved.names a.resolved.limits next refl)
-              (inr (next, (refl, a.small), inr (next, (refl, a.typed), refl))),
+              (inr (next, (refl, a.typed, a.within), refl)),
         ),
       ),
     )

@@ -25,8 +25,8 @@ or_memory P s no_read no_write verdict = inl (verdict tt)
 
 -- the steps of the commands judge no words
 of_command : (c : Command) → Each IsOfCommand (script_of (Some c)).steps
-of_command (check file) = (tt, (tt, (tt, (tt, (tt, (tt, (tt, (tt, (tt, (tt, (tt, (tt, tt))))))))))))
-of_command (run file entry heap steps) = (tt, (tt, (tt, (tt, (tt, (tt, (tt, (tt, (tt, (tt, (tt, (tt, (tt, (tt, (tt, (tt, (tt, (tt, tt))))))))))))))))))
+of_command (check file) = (tt, (tt, (tt, (tt, (tt, (tt, (tt, (tt, (tt, (tt, (tt, tt)))))))))))
+of_command (run file entry heap steps) = (tt, (tt, (tt, (tt, (tt, (tt, (tt, (tt, (tt, (tt, (tt, (tt, (tt, (tt, (tt, (tt, (tt, tt)))))))))))))))))
 
 module _ (old new : World) where
   -- no command says the usage text

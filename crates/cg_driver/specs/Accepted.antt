@@ -1,6 +1,6 @@
 -- Which sources are accepted.
-use Rattle.std.specs.Prelude.{◌≡◌, ℕ, ◌≤◌, true, List, length}
-use Rattle.cg_check.specs.Small.{is_small_kernel}
+use Rattle.std.specs.Prelude.{◌≡◌, ℕ, ◌≤◌, List, length}
+use Rattle.cg_check.specs.Judged.{AreTypesWithin}
 use Rattle.cg_core.specs.Kernels.{Function}
 use Rattle.cg_desugar.specs.Desugar.{functions_of, NamesStand, WithinLimits}
 use Rattle.cg_parser.specs.Grammar.{Spells}
@@ -16,11 +16,12 @@ pub record HasKernel (source : List ℕ) (p : List Entry) : Type 0 where
   pub names : NamesStand p
   pub limits : WithinLimits p
 
--- a source within the limits is accepted, and this is its kernel, which is small: the typing rules derive each of its functions
+-- a source is accepted within the limits, and this is its kernel: the typing rules derive each of its functions, and no type of a node of
+-- a body passes the limit
 pub record IsAcceptedSource (source : List ℕ) (functions : List Function) : Type 0 where
   pub program : List Entry
   pub short : length source ≤ source_limit
   pub resolved : HasKernel source program
-  pub small : is_small_kernel (functions_of program) ≡ true
   pub typed : IsAcceptedKernel (functions_of program)
+  pub within : AreTypesWithin (functions_of program)
   pub kernel : functions ≡ functions_of program

@@ -1,11 +1,11 @@
 -- The judgements of the commands' steps, what each comes to, and the commands as lists of steps (docs/LANGUAGE.md, "Commands"): a new command
 -- is a line of `script_of`, with the judgements of its own steps.
-use Rattle.std.specs.Prelude.{◌≡◌, ℕ, ◌<◌, ◌≤◌, ◌^◌, ◌++◌, true, false, List, [], ◌∷◌, position, Option, Some, None, Err, String, codes, bytes_eq}
+use Rattle.std.specs.Prelude.{◌≡◌, ◌⊎◌, ℕ, ◌<◌, ◌≤◌, ◌^◌, ◌++◌, true, false, List, [], ◌∷◌, position, Option, Some, None, Err, String, codes, bytes_eq}
 use Rattle.std.specs.declared.alloc.Global.{Global}
 use Rattle.cg_base.specs.declared.limit.Limit.{Limit}
 use Rattle.cg_base.specs.declared.limit.Limit.TheVariants.{Source, Nesting, Functions, Fields, Ty, Depth, Heap}
 use Rattle.cg_base.specs.declared.place.Place.{Place}
-use Rattle.cg_check.specs.Small.{is_small_kernel}
+use Rattle.cg_check.specs.Judged.{AreTypesWithin}
 use Rattle.cg_circles.specs.Circles.{NoCircle}
 use Rattle.cg_core.specs.Kernels.{Function}
 use Rattle.cg_desugar.specs.Faults.{NameFault, program_faults}
@@ -13,7 +13,11 @@ use Rattle.cg_desugar.specs.Mentions.{mentions}
 use Rattle.cg_desugar.specs.Order.{AreOrdered, AreGrowing}
 use Rattle.cg_desugar.specs.Takes.{missing_fields}
 use Rattle.cg_eval.specs.Plain.{plain_kernel}
+use Rattle.cg_faults.specs.declared.rule.Rule.{Rule}
+use Rattle.cg_faults.specs.Fails.{Fails}
+use Rattle.cg_faults.specs.Rule.{rule, type_limit}
 use Rattle.cg_heaptext.specs.HeapText.{HeapText}
+use Rattle.cg_lawful.specs.Lawful.{IsLawfulKernel}
 use Rattle.cg_names.specs.Says.{IsFirst}
 use Rattle.cg_parser.specs.Grammar.{Spells}
 use Rattle.cg_parser.specs.Answers.{Answers as Parses}
@@ -27,13 +31,15 @@ use Rattle.cg_takes.specs.Says as takes
 use Rattle.cg_typing.specs.Accepted.{IsAcceptedKernel}
 use Rattle.cg_words.specs.Words.{Command, check, run, texts, command_of}
 use Rattle.cg_driver.specs.Found.{Found, nothing, with_source, with_program, with_entry, with_heap, with_argument, with_value, functions, source_limit, heap_limit, bound, quantity}
-use Rattle.cg_driver.specs.Lines.{usage_text, ok_line, fault_line, name_rule, not_built_line, not_accepted_line, no_entry_line, no_heap_text_line, out_of_range_line, limit_name, limit_line, step_limit_line}
+use Rattle.cg_driver.specs.Lines.{usage_text, ok_line, fault_line, name_rule, rule_line, not_built_line, no_entry_line, no_heap_text_line, out_of_range_line, limit_name, limit_line, step_limit_line}
 use Rattle.cg_driver.specs.Run.{Evaluates, RunsOut, IsReport}
 
 -- The judgements, in the order of the steps; each has the names that it prints. The words are no command; a quantity is within its limit; the
 -- source spells a program (S1 to S4); its names are known, apart and have their arguments (N1, N2, N4), nothing mentions itself (N3), and
--- what is taken is there (N5); its kernel is one of those that typing has rules for so far (F1), and is accepted (F2); it is one of those that
--- can be run so far (F1), and has the entry (E1); the heap file holds a number (H1), which is a word (H5); evaluation ends within the steps.
+-- what is taken is there (N5); the typing rules derive each function of its kernel, and no type of a node passes the limit: else the first
+-- condition that fails in the order of reading is told, which is a rule (K1 to K7, T1 to T14) with its place, or that limit (`type`); the
+-- source is one of those that can be run so far (F1), and has the entry (E1); the heap file holds a number (H1), which is a word (H5);
+-- evaluation ends within the steps.
 pub data Judgement : Type 0 where
   no_command : Judgement
   within : Limit → Judgement
@@ -41,7 +47,6 @@ pub data Judgement : Type 0 where
   named : List ℕ → Judgement
   acyclic : List ℕ → Judgement
   with_fields : List ℕ → Judgement
-  small : List ℕ → Judgement
   typed : List ℕ → Judgement
   plain : List ℕ → Judgement
   has_entry : List ℕ → List ℕ → Judgement
@@ -77,6 +82,22 @@ pub record RefusesTake (file : List ℕ) (p : List Entry) (text : List ℕ) : Ty
   pub first : takes.IsFirst place (missing_fields p)
   pub line : text ≡ fault_line file place (codes "N5 take of no field")
 
+-- the line of the fault of kinds and types: the kernel is lawful, as it is wherever the steps before went, and the first condition of it
+-- that fails in the order of reading is that of this rule, at this place
+pub record RefusesTyping (file : List ℕ) (fs : List Function) (text : List ℕ) : Type 0 where
+  pub lawful : IsLawfulKernel fs
+  pub broken : Rule
+  pub place : Place
+  pub fails : Fails fs (rule broken) place
+  pub line : text ≡ fault_line file place (rule_line broken)
+
+-- the line of the limit on types: the first condition of a lawful kernel that fails is that limit, at some place, which isn't told
+pub record RefusesType (fs : List Function) (text : List ℕ) : Type 0 where
+  pub lawful : IsLawfulKernel fs
+  pub place : Place
+  pub fails : Fails fs type_limit place
+  pub line : text ≡ limit_line (codes "type")
+
 -- the position of the first function of a name
 abbrev pub entry_at : List ℕ → List Function → Option ℕ
 entry_at name functions = position (λ f. bytes_eq f.at.name name) functions
@@ -95,10 +116,9 @@ Judges (acyclic file) found (refuses status text) = (status ≡ Refused) × Refu
 Judges (acyclic file) found (goes next) = (next ≡ found) × NoCircle (mentions found.program)
 Judges (with_fields file) found (refuses status text) = (status ≡ Refused) × RefusesTake file found.program text
 Judges (with_fields file) found (goes next) = (next ≡ found) × (missing_fields found.program ≡ [])
-Judges (small file) found (refuses status text) = (status ≡ Refused) × (text ≡ not_built_line file) × (is_small_kernel (functions found) ≡ false)
-Judges (small file) found (goes next) = (next ≡ found) × (is_small_kernel (functions found) ≡ true)
-Judges (typed file) found (refuses status text) = (status ≡ Refused) × (text ≡ not_accepted_line file) × (IsAcceptedKernel (functions found) → ⊥)
-Judges (typed file) found (goes next) = (next ≡ found) × IsAcceptedKernel (functions found)
+Judges (typed file) found (refuses status text) =
+    ((status ≡ Refused) × RefusesTyping file (functions found) text) ⊎ ((status ≡ TooLarge) × RefusesType (functions found) text)
+Judges (typed file) found (goes next) = (next ≡ found) × IsAcceptedKernel (functions found) × AreTypesWithin (functions found)
 Judges (plain file) found (refuses status text) = (status ≡ Refused) × (text ≡ not_built_line file) × (plain_kernel (functions found) ≡ false)
 Judges (plain file) found (goes next) = (next ≡ found) × (plain_kernel (functions found) ≡ true)
 Judges (has_entry file name) found (refuses status text) = (status ≡ Refused) × (text ≡ no_entry_line file) × (entry_at name (functions found) ≡ None)
@@ -114,7 +134,7 @@ Judges (evaluated steps) found (goes next) = (value : ℕ) × (cost : ℕ) × (n
 
 -- the steps that all commands on a source share, once it was read
 abbrev pub kernel_rules : List ℕ → List Judgement
-kernel_rules file = small file ∷ typed file ∷ []
+kernel_rules file = typed file ∷ []
 
 abbrev pub resolving_rules : List ℕ → List Judgement
 resolving_rules file = named file ∷ acyclic file ∷ with_fields file ∷ within Functions ∷ within Fields ∷ within Ty ∷ within Depth ∷ []

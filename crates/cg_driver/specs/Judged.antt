@@ -1,6 +1,6 @@
 -- What the checker's answer and the parts of a run say, as the code has them.
 use Rattle.std.specs.Prelude.{◌≡◌, ℕ, ◌<◌, ◌≤◌, ◌^◌, true, List, length, map, Some}
-use Rattle.cg_check.specs.Small.{is_small_kernel}
+use Rattle.cg_check.specs.Judged.{AreTypesWithin}
 use Rattle.cg_core.specs.Kernels.{Function, kernel_of}
 use Rattle.cg_desugar.specs.Desugar.{functions_of, functions_limit, NamesStand, WithinLimits}
 use Rattle.cg_desugar.specs.Faults.{program_faults}
@@ -28,14 +28,14 @@ functions_in checked = kernel_of (kernel_in checked)
 abbrev pub HoldsCores : Checked → Type 0
 HoldsCores checked = AreCores (functions_in checked) (map maybe_core (cores_in checked))
 
--- a kernel is small and accepted, and kept so
+-- a kernel is accepted within the limits, and kept so
 pub record IsCheckedKernel (functions : List Function) (checked : Checked) : Type 0 where
-  pub small : is_small_kernel functions ≡ true
   pub accepted : IsAcceptedKernel functions
+  pub within : AreTypesWithin functions
   pub same : functions_in checked ≡ functions
   pub cores : HoldsCores checked
 
--- a program has a kernel, which is small and accepted, and kept so
+-- a program has a kernel, which is accepted within the limits, and kept so
 pub record IsCheckedProgram (p : List Entry) (checked : Checked) : Type 0 where
   pub names : NamesStand p
   pub limits : WithinLimits p

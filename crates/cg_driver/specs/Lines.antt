@@ -5,6 +5,9 @@ use Rattle.cg_base.specs.declared.limit.Limit.TheVariants.{Source, Nesting, Func
 use Rattle.cg_base.specs.declared.place.Place.{Place}
 use Rattle.cg_core.specs.Kernels.{Function}
 use Rattle.cg_desugar.specs.Faults.{NameFault, unknown, twice, arguments}
+use Rattle.cg_faults.specs.declared.rule.Rule.{Rule}
+use Rattle.cg_faults.specs.declared.rule.Rule.TheVariants.{K1, K2, K3, K4, K5, K6, K7, T1, T2, T3, T4, T5, T6, T7, T8, T9, T10, T11, T12, T13, T14}
+use Rattle.cg_faults.specs.Rule.{text_of}
 use Rattle.cg_value.specs.Printed.{printed}
 use Rattle.cg_value.specs.Values.{Val}
 
@@ -26,12 +29,36 @@ name_rule file (unknown place) = fault_line file place (codes "N1 unknown name")
 name_rule file (twice place) = fault_line file place (codes "N2 name defined twice")
 name_rule file (arguments place) = fault_line file place (codes "N4 wrong number of type arguments")
 
+-- the name of a rule of kinds or types (docs/LANGUAGE.md, "Typing"), and its name with its text
+abbrev pub rule_name : Rule → List ℕ
+rule_name K1 = codes "K1"
+rule_name K2 = codes "K2"
+rule_name K3 = codes "K3"
+rule_name K4 = codes "K4"
+rule_name K5 = codes "K5"
+rule_name K6 = codes "K6"
+rule_name K7 = codes "K7"
+rule_name T1 = codes "T1"
+rule_name T2 = codes "T2"
+rule_name T3 = codes "T3"
+rule_name T4 = codes "T4"
+rule_name T5 = codes "T5"
+rule_name T6 = codes "T6"
+rule_name T7 = codes "T7"
+rule_name T8 = codes "T8"
+rule_name T9 = codes "T9"
+rule_name T10 = codes "T10"
+rule_name T11 = codes "T11"
+rule_name T12 = codes "T12"
+rule_name T13 = codes "T13"
+rule_name T14 = codes "T14"
+
+abbrev pub rule_line : Rule → List ℕ
+rule_line r = rule_name r ++ codes " " ++ text_of r
+
 -- the refusals, with the name of the file
 abbrev pub not_built_line : List ℕ → List ℕ
 not_built_line file = file ++ codes ": F1 form not built\n"
-
-abbrev pub not_accepted_line : List ℕ → List ℕ
-not_accepted_line file = file ++ codes ": F2 not accepted\n"
 
 abbrev pub no_entry_line : List ℕ → List ℕ
 no_entry_line file = file ++ codes ": E1 no such function\n"

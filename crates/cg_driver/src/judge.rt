@@ -10,9 +10,9 @@ ghost use Rattle.cg_steps.specs.Parts.{Reports, Steps};
 ghost use Rattle.cg_driver.specs.Found.{source_limit};
 ghost use Rattle.cg_driver.specs.Judged.{IsCheckedKernel, IsCheckedProgram, IsCheckedSource, RefusesKernel, RefusesProgram, RefusesSource};
 
-use crate::lines::{beyond, fault, limit_name, not_accepted, not_built};
+use crate::lines::{beyond, broken, fault, limit_name};
 use cg_base::Memory;
-use cg_check::{Refusal, check, is_small};
+use cg_check::{Refusal, check};
 use cg_core::Kernel;
 use cg_parser::{ParseFault, parse};
 use cg_resolve::{Fault, resolve};
@@ -24,17 +24,15 @@ use std::alloc::Global;
 /// No source has more bytes.
 pub(crate) const SOURCE_LIMIT: usize = 1_048_576;
 
-/// Judges a kernel: whether it is a small one, and then by the typing rules.
+/// Judges a kernel by the typing rules and the limit on types.
 fn judge_kernel(alloc: Global, file: &str, kernel: Kernel) -> Result<Step<Checked>, Memory>
     requires { IsLawfulKernel (kernel_of kernel) }
     ensures { IfOk result (Steps (IsCheckedKernel (kernel_of kernel)) (RefusesKernel file.now (kernel_of kernel))) }
 {
-    if !is_small(&kernel) {
-        return Ok(Step::Ends(not_built(alloc, file)?));
-    }
     match check(alloc, kernel) {
         Ok(checked) => Ok(Step::Goes(checked)),
-        Err(Refusal::Rule(_, _)) => Ok(Step::Ends(not_accepted(alloc, file)?)),
+        Err(Refusal::Rule(rule, place)) => Ok(Step::Ends(broken(alloc, file, place, rule)?)),
+        Err(Refusal::Limit(limit)) => Ok(Step::Ends(beyond(alloc, limit_name(limit))?)),
         Err(Refusal::Memory) => Err(Memory),
     }
 }

@@ -2,6 +2,7 @@
 ghost use Rattle.std.specs.Prelude.{◌≡◌, ◌≢◌, ◌⊎◌, ◌↔◌, ℕ, List, Some};
 ghost use Rattle.std.specs.declared.option.Option.{Option};
 ghost use Rattle.cg_core.specs.Kernels.{Function};
+ghost use Rattle.cg_lawful.specs.Lawful.{IsLawfulKernel};
 ghost use Rattle.cg_outside.specs.Held.{Held, bytes_at};
 ghost use Rattle.cg_outside.specs.Memory.{honest_held, honest_taken};
 ghost use Rattle.cg_steps.specs.World.{world};
@@ -9,8 +10,8 @@ ghost use Rattle.cg_steps.specs.Steps.{Outcome, WritesNone};
 ghost use Rattle.cg_steps.specs.Scripts.{Answers, ComesTo, Decides};
 ghost use Rattle.cg_words.specs.Words.{Command, check};
 ghost use Rattle.cg_driver.specs.Accepted.{IsAcceptedSource};
-ghost use Rattle.cg_driver.specs.Commands.{Judgement, Judges, script_of, asked};
-ghost use Rattle.cg_driver.specs.Found.{Found};
+ghost use Rattle.cg_driver.specs.Commands.{Judgement, typed, Judges, script_of, asked};
+ghost use Rattle.cg_driver.specs.Found.{Found, functions as functions_found};
 
 use crate::{Status, cogent};
 use cg_outside::{HonestFiles, HonestSink};
@@ -45,6 +46,11 @@ pub fn honest_cogent(
 /// A judgement comes to one outcome at most, of each state: it refuses with one status and one line, or goes on in one state.
 pub fn one_outcome()
     ensures { (judgement : Judgement) (found : Found) (a b : Outcome Found) → Judges judgement found a → Judges judgement found b → a ≡ b }
+{}
+
+/// The judgement of kinds and types comes to an outcome of each state whose kernel is lawful, as it is wherever the steps before went.
+pub fn typing_decides()
+    ensures { (file : List ℕ) (found : Found) → IsLawfulKernel (functions_found found) → (outcome : Outcome Found) × Judges (typed file) found outcome }
 {}
 
 /// What a command prints at status 0 of what its steps found is one text.

@@ -13,4 +13,6 @@ mod run;
 
 pub use call::cogent;
 pub use cg_steps::Status;
-pub use law::{honest_cogent, no_command_writes, one_outcome, one_text, status_0_is_acceptance};
+pub use law::{
+    honest_cogent, no_command_writes, one_outcome, one_text, status_0_is_acceptance, typing_decides,
+};

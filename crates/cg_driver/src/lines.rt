@@ -7,6 +7,7 @@ ghost use Rattle.cg_steps.specs.Parts.{IsLine};
 
 use cg_base::{Limit, Memory, Place};
 use cg_core::KFun;
+use cg_faults::Rule;
 use cg_steps::{Report, Status};
 use std::alloc::Global;
 
@@ -34,6 +35,48 @@ pub(crate) fn fault(alloc: Global, file: &str, place: Place, rule: &str) -> Resu
     })
 }
 
+/// The name of a rule of kinds or types (docs/LANGUAGE.md, "Typing").
+fn rule_name(rule: Rule) -> &'static str
+    ensures { result.now ≡ lines.rule_name rule }
+{
+    match rule {
+        Rule::K1 => "K1",
+        Rule::K2 => "K2",
+        Rule::K3 => "K3",
+        Rule::K4 => "K4",
+        Rule::K5 => "K5",
+        Rule::K6 => "K6",
+        Rule::K7 => "K7",
+        Rule::T1 => "T1",
+        Rule::T2 => "T2",
+        Rule::T3 => "T3",
+        Rule::T4 => "T4",
+        Rule::T5 => "T5",
+        Rule::T6 => "T6",
+        Rule::T7 => "T7",
+        Rule::T8 => "T8",
+        Rule::T9 => "T9",
+        Rule::T10 => "T10",
+        Rule::T11 => "T11",
+        Rule::T12 => "T12",
+        Rule::T13 => "T13",
+        Rule::T14 => "T14",
+    }
+}
+
+/// The refusal of a source at a place, by a rule of kinds or types.
+pub(crate) fn broken(alloc: Global, file: &str, place: Place, rule: Rule) -> Result<Report, Memory>
+    ensures { IfOk result (λ r. IsLine Status.Refused (lines.fault_line file.now place (lines.rule_line rule)) r) }
+{
+    let Place { line, column } = place;
+    let name = rule_name(rule);
+    let text = rule.text();
+    Ok(Report {
+        status: Status::Refused,
+        text: format!(in alloc; "{file}:{line}:{column}: {name} {text}\n")?,
+    })
+}
+
 /// The refusal of what isn't built yet.
 pub(crate) fn not_built(alloc: Global, file: &str) -> Result<Report, Memory>
     ensures { IfOk result (λ r. IsLine Status.Refused (lines.not_built_line file.now) r) }
@@ -41,16 +84,6 @@ pub(crate) fn not_built(alloc: Global, file: &str) -> Result<Report, Memory>
     Ok(Report {
         status: Status::Refused,
         text: format!(in alloc; "{file}: F1 form not built\n")?,
-    })
-}
-
-/// The refusal of a program that isn't accepted.
-pub(crate) fn not_accepted(alloc: Global, file: &str) -> Result<Report, Memory>
-    ensures { IfOk result (λ r. IsLine Status.Refused (lines.not_accepted_line file.now) r) }
-{
-    Ok(Report {
-        status: Status::Refused,
-        text: format!(in alloc; "{file}: F2 not accepted\n")?,
     })
 }
 

@@ -1,3 +1,9 @@
-pub mod Faults
+pub mod Conditions
+pub mod Events
+pub mod Fails
 pub mod Occurrences
+pub mod Plain
+pub mod Rule
 pub mod Same
+pub mod Sites
+pub mod Touches

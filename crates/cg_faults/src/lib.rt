@@ -1,8 +1,10 @@
-//! The rules that a source may break, and which of them fails first: plain typing and the events of a term in reading
-//! order. docs/LANGUAGE.md, "Typing", says the rules. This is the small language's part: variables, unit, literals,
-//! functions, sums, calls and `let`.
+//! The rules of kinds and types that a source may break, and which of them fails first, said twice: in its own words, by occurrences
+//! with their paths in the whole body (`specs/Fails.antt`), and as a list of events in reading order (`specs/Events.antt`).
+//! docs/LANGUAGE.md, "Typing", says the rules.
 #![tactic(auto)]
 
 mod rule;
+mod uses;
 
 pub use rule::Rule;
+pub use uses::Use;

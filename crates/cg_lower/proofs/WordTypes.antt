@@ -17,7 +17,7 @@ use Rattle.cg_core.specs.declared.term.Typed.{Typed}
 use Rattle.cg_core.specs.Derivations.{Derivation}
 use Rattle.cg_core.specs.Kernels.{Function, Body, kernel_of}
 use Rattle.cg_core.specs.Terms.{Note, Tree, term, Shape, var, lit, fun, op, app, lets, none, more}
-use Rattle.cg_kinds.specs.Kinds.{bang}
+use Rattle.cg_kinds.specs.Kinds.{bang, subst as with_args}
 use Rattle.cg_eval.proofs.NotStuck.{and_left, and_right, core_plain, kept_plain}
 use Rattle.cg_typing.specs.Accepted.{kinds_of_vars}
 use Rattle.cg_typing.specs.Holds.{kernel_in, cores_in, trees_in, kept_at}
@@ -25,7 +25,10 @@ use Rattle.cg_typing.specs.Kept.{maybe_core, maybe_tree, IsKeptMaybe, AreKept}
 use Rattle.cg_lower.specs.Plainly.{PlainBodiesAreWords}
 use Rattle.cg_lower.specs.Ranks.{bodies_of}
 use Rattle.cg_typing.specs.Contexts.{Context, look, push, first, second, first_side, second_side}
-use Rattle.cg_typing.specs.Rules.{Meets, type_at, is_literal, operand, fun_type, sub, marks_of, InRange, Derives, DerivesShape}
+use Rattle.cg_typing.specs.Functions.{fun_type}
+use Rattle.cg_typing.specs.Operators.{arithmetic, operand}
+use Rattle.cg_typing.specs.Rules.{Meets, type_at, is_literal, InRange, Derives, DerivesShape}
+use Rattle.cg_typing.specs.Trees.{sub, marks_of}
 use Rattle.cg_eval.specs.Plain.{plain, plain_shape, plain_body, plain_function, is_word_to_word}
 use Rattle.cg_lower.specs.Simulated.{IsWordTerm, IsWordShape}
 
@@ -113,21 +116,24 @@ literal_range : (n depth : ℕ) (note : Note) (value : Option ℕ) (t : Tau) →
 literal_range n depth note None t e r = absurd r
 literal_range n depth note (Some v) t e r = subst (InRange (Some v)) e r
 
--- the direction of an operand, which is asked for or is the guide
-operand_asks : (direction : Option Tau) (b : Bool) (t : Tau) → Asks direction → t ≡ word U32 → Asks (operand direction b t)
-operand_asks None true t a e = inl refl
-operand_asks None false t a e = inr (ap Some e)
-operand_asks (Some s) b t a e = a
+-- the direction of an operand of a sum, which is asked for or is the guide
+operand_asks : (direction : Option Tau) (b : Bool) (t : Tau) → t ≡ word U32 → Asks (operand arithmetic direction b t)
+operand_asks None true t e = inl refl
+operand_asks (Some s) true t e = inr (ap Some e)
+operand_asks None false t e = inr (ap Some e)
+operand_asks (Some s) false t e = inr (ap Some e)
 
 -- the parts of a sum: the one that isn't a literal, or else the right one, says the type
-sum_words : {A B : Type 0} (direction : Option Tau) (t tl tr : Tau) (b : Bool) → Meets direction t → Asks direction → (Asks (operand direction (not b) t) → A × (tl ≡ word U32)) → (Asks (operand direction b t) → B × (tr ≡ word U32))
-    → tl ≡ t → tr ≡ t → A × B × (t ≡ word U32)
-sum_words (Some w) t tl tr b m a left right el er =
-    let e : t ≡ word U32 = sym m ∙ asked (Some w) w a refl in ((left (operand_asks (Some w) (not b) t a e)).0, (right (operand_asks (Some w) b t a e)).0, e)
-sum_words None t tl tr true m a left right el er =
-    let r = right (inl refl) in let e : t ≡ word U32 = sym er ∙ r.1 in ((left (inr (ap Some e))).0, r.0, e)
-sum_words None t tl tr false m a left right el er =
-    let l = left (inl refl) in let e : t ≡ word U32 = sym el ∙ l.1 in (l.0, (right (inr (ap Some e))).0, e)
+sum_words : {A B : Type 0} (direction : Option Tau) (t tl tr : Tau) (b : Bool) → Meets direction t → Asks direction → (Asks (operand arithmetic direction (not b) tl) → A × (tl ≡ word U32))
+    → (Asks (operand arithmetic direction b tr) → B × (tr ≡ word U32)) → tl ≡ tr → t ≡ tl → A × B × (t ≡ word U32)
+sum_words (Some w) t tl tr b m a left right alike is =
+    let e : t ≡ word U32 = sym m ∙ asked (Some w) w a refl in
+    let l : tl ≡ word U32 = sym is ∙ e in
+    ((left (operand_asks (Some w) (not b) tl l)).0, (right (operand_asks (Some w) b tr (sym alike ∙ l))).0, e)
+sum_words None t tl tr true m a left right alike is =
+    let r = right (inl refl) in let l : tl ≡ word U32 = alike ∙ r.1 in ((left (inr (ap Some l))).0, r.0, is ∙ l)
+sum_words None t tl tr false m a left right alike is =
+    let l = left (inl refl) in (l.0, (right (inr (ap Some (sym alike ∙ l.1)))).0, is ∙ l.1)
 
 arrow_parts : (a b x t : Tau) → arrow a b ≡ arrow x t → (x ≡ a) × (t ≡ b)
 arrow_parts a b x t e = let p : a ≡ x = cc in let q : b ≡ t = cc in (sym p, sym q)
@@ -149,11 +155,11 @@ module _ (functions : List Function) (vars : List Kinds) (n : ℕ) (signatures :
     shape_words g d direction note (lit value) r p w a =
         let e = asked direction note.ty a r.checked in (literal_range n (length g) note value note.ty e r.in_range, e)
     shape_words g d direction note (op Add (more x (more y none))) r p w a =
-        let left : Asks (operand direction (not (is_literal x)) note.ty) → IsWordTerm n (length (first (marks_of d) g)) x × (type_at x ≡ word U32) =
-        λ b. term_words (first (marks_of d) g) (sub d 0) (operand direction (not (is_literal x)) note.ty) x r.left (and_left (plain n x) (plain n y) p) (first_words (marks_of d) g w) b in
-        let right : Asks (operand direction (is_literal x) note.ty) → IsWordTerm n (length (second (marks_of d) g)) y × (type_at y ≡ word U32) =
-        λ b. term_words (second (marks_of d) g) (sub d 1) (operand direction (is_literal x) note.ty) y r.right (and_right (plain n x) (plain n y) p) (second_words (marks_of d) g w) b in
-        let both = sum_words direction note.ty (type_at x) (type_at y) (is_literal x) r.meets a left right r.left_is r.right_is in
+        let left : Asks (operand arithmetic direction (not (is_literal x)) (type_at x)) → IsWordTerm n (length (first (marks_of d) g)) x × (type_at x ≡ word U32) =
+        λ b. term_words (first (marks_of d) g) (sub d 0) (operand arithmetic direction (not (is_literal x)) (type_at x)) x r.left (and_left (plain n x) (plain n y) p) (first_words (marks_of d) g w) b in
+        let right : Asks (operand arithmetic direction (is_literal x) (type_at y)) → IsWordTerm n (length (second (marks_of d) g)) y × (type_at y ≡ word U32) =
+        λ b. term_words (second (marks_of d) g) (sub d 1) (operand arithmetic direction (is_literal x) (type_at y)) y r.right (and_right (plain n x) (plain n y) p) (second_words (marks_of d) g w) b in
+        let both = sum_words direction note.ty (type_at x) (type_at y) (is_literal x) r.meets a left right r.alike r.is in
         ((both.2, deeper n _ (length g) x (first_long (marks_of d) g r.splits.long) both.0, deeper n _ (length g) y (second_long (marks_of d) g r.splits.long) both.1), both.2)
     shape_words g d direction note (app (term at (fun (User i) [])) x) r p w a =
         let s : at.ty ≡ arrow (word U32) (word U32) = signatures i at.ty r.function.is in
@@ -163,7 +169,7 @@ module _ (functions : List Function) (vars : List Kinds) (n : ℕ) (signatures :
     shape_words g d direction note (lets binder e k) r p w a =
         let one = term_words (first (marks_of d) g) (sub d 0) None e r.value (and_left (plain n e) (plain n k) p) (first_words (marks_of d) g w) (inl refl) in
         let two = term_words (push (second (marks_of d) g) (Some (type_at e))) (sub d 1) direction k r.body (and_right (plain n e) (plain n k) p) (push_words (second (marks_of d) g) (type_at e) (second_words (marks_of d) g w) one.1) a in
-        ((deeper n _ (length g) e (first_long (marks_of d) g r.splits.long) one.0, deeper n _ (suc (length g)) k (push_long (second (marks_of d) g) (Some (type_at e)) ∙ ap suc (second_long (marks_of d) g r.splits.long)) two.0), sym r.is ∙ two.1)
+        ((deeper n _ (length g) e (first_long (marks_of d) g r.splits.long) one.0, deeper n _ (suc (length g)) k (push_long (second (marks_of d) g) (Some (type_at e)) ∙ ap suc (second_long (marks_of d) g r.splits.long)) two.0), r.is ∙ two.1)
     shape_words g d direction note _ r p w a = absurd (cc)
 
 -- What holds unless it is false: the invariant of a checked source is known only so.
@@ -210,12 +216,12 @@ arrow_is : (t : Tau) → is_word_to_word t ≡ true → t ≡ arrow (word U32) (
 arrow_is (arrow (word U32) (word U32)) h = refl
 arrow_is _ h = absurd (cc)
 
-signature_is : (n : ℕ) (fs : List Function) (i : ℕ) (t : Tau) → list_all (plain_function n) fs ≡ true → option_map (λ (g : Function). g.ty.ty) (slice_get fs i) ≡ Some t → t ≡ arrow (word U32) (word U32)
-unfolding plain_function
+signature_is : (n : ℕ) (fs : List Function) (i : ℕ) (t : Tau) → list_all (plain_function n) fs ≡ true → option_map (λ (g : Function). with_args [] g.ty.ty) (slice_get fs i) ≡ Some t → t ≡ arrow (word U32) (word U32)
+unfolding plain_function with_args
 signature_is n [] i t p h = absurd (cc)
 signature_is n (f ∷ fs) zero t p h =
-    let e : f.ty.ty ≡ t = cc in
-    sym e ∙ arrow_is f.ty.ty (and_left (is_word_to_word f.ty.ty) (plain_body n f.body) (and_left (plain_function n f) (list_all (plain_function n) fs) p))
+    let e : with_args [] f.ty.ty ≡ t = cc in
+    sym e ∙ ap (with_args []) (arrow_is f.ty.ty (and_left (is_word_to_word f.ty.ty) (plain_body n f.body) (and_left (plain_function n f) (list_all (plain_function n) fs) p)))
 signature_is n (f ∷ fs) (suc i) t p h = signature_is n fs i t (and_right (plain_function n f) (list_all (plain_function n) fs) p) h
 
 -- the body that is kept of a function

@@ -10,7 +10,7 @@ ghost use Rattle.cg_lower.specs.Printables.{CanBePrinted};
 ghost use Rattle.cg_typing.specs.Holds.{kernel_in};
 
 use cg_base::{Items, Name, Ty, Word};
-use cg_check::{check, is_small};
+use cg_check::check;
 use cg_cmachine::{RunFault, run_words};
 use cg_core::Kernel;
 use cg_ctext::print_c;
@@ -26,13 +26,10 @@ use std::alloc::Global;
 use std::process::Abort;
 use std::test::Fail;
 
-/// A small kernel, checked.
+/// A kernel, checked.
 fn checked_kernel(rt: &impl Abort, alloc: Global, kernel: Kernel) -> Result<Checked, Fail>
     requires { IsLawfulKernel (kernel_of kernel) }
 {
-    if !is_small(&kernel) {
-        panic!(rt; "not small");
-    }
     match check(alloc, kernel) {
         Ok(checked) => Ok(checked),
         Err(_) => panic!(rt; "not accepted"),

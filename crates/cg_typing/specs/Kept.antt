@@ -1,5 +1,5 @@
 -- What is kept of a source that is accepted: its kernel, and for each function with a body a core and a derivation.
-use Rattle.std.specs.Prelude.{◌≡◌, Option, Some, None, List, [], ◌∷◌, ⊤}
+use Rattle.std.specs.Prelude.{◌≡◌, IsTrue, Option, Some, None, List, [], ◌∷◌, ⊤}
 use Rattle.cg_base.specs.declared.kind.Kinds.{Kinds}
 use Rattle.cg_base.specs.declared.place.Place.{Place}
 use Rattle.cg_base.specs.Types.{Tau, arrow}
@@ -10,6 +10,7 @@ use Rattle.cg_core.specs.Derivations.{Derivation, derivation_of}
 use Rattle.cg_core.specs.Kernels.{Function, Body, the_core}
 use Rattle.cg_core.specs.Terms.{Tree, Note, erased}
 use Rattle.cg_typing.specs.Accepted.{kinds_of_vars}
+use Rattle.cg_typing.specs.Parts.{has_word_arrays}
 use Rattle.cg_typing.specs.Rules.{Derives}
 
 -- what is kept stands for these, where there is something
@@ -32,11 +33,12 @@ IsKeptMaybe functions vars argument result None None None = ⊤
 IsKeptMaybe functions vars argument result (Some body) (Some core) (Some tree) = IsKeptBody functions vars argument result body.term core tree
 IsKeptMaybe functions vars argument result _ _ _ = ⊥
 
--- a function's type is an arrow, and its body is kept
+-- a function's type is an arrow that is written with arrays of words alone, and its body is kept
 pub record IsKept (functions : List Function) (f : Function) (core : Option (Tree Note)) (tree : Option Derivation) : Type 0 where
   pub argument : Tau
   pub result : Tau
   pub is_arrow : f.ty.ty ≡ arrow argument result
+  pub arrays : IsTrue (has_word_arrays f.ty.ty)
   pub kept : IsKeptMaybe functions (kinds_of_vars f) argument result f.body core tree
 
 -- one core and one derivation for each function

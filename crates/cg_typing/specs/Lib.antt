@@ -1,7 +1,12 @@
 pub mod Accepted
 pub mod Contexts
+pub mod Functions
 pub mod Holds
 pub mod Kept
 pub mod Laws
+pub mod Library
 pub mod Once
+pub mod Operators
+pub mod Parts
 pub mod Rules
+pub mod Trees

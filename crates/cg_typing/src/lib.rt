@@ -1,6 +1,5 @@
-//! The typing rules: contexts, splits, derivations. This is the small language's part: the rows of variables, unit,
-//! literals, functions, sums, calls and `let`; a term of another form has no derivation yet. docs/LANGUAGE.md, "Typing",
-//! says the rules in words.
+//! The typing rules of the whole language: contexts, splits, derivations, and what is kept of a checked source.
+//! `specs/Rules.antt` has a row for each form of term; docs/LANGUAGE.md, "Typing", says the rules in words.
 #![tactic(auto)]
 
 mod checked;

@@ -1,8 +1,104 @@
-use Rattle.std.proofs.Common.{length, map}
-use Rattle.cg_core.specs.Kernels.{function_of}
-use Rattle.cg_derive.proofs.SourceSteps.{small_operands}
+use Rattle.std.proofs.Common.{rules, ◌≡◌, Ok, arith, ap, length, map, sym, subst}
+use Rattle.std.specs.Option.{option_copied}
+use Rattle.cg_context.specs.View.{Agrees, bounds_of, entries_of, types_in, way_of}
+use Rattle.cg_nodes.specs.Gots.{got_of}
+use Rattle.cg_check.proofs.ArmSteps.{let_arm, let_bang_arm, if_arm, case_arm, member_arm, take_arm, put_arm}
+use Rattle.cg_check.proofs.FormSteps.{let_is, let_bang_is, if_is, case_is, member_is, take_is, put_is}
+use Rattle.cg_context.proofs.ObservedSteps.{seen_types}
+use Rattle.cg_check_laws.specs.Pass.{check_shape}
+use Rattle.cg_core.specs.Kernels.{function_of, the_term}
+use Rattle.cg_core.specs.Terms.{to_trees, lets, let_bang, if_else, case_of, member, take_field, put}
+use Rattle.cg_check.proofs.OperandSteps.{size_more}
+use Rattle.cg_nodes.proofs.FieldSteps.{no_named, more_named}
+use Rattle.cg_check.proofs.OperandSteps.{one_operand, two_operands, other_operands, size_one, size_two}
+use Rattle.cg_check.proofs.PassSteps.{sizes}
 use Rattle.cg_check.proofs.pass.+check.Goals as goal
+use Rattle.cg_check.proofs.pass.+check.Goals.{check_op-in_default-via-then-as_slice-lt1, check_op-in_default-via-else-as_slice-lt1+else-this-lt2+else-this-lt3}
 
-pub check_term-both_of-requires : goal.check_term-both_of-requires
-check_term-both_of-requires t c =
-    small_operands (length (map function_of c.args.source.now.functions.now)) (length c.args.context.now.items) c.args.term.now c.in-Op.field-0 c.in-Op.operands c.in-Op.is c.requires.small
+pub check_op-check_unary-requires : goal.check_op-check_unary-requires
+check_op-check_unary-requires t c =
+    let e = size_one c.as_slice.result.now c.part-item.result c.in-len1.len_at_least c.in-len1.len_below c.part-item.is in
+    omega (arith, ap (λ ts. sizes (to_trees (map the_term ts))) c.as_slice.ensures, e)
+
+pub check_op-check_binary-requires : goal.check_op-check_binary-requires
+check_op-check_binary-requires t c =
+    let e = size_two c.as_slice.result.now c.left-item.result c.right-item.result c.in-len2.len_at_least c.in-len2.len_below c.left-item.is c.right-item.is in
+    omega (arith, ap (λ ts. sizes (to_trees (map the_term ts))) c.as_slice.ensures, e)
+
+pub check_op-returns-in-len1-clause-answer : goal.check_op-returns-in-len1-clause-answer
+check_op-returns-in-len1-clause-answer t c =
+    let e = one_operand c.as_slice.result.now c.part-item.result c.in-len1.len_at_least c.in-len1.len_below c.part-item.is in
+    rw (sym c.as_slice.ensures, e) c.check_unary.ensures.answer
+
+pub check_op-returns-in-len2-clause-answer : goal.check_op-returns-in-len2-clause-answer
+check_op-returns-in-len2-clause-answer t c =
+    let e = two_operands c.as_slice.result.now c.left-item.result c.right-item.result c.in-len2.len_at_least c.in-len2.len_below c.left-item.is c.right-item.is in
+    rw (sym c.as_slice.ensures, e) c.check_binary.ensures.answer
+
+pub check_op-returns-in_default-clause-answer : goal.check_op-returns-in_default-clause-answer
+check_op-returns-in_default-clause-answer t c =
+    let other : (length c.as_slice.result.now ≡ 1 → ⊥) × (length c.as_slice.result.now ≡ 2 → ⊥) =
+    elim c.in_default.branch [ check_op-in_default-via-then-as_slice-lt1 w ↦ (λ one. grind (arith, one, w), λ two. grind (arith, two, w)) | check_op-in_default-via-else-as_slice-lt1+else-this-lt2+else-this-lt3 w ↦ (λ one. grind (arith, one, w), λ two. grind (arith, two, w)) ] in
+    let e = other_operands (map function_of c.args.source.now.functions.now) (bounds_of c.args.source.now.vars.now) (types_in (entries_of c.args.context.now.items))
+    c.args.before.now.items (way_of (option_copied c.args.direction)) c.args.place c.args.op c.as_slice.result.now other.0 other.1 in
+    rw (sym c.as_slice.ensures, e) c.check_bare.ensures
+
+pub check_fields-check_more_fields-requires : goal.check_fields-check_more_fields-requires
+check_fields-check_more_fields-requires t c =
+    let e = size_more c.args.fields.now c.field-item.result c.in-len1-up.len_at_least c.field-item.is in
+    omega (arith, e)
+
+pub check_fields-returns-in_ok-no_fields-in-empty-clause-answer : goal.check_fields-returns-in_ok-no_fields-in-empty-clause-answer
+check_fields-returns-in_ok-no_fields-in-empty-clause-answer t c =
+    let e = no_named c.args.fields.now c.in-empty.len_below in
+    rw e (ap Ok (sym c.in_ok-no_fields-in-empty.ensures))
+
+pub check_fields-returns-in-len1-up-clause-answer : goal.check_fields-returns-in-len1-up-clause-answer
+check_fields-returns-in-len1-up-clause-answer t c =
+    let e = more_named c.args.fields.now c.field-item.result c.in-len1-up.len_at_least c.field-item.is in
+    rw e c.check_more_fields.ensures.answer
+
+pub check_form-returns-in-Let-clause-answer : goal.check_form-returns-in-Let-clause-answer
+check_form-returns-in-Let-clause-answer t c =
+    let a : Agrees got_of c.check_let.result (check_shape (map function_of c.args.source.now.functions.now) (bounds_of c.args.source.now.vars.now) (types_in (entries_of c.args.context.now.items)) c.args.before.now.items (way_of (option_copied c.args.direction)) c.args.term.now.note (lets c.in-Let.binder (the_term c.deref-in-Let.result.now) (the_term c.deref-in-Let-2.result.now)))
+    = subst (λ x. Agrees got_of c.check_let.result x) (let_is (map function_of c.args.source.now.functions.now) (bounds_of c.args.source.now.vars.now) (types_in (entries_of c.args.context.now.items)) c.args.before.now.items (way_of (option_copied c.args.direction)) c.args.term.now.note c.in-Let.binder (the_term c.deref-in-Let.result.now) (the_term c.deref-in-Let-2.result.now)) c.check_let.ensures.answer in
+    rw (let_arm c.args.term.now c.in-Let.binder c.in-Let.value c.in-Let.body c.in-Let.is, sym c.deref-in-Let.ensures, sym c.deref-in-Let-2.ensures) a
+
+pub check_form-returns-in-LetBang-clause-answer : goal.check_form-returns-in-LetBang-clause-answer
+check_form-returns-in-LetBang-clause-answer t c =
+    let a : Agrees got_of c.check_let_bang.result (check_shape (map function_of c.args.source.now.functions.now) (bounds_of c.args.source.now.vars.now) (types_in (entries_of c.args.context.now.items)) c.args.before.now.items (way_of (option_copied c.args.direction)) c.args.term.now.note (let_bang c.in-LetBang.observers c.in-LetBang.binder (the_term c.deref-in-LetBang.result.now) (the_term c.deref-in-LetBang-2.result.now)))
+    = subst (λ x. Agrees got_of c.check_let_bang.result x) (let_bang_is (map function_of c.args.source.now.functions.now) (bounds_of c.args.source.now.vars.now) (types_in (entries_of c.args.context.now.items)) c.args.before.now.items (way_of (option_copied c.args.direction)) c.args.term.now.note c.in-LetBang.observers c.in-LetBang.binder (the_term c.deref-in-LetBang.result.now) (the_term c.deref-in-LetBang-2.result.now)) c.check_let_bang.ensures.answer in
+    rw (let_bang_arm c.args.term.now c.in-LetBang.observers c.in-LetBang.binder c.in-LetBang.value c.in-LetBang.body c.in-LetBang.is, sym c.deref-in-LetBang.ensures, sym c.deref-in-LetBang-2.ensures) a
+
+pub check_form-returns-in-If-clause-answer : goal.check_form-returns-in-If-clause-answer
+check_form-returns-in-If-clause-answer t c =
+    let a : Agrees got_of c.check_if.result (check_shape (map function_of c.args.source.now.functions.now) (bounds_of c.args.source.now.vars.now) (types_in (entries_of c.args.context.now.items)) c.args.before.now.items (way_of (option_copied c.args.direction)) c.args.term.now.note (if_else (the_term c.deref-in-If.result.now) (the_term c.deref-in-If-2.result.now) (the_term c.deref-in-If-3.result.now)))
+    = subst (λ x. Agrees got_of c.check_if.result x) (if_is (map function_of c.args.source.now.functions.now) (bounds_of c.args.source.now.vars.now) (types_in (entries_of c.args.context.now.items)) c.args.before.now.items (way_of (option_copied c.args.direction)) c.args.term.now.note (the_term c.deref-in-If.result.now) (the_term c.deref-in-If-2.result.now) (the_term c.deref-in-If-3.result.now)) c.check_if.ensures.answer in
+    rw (if_arm c.args.term.now c.in-If.test c.in-If.first c.in-If.second c.in-If.is, sym c.deref-in-If.ensures, sym c.deref-in-If-2.ensures, sym c.deref-in-If-3.ensures) a
+
+pub check_form-returns-in-Case-clause-answer : goal.check_form-returns-in-Case-clause-answer
+check_form-returns-in-Case-clause-answer t c =
+    let a : Agrees got_of c.check_case.result (check_shape (map function_of c.args.source.now.functions.now) (bounds_of c.args.source.now.vars.now) (types_in (entries_of c.args.context.now.items)) c.args.before.now.items (way_of (option_copied c.args.direction)) c.args.term.now.note (case_of (the_term c.deref-in-Case.result.now) c.in-Case.at c.in-Case.binder (the_term c.deref-in-Case-2.result.now) (the_term c.deref-in-Case-3.result.now)))
+    = subst (λ x. Agrees got_of c.check_case.result x) (case_is (map function_of c.args.source.now.functions.now) (bounds_of c.args.source.now.vars.now) (types_in (entries_of c.args.context.now.items)) c.args.before.now.items (way_of (option_copied c.args.direction)) c.args.term.now.note (the_term c.deref-in-Case.result.now) c.in-Case.at c.in-Case.binder (the_term c.deref-in-Case-2.result.now) (the_term c.deref-in-Case-3.result.now)) c.check_case.ensures.answer in
+    rw (case_arm c.args.term.now c.in-Case.value c.in-Case.at c.in-Case.binder c.in-Case.first c.in-Case.second c.in-Case.is, sym c.deref-in-Case.ensures, sym c.deref-in-Case-2.ensures, sym c.deref-in-Case-3.ensures) a
+
+pub check_form-returns-in-Member-clause-answer : goal.check_form-returns-in-Member-clause-answer
+check_form-returns-in-Member-clause-answer t c =
+    let a : Agrees got_of c.check_member.result (check_shape (map function_of c.args.source.now.functions.now) (bounds_of c.args.source.now.vars.now) (types_in (entries_of c.args.context.now.items)) c.args.before.now.items (way_of (option_copied c.args.direction)) c.args.term.now.note (member (the_term c.deref-in-Member.result.now) c.in-Member.at))
+    = subst (λ x. Agrees got_of c.check_member.result x) (member_is (map function_of c.args.source.now.functions.now) (bounds_of c.args.source.now.vars.now) (types_in (entries_of c.args.context.now.items)) c.args.before.now.items (way_of (option_copied c.args.direction)) c.args.term.now.note (the_term c.deref-in-Member.result.now) c.in-Member.at) c.check_member.ensures.answer in
+    rw (member_arm c.args.term.now c.in-Member.part c.in-Member.at c.in-Member.is, sym c.deref-in-Member.ensures) a
+
+pub check_form-returns-in-Take-clause-answer : goal.check_form-returns-in-Take-clause-answer
+check_form-returns-in-Take-clause-answer t c =
+    let a : Agrees got_of c.check_take.result (check_shape (map function_of c.args.source.now.functions.now) (bounds_of c.args.source.now.vars.now) (types_in (entries_of c.args.context.now.items)) c.args.before.now.items (way_of (option_copied c.args.direction)) c.args.term.now.note (take_field (the_term c.deref-in-Take.result.now) c.in-Take.at c.in-Take.rest c.in-Take.binder (the_term c.deref-in-Take-2.result.now)))
+    = subst (λ x. Agrees got_of c.check_take.result x) (take_is (map function_of c.args.source.now.functions.now) (bounds_of c.args.source.now.vars.now) (types_in (entries_of c.args.context.now.items)) c.args.before.now.items (way_of (option_copied c.args.direction)) c.args.term.now.note (the_term c.deref-in-Take.result.now) c.in-Take.at c.in-Take.rest c.in-Take.binder (the_term c.deref-in-Take-2.result.now)) c.check_take.ensures.answer in
+    rw (take_arm c.args.term.now c.in-Take.value c.in-Take.at c.in-Take.rest c.in-Take.binder c.in-Take.body c.in-Take.is, sym c.deref-in-Take.ensures, sym c.deref-in-Take-2.ensures) a
+
+pub check_form-returns-in-Put-clause-answer : goal.check_form-returns-in-Put-clause-answer
+check_form-returns-in-Put-clause-answer t c =
+    let a : Agrees got_of c.check_put.result (check_shape (map function_of c.args.source.now.functions.now) (bounds_of c.args.source.now.vars.now) (types_in (entries_of c.args.context.now.items)) c.args.before.now.items (way_of (option_copied c.args.direction)) c.args.term.now.note (put (the_term c.deref-in-Put.result.now) c.in-Put.at (the_term c.deref-in-Put-2.result.now)))
+    = subst (λ x. Agrees got_of c.check_put.result x) (put_is (map function_of c.args.source.now.functions.now) (bounds_of c.args.source.now.vars.now) (types_in (entries_of c.args.context.now.items)) c.args.before.now.items (way_of (option_copied c.args.direction)) c.args.term.now.note (the_term c.deref-in-Put.result.now) c.in-Put.at (the_term c.deref-in-Put-2.result.now)) c.check_put.ensures.answer in
+    rw (put_arm c.args.term.now c.in-Put.value c.in-Put.at c.in-Put.part c.in-Put.is, sym c.deref-in-Put.ensures, sym c.deref-in-Put-2.ensures) a
+
+pub check_observed-returns-clause-answer : goal.check_observed-returns-clause-answer
+check_observed-returns-clause-answer t c = search (rules, seen_types)

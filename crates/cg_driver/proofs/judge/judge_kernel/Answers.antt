@@ -1,15 +1,23 @@
-use Rattle.std.proofs.Common.{sym, ◌∙◌}
 use Rattle.cg_core.specs.Kernels.{kernel_of}
-use Rattle.cg_steps.specs.declared.status.Status.TheVariants.{Refused}
+use Rattle.cg_steps.specs.declared.status.Status.TheVariants.{Refused, TooLarge}
 use Rattle.cg_driver.specs.Judged.{RefusesKernel}
-use Rattle.cg_driver.specs.Lines.{not_accepted_line}
-use Rattle.cg_driver.proofs.Saying.{line_says, untyped_refused}
+use Rattle.cg_driver.specs.Lines.{fault_line, rule_line, limit_line}
+use Rattle.cg_driver.proofs.Saying.{line_says, kernel_kept, rule_refused, type_refused}
 use Rattle.cg_driver.proofs.judge.judge_kernel.Goals as goal
 
 pub check-requires : goal.check-requires
-check-requires c = record { lawful = c.requires; small = sym c.is_small.ensures ∙ c.if-not-is_small.false }
+check-requires c = record { lawful = c.requires }
 
-pub returns-in_ok-not_accepted-in-Err-Rule : goal.returns-in_ok-not_accepted-in-Err-Rule
-returns-in_ok-not_accepted-in-Err-Rule c =
-    line_says (RefusesKernel c.args.file.now (kernel_of c.args.kernel)) Refused (not_accepted_line c.args.file.now) c.in_ok-not_accepted-in-Err-Rule.field-0 c.in_ok-not_accepted-in-Err-Rule.ensures
-    (untyped_refused c.args.file.now (kernel_of c.args.kernel) (sym c.is_small.ensures ∙ c.if-not-is_small.false) (rw c.in-Err-Rule.field-0-is at c.in-Err-Rule.ensures).none)
+pub returns-in-Ok : goal.returns-in-Ok
+returns-in-Ok c = kernel_kept c.args.kernel c.in-Ok.checked c.in-Ok.ensures
+
+pub returns-in_ok-broken-in-Err-Rule : goal.returns-in_ok-broken-in-Err-Rule
+returns-in_ok-broken-in-Err-Rule c =
+    line_says (RefusesKernel c.args.file.now (kernel_of c.args.kernel)) Refused (fault_line c.args.file.now c.in-Err-Rule.place (rule_line c.in-Err-Rule.rule)) c.in_ok-broken-in-Err-Rule.field-0
+    c.in_ok-broken-in-Err-Rule.ensures
+    (rule_refused c.args.file.now (kernel_of c.args.kernel) c.in-Err-Rule.rule c.in-Err-Rule.place c.requires (rw c.in-Err-Rule.field-0-is at c.in-Err-Rule.ensures))
+
+pub returns-in_ok-beyond-in-Err-Limit : goal.returns-in_ok-beyond-in-Err-Limit
+returns-in_ok-beyond-in-Err-Limit c =
+    line_says (RefusesKernel c.args.file.now (kernel_of c.args.kernel)) TooLarge (limit_line c.limit_name.result.now) c.in_ok-beyond-in-Err-Limit.field-0 c.in_ok-beyond-in-Err-Limit.ensures
+    (type_refused c.args.file.now (kernel_of c.args.kernel) c.in-Err-Limit.limit c.limit_name.result.now c.limit_name.ensures c.requires (rw c.in-Err-Limit.field-0-is at c.in-Err-Limit.ensures))

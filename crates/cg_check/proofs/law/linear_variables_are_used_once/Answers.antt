@@ -1,5 +1,0 @@
-use Rattle.cg_check.proofs.Linear.{linear}
-use Rattle.cg_check.proofs.law.linear_variables_are_used_once.Goals as goal
-
-pub returns : goal.returns
-returns c = linear

@@ -1,5 +1,0 @@
-use Rattle.cg_check.proofs.Main.{marks_serve}
-use Rattle.cg_check.proofs.law.occurrence_marks_serve.Goals as goal
-
-pub returns : goal.returns
-returns c = marks_serve

@@ -1,5 +1,0 @@
-use Rattle.cg_check.proofs.Main.{one_core}
-use Rattle.cg_check.proofs.law.one_core.Goals as goal
-
-pub returns : goal.returns
-returns c = one_core

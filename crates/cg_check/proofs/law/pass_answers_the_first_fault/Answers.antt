@@ -1,5 +1,0 @@
-use Rattle.cg_check.proofs.Main.{first_fault}
-use Rattle.cg_check.proofs.law.pass_answers_the_first_fault.Goals as goal
-
-pub returns : goal.returns
-returns c = first_fault

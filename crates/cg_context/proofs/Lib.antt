@@ -1,0 +1,4 @@
+pub mod ObservedSteps
+pub mod ScopeSteps
+pub mod SourceSteps
+pub mod TestSteps

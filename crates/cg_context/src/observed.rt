@@ -1,0 +1,60 @@
+// What a `let!` observes.
+#![tactic(auto, using(crate::proofs::ObservedSteps::flag_steps, crate::proofs::TestSteps::test_steps))]
+
+ghost use Rattle.std.specs.Prelude.{◌≡◌, ◌||◌, IfOk, map};
+ghost use Rattle.cg_context.specs.Observed.{among_at, see, with_flags};
+ghost use Rattle.cg_context.specs.View.{Entry, entries_of};
+ghost use Rattle.cg_uses.specs.Uses as tables;
+
+use crate::source::Known;
+use cg_base::{Memory, Place};
+use std::alloc::Global;
+
+/// Which variables are observed. Want of memory is its one refusal.
+pub fn flags_of(alloc: Global, context: &[Known]) -> Result<Vec<bool>, Memory>
+    ensures { IfOk result (λ flags. flags.items ≡ map (λ (k : Known). k.observed) context.now) }
+{
+    let flags = context.iter().map(|known| known.observed);
+    Ok(flags.collect(alloc)?)
+}
+
+// Whether the variable at a position is among those that a `let!` observes.
+fn is_among(seen: &Vec<Option<Place>>, at: usize) -> bool
+    ensures { result ≡ among_at seen.now.items at }
+{
+    at < seen.len() && seen[at].is_some()
+}
+
+// Whether it is, or was observed before.
+fn or_before(seen: &Vec<Option<Place>>, at: usize, observed: bool) -> bool
+    ensures { result ≡ (among_at seen.now.items at || observed) }
+{
+    is_among(seen, at) || observed
+}
+
+// A flag; none past the end is raised.
+fn flag_at(flags: &Vec<bool>, at: usize) -> bool
+    ensures { result ≡ tables.flag_at flags.now.items at }
+{
+    at < flags.len() && flags[at]
+}
+
+/// A `let!` observes some variables.
+pub fn observe(context: &mut Vec<Known>, seen: &Vec<Option<Place>>)
+    ensures { entries_of context.new.items ≡ see seen.now.items (entries_of context.old.items) }
+{
+    for i in 0..context.len() {
+        let observed = or_before(seen, i, context[i].observed);
+        context[i].observed = observed;
+    }
+}
+
+/// Just these are observed.
+pub fn restore(context: &mut Vec<Known>, flags: &Vec<bool>)
+    ensures { entries_of context.new.items ≡ with_flags flags.now.items (entries_of context.old.items) }
+{
+    for i in 0..context.len() {
+        let observed = flag_at(flags, i);
+        context[i].observed = observed;
+    }
+}

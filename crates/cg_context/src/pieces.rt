@@ -1,0 +1,129 @@
+// The part of a type that a node names, with the tests on it in their order.
+#![tactic(auto)]
+
+ghost use Rattle.std.specs.Prelude.{◌≡◌, Ok, not};
+ghost use Rattle.std.specs.Option.{option_copied};
+ghost use Rattle.cg_base.specs.Types.{type_of};
+ghost use Rattle.cg_check_laws.specs.Pass.{need as need_of};
+ghost use Rattle.cg_context.specs.View.{Agrees, bounds_of, itself};
+ghost use Rattle.cg_faults.specs.declared.rule.Rule.TheVariants.{K6, K7, T1, T5, T6, T7, T8, T9, T10};
+ghost use Rattle.cg_parts.specs.Views.{piece_at};
+ghost use Rattle.cg_typing.specs.Contexts.{shares};
+ghost use Rattle.cg_typing.specs.Parts as parts;
+
+use crate::source::Source;
+use crate::stop::Stop;
+use cg_base::{Name, Part, Place, Ty};
+use cg_core::At;
+use cg_faults::Rule;
+use cg_kinds::kinds_of;
+use cg_parts::{
+    alternative_in, field_in, held, is_last, is_read_only, is_variant, may_be_put_over,
+};
+
+// Whether a part is there, and whether it is there and isn't taken.
+fn is_there(part: Option<&Part>) -> bool
+    ensures { result ≡ parts.is_there (piece_at (option_copied part.entry)) }
+{
+    part.is_some()
+}
+
+fn is_left(part: Option<&Part>) -> bool
+    ensures { result ≡ parts.is_left (piece_at (option_copied part.entry)) }
+{
+    match part {
+        Some(part) => !part.taken,
+        None => false,
+    }
+}
+
+/// A rule that has to hold here.
+pub fn need(rule: Rule, place: Place, holds: bool) -> Result<(), Stop>
+    ensures { Agrees itself result (need_of rule place holds (Ok tt)) }
+{
+    if holds {
+        Ok(())
+    } else {
+        Err(Stop::Rule(rule, place))
+    }
+}
+
+/// What an alternative holds, which is there (T8) and not handled yet (T10).
+pub fn alternative_type(source: &Source, at: &At, ty: &Ty) -> Result<Ty, Stop>
+    ensures { Agrees type_of result (need_of T8 at.now.place (parts.is_there (parts.alternative_in at.now.name (type_of ty.now)))
+        (need_of T10 at.now.place (parts.is_left (parts.alternative_in at.now.name (type_of ty.now)))
+        (Ok (parts.held (parts.alternative_in at.now.name (type_of ty.now)))))) }
+{
+    let part = alternative_in(&at.name, ty);
+    need(Rule::T8, at.place, is_there(part))?;
+    need(Rule::T10, at.place, is_left(part))?;
+    Ok(held(source.alloc, part)?)
+}
+
+/// What the last alternative holds, which is there (T8), not handled yet (T10), and the only one left (T9).
+pub fn last_type(source: &Source, at: &At, ty: &Ty) -> Result<Ty, Stop>
+    ensures { Agrees type_of result (need_of T8 at.now.place (parts.is_there (parts.alternative_in at.now.name (type_of ty.now)))
+        (need_of T10 at.now.place (parts.is_left (parts.alternative_in at.now.name (type_of ty.now)))
+        (need_of T9 at.now.place (parts.is_last at.now.name (type_of ty.now))
+        (Ok (parts.held (parts.alternative_in at.now.name (type_of ty.now))))))) }
+{
+    let part = alternative_in(&at.name, ty);
+    need(Rule::T8, at.place, is_there(part))?;
+    need(Rule::T10, at.place, is_left(part))?;
+    need(Rule::T9, at.place, is_last(&at.name, ty))?;
+    Ok(held(source.alloc, part)?)
+}
+
+/// What a field holds that is read as a member: it is there (T5) and left (T6), and the record may be shared (K6).
+pub fn member_type(source: &Source, at: &At, ty: &Ty) -> Result<Ty, Stop>
+    ensures { Agrees type_of result (need_of T5 at.now.place (parts.is_there (parts.field_in at.now.name (type_of ty.now)))
+        (need_of T6 at.now.place (parts.is_left (parts.field_in at.now.name (type_of ty.now)))
+        (need_of K6 at.now.place (shares (bounds_of source.now.vars.now) (type_of ty.now))
+        (Ok (parts.held (parts.field_in at.now.name (type_of ty.now))))))) }
+{
+    let part = field_in(&at.name, ty);
+    need(Rule::T5, at.place, is_there(part))?;
+    need(Rule::T6, at.place, is_left(part))?;
+    need(Rule::K6, at.place, kinds_of(ty, source.vars).share)?;
+    Ok(held(source.alloc, part)?)
+}
+
+/// What a field holds that is taken: it is there (T5) in a record that isn't read-only (T7), and left (T6).
+pub fn taken_type(source: &Source, at: &At, ty: &Ty) -> Result<Ty, Stop>
+    ensures { Agrees type_of result (need_of T5 at.now.place (parts.is_there (parts.field_in at.now.name (type_of ty.now)))
+        (need_of T7 at.now.place (not (parts.is_read_only (type_of ty.now)))
+        (need_of T6 at.now.place (parts.is_left (parts.field_in at.now.name (type_of ty.now)))
+        (Ok (parts.held (parts.field_in at.now.name (type_of ty.now))))))) }
+{
+    let part = field_in(&at.name, ty);
+    need(Rule::T5, at.place, is_there(part))?;
+    need(Rule::T7, at.place, !is_read_only(ty))?;
+    need(Rule::T6, at.place, is_left(part))?;
+    Ok(held(source.alloc, part)?)
+}
+
+/// What a field holds that is put: it is there (T5) in a record that isn't read-only (T7), and taken or may be dropped (K7).
+pub fn put_type(source: &Source, at: &At, ty: &Ty) -> Result<Ty, Stop>
+    ensures { Agrees type_of result (need_of T5 at.now.place (parts.is_there (parts.field_in at.now.name (type_of ty.now)))
+        (need_of T7 at.now.place (not (parts.is_read_only (type_of ty.now)))
+        (need_of K7 at.now.place (parts.may_be_put_over (bounds_of source.now.vars.now) (parts.field_in at.now.name (type_of ty.now)))
+        (Ok (parts.held (parts.field_in at.now.name (type_of ty.now))))))) }
+{
+    let part = field_in(&at.name, ty);
+    need(Rule::T5, at.place, is_there(part))?;
+    need(Rule::T7, at.place, !is_read_only(ty))?;
+    need(Rule::K7, at.place, may_be_put_over(source.vars, part))?;
+    Ok(held(source.alloc, part)?)
+}
+
+/// What an alternative holds into which a value goes: the type is a variant type (T1) that has it, not handled (T8).
+pub fn injected_type(source: &Source, place: Place, name: &Name, ty: &Ty) -> Result<Ty, Stop>
+    ensures { Agrees type_of result (need_of T1 place (parts.is_variant (type_of ty.now))
+        (need_of T8 place (parts.is_left (parts.alternative_in name.now (type_of ty.now)))
+        (Ok (parts.held (parts.alternative_in name.now (type_of ty.now)))))) }
+{
+    need(Rule::T1, place, is_variant(ty))?;
+    let part = alternative_in(name, ty);
+    need(Rule::T8, place, is_left(part))?;
+    Ok(held(source.alloc, part)?)
+}

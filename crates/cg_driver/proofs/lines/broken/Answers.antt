@@ -1,0 +1,5 @@
+use Rattle.std.proofs.Common.{refl, append_assoc}
+use Rattle.cg_driver.proofs.lines.broken.Goals as goal
+
+pub returns : goal.returns
+returns c = (refl, simp append_assoc (rw (← c.rule_name-name.ensures, ← c.text-text.ensures) c.in_ok-format.ensures.ok))

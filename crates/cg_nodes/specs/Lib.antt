@@ -1,0 +1,4 @@
+pub mod Closed
+pub mod Fields
+pub mod Gots
+pub mod Nodes

@@ -1,0 +1,17 @@
+//! What each form of term comes to by what its parts come to ([`Got`]): its core, its derivation with the occurrence marks, and what it
+//! does with each variable of its context. docs/LANGUAGE.md, "Typing", says what marks and derivations are.
+#![tactic(auto)]
+
+mod fields;
+mod got;
+mod nodes;
+
+pub use fields::{
+    Fields, are_none, later_wanted, next_wanted, no_fields, parts_of, put_in_front, record_node,
+    struct_node,
+};
+pub use got::{Got, leaf_of};
+pub use nodes::{
+    annot_node, app_node, case_node, cast_node, con_node, esac_node, if_node, let_bang_node,
+    let_node, member_node, operated, operated_both, put_node, take_node,
+};

@@ -1,0 +1,3 @@
+pub mod Asked
+pub mod Pieces
+pub mod Views

@@ -1,5 +1,0 @@
-use Rattle.cg_rows.proofs.Limits.{within_limits}
-use Rattle.cg_rows.proofs.law.accepted_within_limits.Goals as goal
-
-pub returns : goal.returns
-returns c = within_limits

@@ -1,5 +1,0 @@
-use Rattle.cg_rows.proofs.Main.{marks_serve}
-use Rattle.cg_rows.proofs.law.occurrence_marks_serve.Goals as goal
-
-pub returns : goal.returns
-returns c = marks_serve

@@ -1,5 +1,0 @@
-use Rattle.cg_rows.proofs.RecordsCases.{type_too_large}
-use Rattle.cg_rows.proofs.law.type_limit_case.Goals as goal
-
-pub returns : goal.returns
-returns c = type_too_large

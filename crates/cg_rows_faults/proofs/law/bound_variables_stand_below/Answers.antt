@@ -1,5 +1,0 @@
-use Rattle.cg_rows_faults.proofs.Bound.{bound_variables_stand_below}
-use Rattle.cg_rows_faults.proofs.law.bound_variables_stand_below.Goals as goal
-
-pub returns : goal.returns
-returns c = bound_variables_stand_below

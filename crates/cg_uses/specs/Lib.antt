@@ -1,0 +1,4 @@
+pub mod Marks
+pub mod Noted
+pub mod Parted
+pub mod Uses
