@@ -1,0 +1,9 @@
+pub mod Complete
+pub mod Lines
+pub mod Marked
+pub mod Printed
+pub mod Printing
+pub mod Says
+pub mod Sound
+pub mod Table
+pub mod Viable
