@@ -1,0 +1,29 @@
+-- The events of a certificate decide exactly whether it spells a derivation of the kernel within the limit on types, and what the pass
+-- keeps is that derivation.
+use Rattle.std.proofs.Common.{List, map, ap, subst, sym, ◌∙◌}
+use Rattle.cg_cert.specs.declared.cert.Cert.{Cert}
+use Rattle.cg_cert.specs.declared.cert.CertFun.{CertFun}
+use Rattle.cg_cert.specs.Certificates.{certificate}
+use Rattle.cg_typing.specs.Kept.{AreKept}
+use Rattle.cg_certcheck_laws.specs.Events.{AllHold, cert_events}
+use Rattle.cg_certcheck_laws.specs.Laws.{EventsDecide, KeptIsListed, tree_in, all_kept}
+use Rattle.cg_certcheck_laws.proofs.KernelComplete.{functions_complete}
+use Rattle.cg_certcheck_laws.proofs.KernelSound.{functions_sound}
+
+abbrev cert_of : List CertFun → Cert
+cert_of funs = record { funs = funs }
+
+pub decide : EventsDecide
+decide functions cert lawful = (
+  λ h. let r = functions_sound functions functions lawful.functions_stand cert.funs 1 h in
+      (record { cores = r.cores; trees = r.trees; kept = r.kept; lists = ap cert_of r.lists }, r.limits),
+  λ h. subst (λ c. AllHold (cert_events functions c)) (sym h.0.lists) (functions_complete functions functions h.0.cores h.0.trees h.0.kept h.1 1),
+)
+
+pub kept_listed : KeptIsListed
+kept_listed functions cert lawful h =
+    let r = functions_sound functions functions lawful.functions_stand cert.funs 1 h in
+    let trees = map tree_in (all_kept functions functions cert.funs) in (
+      subst (λ c. AreKept functions functions c trees) (sym r.as_cores) (subst (λ d. AreKept functions functions r.cores d) (sym r.as_trees) r.kept),
+      ap cert_of r.lists ∙ ap (certificate functions) (sym r.as_trees),
+    )

@@ -1,0 +1,5 @@
+pub mod Events
+pub mod Laws
+pub mod Pass
+pub mod Reads
+pub mod Tests
