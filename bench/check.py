@@ -99,9 +99,9 @@ def linear_bindings(size, last=""):
 
 
 def type_arguments(size):
-    """Functions of 400 calls at a type of 511 nodes."""
+    """Functions of 20 calls at a type of 511 nodes."""
     first = "type T0 = U32\n" + "".join(f"type T{k + 1} = (T{k}, T{k})\n" for k in range(8)) + "id : all a. a -> a\n"
-    opened, closed = "id[T8] (" * 400, ")" * 400
+    opened, closed = "id[T8] (" * 20, ")" * 20
     return filled(first, lambda i: f"f{i} : T8 -> T8\nf{i} x = {opened}x{closed}\n", size)
 
 
@@ -122,7 +122,8 @@ KINDS = {
     "matches of 64": wide_matches,
     "observers": observers,
     "linear bindings": linear_bindings,
-    "large type arguments": type_arguments,
+    # each call holds its type arguments, its function's type and its own as trees: half a megabyte
+    "type arguments, a 64th": lambda size: type_arguments(size // 64),
     "written type arguments": written_arguments,
     "K3 at the end": lambda size: linear_bindings(size, "g : (SysState, {x : U8}) -> SysState\ng (s, r) = let (s, q) = step (s, r) in s\n"),
     "K4 at the end": lambda size: linear_bindings(size, "g : SysState -> (SysState, SysState)\ng s = (s, s)\n"),
