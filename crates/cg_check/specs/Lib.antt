@@ -1,4 +1,5 @@
 pub mod Bodies
+pub mod Boxed
 pub mod Forms
 pub mod Judged
 pub mod Operators

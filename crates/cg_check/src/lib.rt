@@ -2,6 +2,7 @@
 //! docs/LANGUAGE.md, "Typing", says the rules.
 #![tactic(auto)]
 
+mod boxed;
 mod functions;
 mod kept;
 mod pass;

@@ -21,9 +21,11 @@ ghost use Rattle.cg_faults.specs.Events.{part_directions};
 ghost use Rattle.cg_faults.specs.Plain.{mentioned as mentioned_type, observed};
 ghost use Rattle.cg_parts.specs.Views.{the_sort};
 ghost use Rattle.cg_typing.specs.Operators.{arithmetic, logic, sort_of as sort_by};
+ghost use Rattle.cg_typing.specs.Parts.{with_part as with_part_of};
 ghost use Rattle.cg_uses.specs.Uses as tables;
 ghost use Rattle.cg_core.specs.declared.derivation.Node.TheVariants as nodes;
 
+use crate::boxed::{boxed, boxed_tested};
 use cg_base::{Fun, Items, Memory, Name, Part, Place, Ty};
 use cg_context::{
     Known, Source, Stop, alternative_type, branches, but_last, copied_arguments, end, enter,
@@ -139,10 +141,17 @@ fn check_var(
     if !may_touch(source, context, before, var) {
         return Err(Stop::Rule(Rule::K4, place));
     }
-    let ty = type_at(source.alloc, context, var)?;
+    let ty = boxed(source.alloc, type_at(source.alloc, context, var))?;
     meet(direction, place, &ty)?;
     let uses = one_use(source.alloc, context.len(), var)?;
-    Ok(leaf_of(source.alloc, place, ty, Form::Var(at), Node::Var, uses)?)
+    Ok(leaf_of(
+        source.alloc,
+        place,
+        Box::into_inner(ty),
+        Form::Var(at),
+        Node::Var,
+        uses,
+    )?)
 }
 
 // A leaf of this type.
@@ -238,14 +247,17 @@ fn check_instance(
     ensures { Agrees got_of result (leaf_by (length (types_in (entries_of context.now.items))) (way_of (option_copied direction.entry)) place
         (mentioned_type (map function_of source.now.functions.now) fun (map arg_of args.now)) (terms.fun fun (map arg_of args.now)) nodes.Fun) }
 {
-    let ty = mentioned(source.alloc, source.functions, fun, args)?;
+    let ty = boxed(
+        source.alloc,
+        mentioned(source.alloc, source.functions, fun, args),
+    )?;
     meet(direction, place, &ty)?;
     let uses = no_uses(source.alloc, context.len())?;
     let args = copied_arguments(source.alloc, args)?;
     Ok(leaf_of(
         source.alloc,
         place,
-        ty,
+        Box::into_inner(ty),
         Form::Fun(fun, args),
         Node::Fun,
         uses,
@@ -790,10 +802,10 @@ fn check_con(
     let Some(ty) = direction else {
         return Err(Stop::Rule(Rule::T2, place));
     };
-    let held = injected_type(source, place, name, ty)?;
+    let held = boxed_tested(source.alloc, injected_type(source, place, name, ty))?;
     let got = check_term(source, context, before, Some(&held), part)?;
-    let ty = ty.copy(source.alloc)?;
-    Ok(con_node(source.alloc, place, ty, name, got)?)
+    let ty = boxed(source.alloc, ty.copy(source.alloc))?;
+    Ok(con_node(source.alloc, place, Box::into_inner(ty), name, got)?)
 }
 
 // A match on one alternative.
@@ -814,7 +826,7 @@ fn check_case(
     ensures same { IfOk result (λ _. entries_of context.new.items ≡ entries_of context.old.items) }
 {
     let part = check_term(source, context, before, None, value)?;
-    let held = alternative_type(source, at, part.ty())?;
+    let held = boxed_tested(source.alloc, alternative_type(source, at, part.ty()))?;
     check_matched(
         source, context, before, direction, place, at, binder, part, &held, first, second,
     )
@@ -835,9 +847,9 @@ fn check_esac(
     ensures same { IfOk result (λ _. entries_of context.new.items ≡ entries_of context.old.items) }
 {
     let got = check_term(source, context, before, None, part)?;
-    let ty = last_type(source, at, got.ty())?;
+    let ty = boxed_tested(source.alloc, last_type(source, at, got.ty()))?;
     meet(direction, place, &ty)?;
-    Ok(esac_node(source.alloc, place, ty, at, got)?)
+    Ok(esac_node(source.alloc, place, Box::into_inner(ty), at, got)?)
 }
 
 // A record.
@@ -955,9 +967,9 @@ fn check_member(
     ensures same { IfOk result (λ _. entries_of context.new.items ≡ entries_of context.old.items) }
 {
     let got = check_term(source, context, before, None, part)?;
-    let ty = member_type(source, at, got.ty())?;
+    let ty = boxed_tested(source.alloc, member_type(source, at, got.ty()))?;
     meet(direction, place, &ty)?;
-    Ok(member_node(source.alloc, place, ty, at, got)?)
+    Ok(member_node(source.alloc, place, Box::into_inner(ty), at, got)?)
 }
 
 // A take.
@@ -979,11 +991,19 @@ fn check_take(
 {
     let count = context.len();
     let first = check_term(source, context, before, None, value)?;
-    let held = taken_type(source, at, first.ty())?;
-    let left = with_part(source.alloc, &at.name, true, first.ty())?;
+    let held = boxed_tested(source.alloc, taken_type(source, at, first.ty()))?;
     let marked = inner_two(source.alloc, before, &first.uses)?;
     let second = check_taken(
-        source, context, &marked, direction, rest, binder, &left, &held, body,
+        source,
+        context,
+        &marked,
+        direction,
+        at,
+        rest,
+        binder,
+        first.ty(),
+        &held,
+        body,
     )?;
     Ok(take_node(source.alloc, count, place, at, rest, binder, first, second)?)
 }
@@ -1004,12 +1024,15 @@ fn check_put(
     ensures same { IfOk result (λ _. entries_of context.new.items ≡ entries_of context.old.items) }
 {
     let first = check_term(source, context, before, None, value)?;
-    let held = put_type(source, at, first.ty())?;
+    let held = boxed_tested(source.alloc, put_type(source, at, first.ty()))?;
     let marked = mark(source.alloc, before, &first.uses)?;
     let second = check_term(source, context, &marked, Some(&held), part)?;
-    let ty = with_part(source.alloc, &at.name, false, first.ty())?;
+    let ty = boxed(
+        source.alloc,
+        with_part(source.alloc, &at.name, false, first.ty()),
+    )?;
     meet(direction, place, &ty)?;
-    Ok(put_node(source.alloc, place, ty, at, first, second)?)
+    Ok(put_node(source.alloc, place, Box::into_inner(ty), at, first, second)?)
 }
 
 // A cast.
@@ -1074,24 +1097,26 @@ fn check_in_scope(
     Ok(got)
 }
 
-// A term in the scope of what is left of a record and of the field that is taken, with K3 at the end of both.
+// A term in the scope of what is left of a record of this type and of the field that is taken, with K3 at the end of both.
 #[cycle(check)]
 fn check_taken(
     source: &Source,
     context: &mut Vec<Known>,
     before: &Vec<bool>,
     direction: Option<&Ty>,
+    at: &At,
     rest: Place,
     binder: Place,
-    left: &Ty,
+    whole: &Ty,
     held: &Ty,
     body: &Term<Place>,
 ) -> Result<Got, Stop>
-    ensures answer { Agrees got_of result (taken_by (map function_of source.now.functions.now) (bounds_of source.now.vars.now) (types_in (entries_of context.old.items)) before.now.items (way_of (option_copied direction.entry)) rest binder (type_of left.now) (type_of held.now) (the_term body.now)) }
+    ensures answer { Agrees got_of result (taken_by (map function_of source.now.functions.now) (bounds_of source.now.vars.now) (types_in (entries_of context.old.items)) before.now.items (way_of (option_copied direction.entry)) rest binder (with_part_of at.now.name true (type_of whole.now)) (type_of held.now) (the_term body.now)) }
     ensures same { IfOk result (λ _. entries_of context.new.items ≡ entries_of context.old.items) }
 {
-    let got = check_in_both(source, context, before, direction, left, held, body)?;
-    end(source, rest, left, use_before_last(&got.uses))?;
+    let left = boxed(source.alloc, with_part(source.alloc, &at.name, true, whole))?;
+    let got = check_in_both(source, context, before, direction, &left, held, body)?;
+    end(source, rest, &left, use_before_last(&got.uses))?;
     end(source, binder, held, last_use(&got.uses))?;
     Ok(got)
 }
@@ -1184,7 +1209,10 @@ fn check_other(
     ensures answer { Agrees got_of result (other_by (map function_of source.now.functions.now) (bounds_of source.now.vars.now) (types_in (entries_of context.old.items)) before.now.items (way_of (option_copied direction.entry)) place at.now binder note (the_term second.now) (got_of part) (got_of one)) }
     ensures same { IfOk result (λ _. entries_of context.new.items ≡ entries_of context.old.items) }
 {
-    let left = with_part(source.alloc, &at.name, true, part.ty())?;
+    let left = boxed(
+        source.alloc,
+        with_part(source.alloc, &at.name, true, part.ty()),
+    )?;
     let way = other_way(direction, one.ty());
     let other = check_scoped(source, context, before, way, at.place, &left, second)?;
     end_case(
