@@ -100,14 +100,14 @@ bound x = names_of (variables x)
 abbrev pub pattern_faults : Pattern → List NameFault
 pattern_faults x = twins [] (variables x)
 
--- of a function with so many type arguments: one of the program, or else one of the library
-abbrev pub library_faults : Place → ℕ → Option OfLibrary → List NameFault
-library_faults p given None = unknown p ∷ []
-library_faults p given (Some f) = counted p f.arity given
+-- of a function with so many type arguments: one of the library, or else one of the program
+abbrev pub user_faults : Place → ℕ → Option OfProgram → List NameFault
+user_faults p given None = unknown p ∷ []
+user_faults p given (Some f) = counted p (length f.vars) given
 
-abbrev pub function_faults : Place → List ℕ → ℕ → Option OfProgram → List NameFault
-function_faults p n given None = library_faults p given (looked_up library n)
-function_faults p n given (Some f) = counted p (length f.vars) given
+abbrev pub function_faults : Place → ℕ → Option OfLibrary → Option OfProgram → List NameFault
+function_faults p given (Some f) user = counted p f.arity given
+function_faults p given None user = user_faults p given user
 
 -- of observed variables
 abbrev pub seen_faults : List (List ℕ) → List At → List NameFault
@@ -178,7 +178,7 @@ module _ (entries : List Entry) where
 
   -- of a name, among these variables: a variable has no type arguments, and hides a function
   abbrev pub mention_faults : List (List ℕ) → Place → List ℕ → ℕ → List NameFault
-  mention_faults scope p n given = if is_among scope n then counted p 0 given else function_faults p n given (function_named entries n)
+  mention_faults scope p n given = if is_among scope n then counted p 0 given else function_faults p given (looked_up library n) (function_named entries n)
 
   module _ (vars : List (List ℕ)) where
     abbrev mutual

@@ -147,10 +147,14 @@ abbrev pub last_bound : Place → Option (List ℕ) → Pattern → Term → Sco
 last_bound p (Some n) x subject scope rest = bound_to p x (term p (esac (record { place = p; name = n }) subject)) scope rest
 last_bound p None x subject scope rest = bind x subject scope rest
 
--- a function of the library, or none that matters
-abbrev pub or_library : Option OfLibrary → Fun
-or_library (Some f) = OfLib f.lib
-or_library None = OfLib New
+-- a function: one of the library, or else one of the program, or none that matters
+abbrev pub user_function : Option OfProgram → Fun
+user_function (Some f) = User f.position
+user_function None = OfLib New
+
+abbrev pub function_of : Option OfLibrary → Option OfProgram → Fun
+function_of (Some f) user = OfLib f.lib
+function_of None user = user_function user
 
 -- the name of a constructor, which each alternative but the last has
 abbrev pub or_empty : Option (List ℕ) → List ℕ
@@ -166,14 +170,10 @@ module _ (entries : List Entry) (known : Bodies) (vars : List (List ℕ)) where
   all_written types.no_types args = args
   all_written (types.and_type ts t) args = all_written ts (written t ∷ args)
 
-  -- what a name stands for: a variable, a function of the program, or one of the library
-  abbrev pub function_of : List ℕ → Option OfProgram → Fun
-  function_of n (Some f) = User f.position
-  function_of n None = or_library (looked_up library n)
-
+  -- what a name stands for: a variable, a function of the library, or one of the program
   abbrev pub mention : Place → List ℕ → Writtens → Option ℕ → Term
   mention p n ts (Some i) = term p (var i)
-  mention p n ts None = term p (fun (function_of n (function_named entries n)) (all_written ts []))
+  mention p n ts None = term p (fun (function_of (looked_up library n) (function_named entries n)) (all_written ts []))
 
   abbrev mutual
     pub term_of : Scope → Expr → Term

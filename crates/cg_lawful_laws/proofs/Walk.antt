@@ -2,14 +2,14 @@
 use Rattle.std.proofs.Common.{◌≡◌, ℕ, suc, ◌+◌, ◌<◌, ◌≤◌, ◌||◌, Bool, true, false, cond, List, [], ◌∷◌, ◌++◌, length, Option, Some, None, refl, sym, ap, ◌∙◌, subst as carry, arith}
 use Rattle.std.proofs.lemmas.List.Elements.{All-append, All-cons, All-nil, Contains-append_left, Contains-append_right}
 use Rattle.std.specs.List.{All, Contains, slice_get}
-use Rattle.cg_base.specs.declared.fun.Fun.TheVariants.{User}
+use Rattle.cg_base.specs.declared.fun.Fun.TheVariants.{User, Lib as OfLib}
 use Rattle.cg_base.specs.declared.place.Place.{Place}
 use Rattle.cg_core.specs.declared.at.At.{At}
 use Rattle.cg_core.specs.declared.op.Op.{Op}
 use Rattle.cg_core.specs.declared.op.Op.TheVariants as op
 use Rattle.cg_core.specs.declared.term.Seen.{Seen}
 use Rattle.cg_core.specs.Terms.{term, var, Arg, Named, end, field, fun, if_else, case_of, unit, esac}
-use Rattle.cg_lawful.specs.Lawful.{AreSome, IsLawfulArg, IsLawfulType, Takes, field_names, library_arity, operands, fields_mentions, term_mentions, user_of}
+use Rattle.cg_lawful.specs.Lawful.{AreSome, IsLawfulArg, IsLawfulType, field_names, library_arity, operands, fields_mentions, term_mentions}
 use Rattle.cg_surface.specs.Written.{Written, Writtens}
 use Rattle.cg_surface.specs.Written as types
 use Rattle.cg_surface.specs.Patterns.{Pattern}
@@ -19,10 +19,10 @@ use Rattle.cg_surface.specs.Programs.{Entry}
 use Rattle.cg_desugar.specs.Declared.{OfLibrary, OfProgram, function_named, is_among, library, looked_up}
 use Rattle.cg_desugar.specs.Desugar.{parts_limit}
 use Rattle.cg_desugar.specs.Expand.{Bodies, component, expanded, types_length}
-use Rattle.cg_desugar.specs.Faults.{all_bound, binds_faults, bound, counted, expr_faults, field_with, function_faults, library_faults, list_faults, match_faults, mention_faults, pattern_faults, put_faults, record_faults, seen_faults, type_faults, types_faults, unknown, value_names}
+use Rattle.cg_desugar.specs.Faults.{all_bound, binds_faults, bound, counted, expr_faults, field_with, function_faults, list_faults, match_faults, mention_faults, pattern_faults, put_faults, record_faults, seen_faults, type_faults, types_faults, unknown, user_faults, value_names}
 use Rattle.cg_desugar.specs.Mentions.{binds_mentions, expr_mentions, list_mentions, match_mentions, values_mentions}
 use Rattle.cg_desugar.specs.Takes.{exprs_length, values_length, widest, widest_alts, widest_binds, widest_expr, widest_list, widest_of, widest_values}
-use Rattle.cg_desugar.specs.Terms.{Rest, Scope, Term, all_written, alternatives, bindings, body_term, cases, components_of, fields_of, first_place, function_of, inner_place, its_name, last_bound, let_bound, mention, observed, or_empty, or_library, or_zero, payload_bound, positions, puts, seen_bound, term_of, variable, written}
+use Rattle.cg_desugar.specs.Terms.{Rest, Scope, Term, all_written, alternatives, bindings, body_term, cases, components_of, fields_of, first_place, function_of, inner_place, its_name, last_bound, let_bound, mention, observed, or_empty, or_zero, payload_bound, positions, puts, seen_bound, term_of, user_function, variable, written}
 use Rattle.cg_desugar.proofs.Faultless.{none_left, none_right, not_again}
 use Rattle.cg_lawful_laws.specs.Shaped.{AreShapedBinds, AreShapedChoices, AreShapedExprs, AreShapedTypes, AreShapedValues, IsBinary, IsShapedExpr, IsShapedPattern, IsShapedType, IsUnary}
 use Rattle.cg_lawful_laws.proofs.Expanded.{AreSound, component_apart, counted_same, looked_up_all, type_lawful, unknown_not}
@@ -171,7 +171,7 @@ module _ (entries : List Entry) (known : Bodies) (names : List (List ℕ)) (arit
   args_length types.no_types args = omega arith
   args_length (types.and_type ts t) args = omega (arith, args_length ts (written entries known names t ∷ args))
 
-  -- a name, as a variable, a function of the program or one of the library
+  -- a name, as a variable, a function of the library or one of the program
   mention_proper : (inside : List (List ℕ)) (scope : Scope) (p : Place) (n : List ℕ) (ts : Writtens) → Covers scope inside → mention_faults entries inside p n (types_length ts) ≡ []
       → AreNamed M (cond (is_among inside n) [] (n ∷ [])) → LawfulArgs (all_written entries known names ts []) → Whole (length scope) (mention entries known names p n ts (variable scope n))
   mention_proper inside scope p n ts covers none named lawful = by_variable (variable scope n) refl
@@ -179,27 +179,25 @@ module _ (entries : List Entry) (known : Bodies) (names : List (List ℕ)) (arit
       count : length (all_written entries known names ts []) ≡ types_length ts
       count = omega (arith, args_length ts [])
 
-      by_library : (o : Option OfLibrary) → looked_up library n ≡ o → library_faults p (types_length ts) o ≡ [] → Takes arities (or_library o) (length (all_written entries known names ts []))
-      by_library None is h = absurd (cc)
-      by_library (Some l) is h = library_same n l is ∙ sym (counted_same p l.arity (types_length ts) h) ∙ sym count
-
-      by_function : (o : Option OfProgram) → function_named entries n ≡ o → function_faults p n (types_length ts) o ≡ [] → AreNamed M (n ∷ [])
-          → Whole (length scope) (term p (fun (function_of entries known names n o) (all_written entries known names ts [])))
-      by_function None is h k =
-          proper_fun arities (length names) P (length scope) p (or_library (looked_up library n)) (all_written entries known names ts []) (by_library (looked_up library n) refl h) lawful (no_user (looked_up library n))
-        where
-          no_user : (o : Option OfLibrary) → All P (user_of (or_library o))
-          no_user None = All-nil P
-          no_user (Some l) = All-nil P
-      by_function (Some f) is h k =
+      by_user : (o : Option OfProgram) → function_named entries n ≡ o → user_faults p (types_length ts) o ≡ [] → AreNamed M (n ∷ [])
+          → Whole (length scope) (term p (fun (user_function o) (all_written entries known names ts [])))
+      by_user None is h k = absurd (cc)
+      by_user (Some f) is h k =
           proper_fun arities (length names) P (length scope) p (User f.position) (all_written entries known names ts [])
           (takes n f is ∙ ap Some (sym (counted_same p (length f.vars) (types_length ts) h) ∙ sym count)) lawful
           (All-cons P f.position [] (may n f (k.at n (0, omega arith, refl)) is) (All-nil P))
 
-      by_among : (b : Bool) → is_among inside n ≡ b → cond b (counted p 0 (types_length ts)) (function_faults p n (types_length ts) (function_named entries n)) ≡ [] → AreNamed M (cond b [] (n ∷ [])) → variable scope n ≡ None
+      by_function : (o : Option OfLibrary) → looked_up library n ≡ o → function_faults p (types_length ts) o (function_named entries n) ≡ [] → AreNamed M (n ∷ [])
+          → Whole (length scope) (term p (fun (function_of o (function_named entries n)) (all_written entries known names ts [])))
+      by_function (Some l) is h k =
+          proper_fun arities (length names) P (length scope) p (OfLib l.lib) (all_written entries known names ts [])
+          (library_same n l is ∙ sym (counted_same p l.arity (types_length ts) h) ∙ sym count) lawful (All-nil P)
+      by_function None is h k = by_user (function_named entries n) refl h k
+
+      by_among : (b : Bool) → is_among inside n ≡ b → cond b (counted p 0 (types_length ts)) (function_faults p (types_length ts) (looked_up library n) (function_named entries n)) ≡ [] → AreNamed M (cond b [] (n ∷ [])) → variable scope n ≡ None
           → Whole (length scope) (mention entries known names p n ts None)
       by_among true e h k nowhere = absurd (let v = variable_there scope n (covers.at n e) in let no : None ≡ Some v.0 = sym nowhere ∙ v.1 in cc)
-      by_among false e h k nowhere = by_function (function_named entries n) refl h k
+      by_among false e h k nowhere = by_function (looked_up library n) refl h k
 
       by_variable : (o : Option ℕ) → variable scope n ≡ o → Whole (length scope) (mention entries known names p n ts o)
       by_variable (Some i) is = proper_var arities (length names) P (length scope) i p (variable_within scope n i is)

@@ -7,7 +7,7 @@ use Rattle.cg_surface.specs.Written as types
 use Rattle.cg_surface.specs.Exprs.{Expr, Exprs, FieldExprs, Binds, Alts}
 use Rattle.cg_surface.specs.Exprs as exprs
 use Rattle.cg_surface.specs.Programs.{Entry}
-use Rattle.cg_desugar.specs.Declared.{is_among, is_variable, type_arity, function_named}
+use Rattle.cg_desugar.specs.Declared.{is_among, is_variable, type_arity, library, looked_up, function_named}
 use Rattle.cg_desugar.specs.Expand.{types_length}
 use Rattle.cg_desugar.specs.Faults.{NameFault, unknown, twice, again, field_with, twins, counted, field_names, alt_names, bound, all_bound, pattern_faults, function_faults, seen_faults, value_names, type_name_faults, type_faults, types_faults, fields_faults, alts_faults, name_faults, mention_faults, expr_faults, list_faults, record_faults, put_faults, binds_faults, match_faults}
 use Rattle.cg_names.specs.Scopes.{SameNames}
@@ -66,7 +66,7 @@ module _ (entries : List Entry) (vars vars' : List (List ℕ)) (alike : SameName
     pub expr_same : (names others : List (List ℕ)) → SameNames names others → (e : Expr) → expr_faults entries vars names e ≡ expr_faults entries vars' others e
     expr_same names others same (exprs.name p n ts) =
         both (mention_faults entries names p n (types_length ts)) (mention_faults entries others p n (types_length ts)) _ _
-        (ap (λ b. if b then counted p 0 (types_length ts) else function_faults p n (types_length ts) (function_named entries n)) (same n)) (types_same entries vars vars' alike ts)
+        (ap (λ b. if b then counted p 0 (types_length ts) else function_faults p (types_length ts) (looked_up library n) (function_named entries n)) (same n)) (types_same entries vars vars' alike ts)
     expr_same names others same (exprs.number p v) = refl
     expr_same names others same (exprs.bool p b) = refl
     expr_same names others same (exprs.unit p) = refl

@@ -197,7 +197,8 @@ fn check_match<'a>(
     check_choices(alloc, declared, vars, scope, choices.as_slice())
 }
 
-// The fault of a name with so many type arguments: a variable has none, and hides a function.
+// The fault of a name with so many type arguments: a variable has none, and hides a function. One of the library comes before one
+// of the program.
 fn check_mention(
     declared: &Declarations<'_>,
     scope: &Scope<'_>,
@@ -211,12 +212,12 @@ fn check_mention(
     if scope.holds(name) {
         return check_count(place, 0, given);
     }
-    if let Some(function) = declared.function_named(name) {
-        return check_count(place, function.vars.len(), given);
+    if let Some(function) = library_function(name) {
+        return check_count(place, function.arity, given);
     }
-    match library_function(name) {
+    match declared.function_named(name) {
         None => Err(NamingFault::N1(place)),
-        Some(function) => check_count(place, function.arity, given),
+        Some(function) => check_count(place, function.vars.len(), given),
     }
 }
 

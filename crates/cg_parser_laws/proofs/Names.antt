@@ -7,7 +7,7 @@ use Rattle.cg_surface.specs.Programs.{Entry}
 use Rattle.cg_symbols.specs.Symbols.{Seen}
 use Rattle.cg_symbols.specs.Readings.{◌then◌}
 use Rattle.cg_desugar.specs.Declared.{is_among, is_variable, type_arity, OfLibrary, OfProgram, library, looked_up, function_named}
-use Rattle.cg_desugar.specs.Faults.{NameFault, unknown, twice, arguments, again, counted, type_name_faults, name_faults, library_faults, function_faults, mention_faults, twins}
+use Rattle.cg_desugar.specs.Faults.{NameFault, unknown, twice, arguments, again, counted, type_name_faults, name_faults, user_faults, function_faults, mention_faults, twins}
 use Rattle.cg_desugar.specs.Order.{place_of, number_of}
 use Rattle.cg_parse_types.specs.Grammar.{NamesBefore, ReadsNames}
 use Rattle.cg_parser_laws.proofs.Spans.{Between, Chain, IsEarlier, Key, Spans, StandAt, behind, between_then, join, nothing_spans, sign_spans, stands_either, stands_none, stands_one, token_with}
@@ -46,17 +46,17 @@ module _ (P : List NameFault → Type 0) (p : Place) (nothing : P []) (no_name :
   counted_is : (wanted given : ℕ) → P (counted p wanted given)
   counted_is wanted given = either_is (given == wanted) [] (arguments p ∷ []) nothing no_count
 
-  library_is : (given : ℕ) (f : Option OfLibrary) → P (library_faults p given f)
-  library_is given None = no_name
-  library_is given (Some f) = counted_is f.arity given
+  user_is : (given : ℕ) (f : Option OfProgram) → P (user_faults p given f)
+  user_is given None = no_name
+  user_is given (Some f) = counted_is (length f.vars) given
 
-  function_is : (n : List ℕ) (given : ℕ) (f : Option OfProgram) → P (function_faults p n given f)
-  function_is n given None = library_is given (looked_up library n)
-  function_is n given (Some f) = counted_is (length f.vars) given
+  function_is : (given : ℕ) (f : Option OfLibrary) (user : Option OfProgram) → P (function_faults p given f user)
+  function_is given (Some f) user = counted_is f.arity given
+  function_is given None user = user_is given user
 
   pub mention_is : (entries : List Entry) (scope : List (List ℕ)) (n : List ℕ) (given : ℕ) → P (mention_faults entries scope p n given)
   mention_is entries scope n given =
-      either_is (is_among scope n) (counted p 0 given) (function_faults p n given (function_named entries n)) (counted_is 0 given) (function_is n given (function_named entries n))
+      either_is (is_among scope n) (counted p 0 given) (function_faults p given (looked_up library n) (function_named entries n)) (counted_is 0 given) (function_is given (looked_up library n) (function_named entries n))
 
 pub mention_stands : (entries : List Entry) (scope : List (List ℕ)) (p : Place) (n : List ℕ) (given : ℕ) → StandAt fault_key p (mention_faults entries scope p n given)
 mention_stands entries scope p n given = mention_is (StandAt fault_key p) p stands_none (stands_one (unknown p)) (stands_one (arguments p)) entries scope n given

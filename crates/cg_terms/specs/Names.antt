@@ -10,7 +10,7 @@ use Rattle.cg_surface.specs.Written.{Written, Writtens}
 use Rattle.cg_surface.specs.Programs.{Entry}
 use Rattle.cg_declared.specs.Declarations.{entries_of, IsIndexed}
 use Rattle.cg_declared.specs.Tables.{texts}
-use Rattle.cg_desugar.specs.Declared.{function_named}
+use Rattle.cg_desugar.specs.Declared.{library, looked_up, function_named}
 use Rattle.cg_desugar.specs.Expand.{bodies}
 use Rattle.cg_desugar.specs.Terms as desugar
 use Rattle.cg_desugar.specs.Terms.{Scope, Term, Rest}
@@ -37,7 +37,7 @@ module _ (names : Names) where
   written_in = desugar.written (entries_in names) (bodies (entries_in names)) (vars_in names)
 
   abbrev pub named_function : List ℕ → Fun
-  named_function n = desugar.function_of (entries_in names) (bodies (entries_in names)) (vars_in names) n (function_named (entries_in names) n)
+  named_function n = desugar.function_of (looked_up library n) (function_named (entries_in names) n)
 
   abbrev pub function_in : Place → List ℕ → Writtens → Term
   function_in p n ts = desugar.mention (entries_in names) (bodies (entries_in names)) (vars_in names) p n ts None

@@ -63,15 +63,15 @@ pub fn function_term(
     Ok(mentioned(place, function, args))
 }
 
-// The function of a name: of the program, or of the library.
+// The function of a name: of the library, or of the program.
 fn function(names: &Names, name: &[u8]) -> Fun
     requires { AreNames names.now }
     ensures { result ≡ named_function names.now name.now }
 {
-    match names.declared.function_named(name) {
-        Some(function) => Fun::User(function.position),
-        None => match library_function(name) {
-            Some(function) => Fun::Lib(function.lib),
+    match library_function(name) {
+        Some(function) => Fun::Lib(function.lib),
+        None => match names.declared.function_named(name) {
+            Some(function) => Fun::User(function.position),
             None => Fun::Lib(Lib::New),
         },
     }
