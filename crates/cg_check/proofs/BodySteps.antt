@@ -1,16 +1,12 @@
 -- What is kept of functions, one after another.
-use Rattle.std.proofs.Common.{◌≡◌, ◌<◌, ◌≤◌, ◌+◌, ℕ, Option, Ok, Err, List, [], ◌∷◌, ◌++◌, length, map, drop, get_or, append-nil, refl, sym, ap, ◌∙◌}
-use Rattle.std.proofs.lemmas.List.{append_assoc, at_drop_more, at_drop_all, map-append}
-use Rattle.cg_check.specs.Bodies.{Both, Lists, as_lists, core_in, tree_in, joined, lists_in, no_lists, one_more}
+use Rattle.std.proofs.Common.{◌≡◌, ◌<◌, ◌≤◌, ◌+◌, ℕ, Option, Ok, Err, List, ◌∷◌, length, map, drop, get_or, refl, ap, ◌∙◌}
+use Rattle.std.proofs.lemmas.List.{at_drop_more, at_drop_all}
+use Rattle.cg_check.specs.Bodies.{as_lists}
+use Rattle.cg_pieces.proofs.BodySteps.{ahead, nothing_more}
+use Rattle.cg_pieces.specs.Bodies.{Both, Lists, joined, lists_in, no_lists, one_more}
 use Rattle.cg_check_laws.specs.Pass.{Out, bind, check_all, check_function}
-use Rattle.cg_core.specs.declared.derivation.Deriv.{Deriv}
 use Rattle.cg_core.specs.declared.kernel.KFun.{KFun}
-use Rattle.cg_core.specs.declared.term.Term.{Term}
-use Rattle.cg_core.specs.declared.term.Typed.{Typed}
-use Rattle.cg_core.specs.Derivations.{Derivation}
 use Rattle.cg_core.specs.Kernels.{Function, function_of}
-use Rattle.cg_core.specs.Terms.{Tree, Note}
-use Rattle.cg_typing.specs.Kept.{maybe_core, maybe_tree}
 
 -- the answer of the pass behind what it kept before
 abbrev pub behind : Lists → Out (List (Option Both)) → Out Lists
@@ -20,26 +16,10 @@ pub behind_none : (answer : Out (List (Option Both))) → behind no_lists answer
 behind_none (Ok kept) = refl
 behind_none (Err fault) = refl
 
-nothing_more : (before : Lists) → joined before no_lists ≡ before
-nothing_more before = go before.0 before.1 (append-nil before.0) (append-nil before.1)
-  where
-    go : (cs : List (Option (Tree Note))) (ds : List (Option Derivation)) → cs ++ [] ≡ cs → ds ++ [] ≡ ds → joined (cs, ds) no_lists ≡ (cs, ds)
-    go cs ds c d = cc (c, d)
-
-ahead : (before : Lists) (both : Option Both) (kept : List (Option Both)) → joined before (lists_in (both ∷ kept)) ≡ joined (one_more before both) (lists_in kept)
-ahead before both kept = cc (sym (append_assoc before.0 (core_in both ∷ []) (map core_in kept)), sym (append_assoc before.1 (tree_in both ∷ []) (map tree_in kept)))
-
 one_ahead : (before : Lists) (both : Option Both) (answer : Out (List (Option Both)))
     → behind before (bind answer (λ kept. Ok (both ∷ kept))) ≡ behind (one_more before both) answer
 one_ahead before both (Ok kept) = ap Ok (ahead before both kept)
 one_ahead before both (Err fault) = refl
-
--- one function more
-pub pushed_core : (cs : List (Option (Term Typed))) (c : Option (Term Typed)) → map maybe_core (cs ++ c ∷ []) ≡ map maybe_core cs ++ maybe_core c ∷ []
-pushed_core cs c = map-append maybe_core cs (c ∷ [])
-
-pub pushed_tree : (ds : List (Option Deriv)) (d : Option Deriv) → map maybe_tree (ds ++ d ∷ []) ≡ map maybe_tree ds ++ maybe_tree d ∷ []
-pushed_tree ds d = map-append maybe_tree ds (d ∷ [])
 
 module _ (functions : List Function) (funs : List KFun) where
   abbrev Rest : ℕ → Out (List (Option Both))
@@ -58,4 +38,4 @@ module _ (functions : List Function) (funs : List KFun) where
   none_left i before h =
       ap (behind before) (at_drop_all (λ l. check_all functions (map function_of l)) funs i h) ∙ ap Ok (nothing_more before)
 
-pub ruleset body_steps = (behind_none, next_kept, none_left, pushed_core, pushed_tree)
+pub ruleset body_steps = (behind_none, next_kept, none_left)

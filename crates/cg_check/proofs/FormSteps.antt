@@ -1,10 +1,10 @@
 -- The pass at a form is one step after another.
-use Rattle.std.proofs.Common.{◌≡◌, ℕ, Bool, true, false, not, ◌||◌, cond, List, [], ◌∷◌, length, Option, Some, None, Ok, Err, refl, sym, ap, ◌∙◌}
+use Rattle.std.proofs.Common.{◌≡◌, Bool, true, false, not, ◌||◌, cond, List, [], ◌∷◌, length, Option, Some, None, Ok, Err, refl, ap, ◌∙◌}
 use Rattle.cg_base.specs.declared.kind.Kinds.{Kinds}
 use Rattle.cg_base.specs.declared.place.Place.{Place}
 use Rattle.cg_base.specs.Types as types
 use Rattle.cg_base.specs.Types.{Tau}
-use Rattle.cg_check.specs.Forms.{fine, alternative_held, member_held, taken_held, put_held, scoped, let_by, let_bang_by, if_by, matched_by, case_by, member_by, taken_by, take_by, put_by}
+use Rattle.cg_check.specs.Forms.{fine, scoped, let_by, let_bang_by, if_by, matched_by, case_by, member_by, taken_by, take_by, put_by}
 use Rattle.cg_nodes.specs.Nodes as forms
 use Rattle.cg_check_laws.specs.Pass.{Out, Got, bind, need, meet, none_bad, check, check_shape, leave, observers_test, branches_test}
 use Rattle.cg_core.specs.declared.at.At.{At}
@@ -35,9 +35,6 @@ again (Err e) f g = refl
 need_then : {A B : Type 0} (r : Rule) (p : Place) (b : Bool) (x : Out A) (k : A → Out B) → bind (need r p b x) k ≡ need r p b (bind x k)
 need_then r p true x k = refl
 need_then r p false x k = refl
-
-need_same : {A : Type 0} (r : Rule) (p : Place) (b : Bool) (x y : Out A) → x ≡ y → need r p b x ≡ need r p b y
-need_same r p b x y h = ap (need r p b) h
 
 two_then : {A B : Type 0} (r s : Rule) (p q : Place) (a b : Bool) (x : A) (k : A → Out B) → bind (need r p a (need s q b (Ok x))) k ≡ need r p a (need s q b (k x))
 two_then r s p q true b x k = need_then s q b (Ok x) k

@@ -2,10 +2,11 @@
 use Rattle.std.proofs.Common.{◌≡◌, Option, Some, None, Ok, Err, List, [], ◌∷◌, map, refl, sym, ap, ◌∙◌}
 use Rattle.cg_base.specs.declared.place.Place.{Place}
 use Rattle.cg_base.specs.Types.{Tau}
-use Rattle.cg_check.specs.declared.kept.KeptBodies.{KeptBodies}
+use Rattle.cg_pieces.specs.declared.kept.KeptBodies.{KeptBodies}
 use Rattle.cg_context.specs.declared.stop.Stop.{Stop}
 use Rattle.cg_context.specs.declared.stop.Stop.TheVariants.{Rule as Broken, Size, Memory}
-use Rattle.cg_check.specs.Bodies.{Both, Lists, as_lists, core_in, tree_in, lists_in, lists_of, refusal_of}
+use Rattle.cg_check.specs.Bodies.{as_lists, refusal_of}
+use Rattle.cg_pieces.specs.Bodies.{Both, Lists, core_in, tree_in, lists_in, lists_of}
 use Rattle.cg_check.specs.Judged.{AreTypesWithin, Refuses, IsChecked}
 use Rattle.cg_context.specs.View.{Agrees}
 use Rattle.cg_check_laws.proofs.Main.{kept}

@@ -1,15 +1,13 @@
 -- Operands of an operator in their list, and the sizes of lists of terms.
-use Rattle.std.proofs.Common.{◌≡◌, ◌<◌, ◌≤◌, ◌+◌, ◌-◌, ℕ, suc, Bool, Option, None, List, [], ◌∷◌, length, map, take, drop, get_or, refl, sym, ap, ◌∙◌, arith}
+use Rattle.std.proofs.Common.{◌≡◌, ◌<◌, ◌≤◌, ◌+◌, ◌-◌, Bool, Option, None, List, [], ◌∷◌, length, map, take, drop, get_or, refl, sym, ap, ◌∙◌, arith}
 use Rattle.cg_base.specs.declared.kind.Kinds.{Kinds}
 use Rattle.cg_base.specs.declared.place.Place.{Place}
 use Rattle.cg_base.specs.Types as types
 use Rattle.cg_base.specs.Types.{Tau}
 use Rattle.cg_check.proofs.PassSteps.{size, sizes, size_fields}
 use Rattle.cg_context.proofs.SourceSteps.{types_long}
-use Rattle.cg_nodes.proofs.FieldSteps.{more_named}
+use Rattle.cg_pieces.proofs.FieldSteps.{more_named}
 use Rattle.cg_core.specs.declared.term.FieldTerm.{FieldTerm}
-use Rattle.cg_context.specs.declared.source.Known.{Known}
-use Rattle.cg_context.specs.View.{entries_of, types_in}
 use Rattle.cg_check_laws.specs.Pass.{check_shape, leaf}
 use Rattle.cg_core.specs.declared.derivation.Node.TheVariants as nodes
 use Rattle.cg_core.specs.declared.op.Op.{Op}
@@ -18,7 +16,7 @@ use Rattle.cg_core.specs.declared.term.Form.TheVariants.{Op as OpForm}
 use Rattle.cg_core.specs.declared.term.Term.{Term}
 use Rattle.cg_core.specs.declared.term.Typed.{Typed}
 use Rattle.cg_core.specs.Kernels.{Function, the_core, the_core_form, the_field, the_term}
-use Rattle.cg_core.specs.Terms.{Trees, none, more, op, to_named, to_trees}
+use Rattle.cg_core.specs.Terms.{none, more, op, to_named, to_trees}
 
 -- one operand
 pub one_operand : (ts : List (Term Place)) (x : Term Place) → 1 ≤ length ts → length ts < 2 → x ≡ get_or ts 0 x → to_trees (map the_term ts) ≡ more (the_term x) none

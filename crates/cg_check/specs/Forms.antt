@@ -1,5 +1,5 @@
 -- Forms of nodes as one step of the pass after another, where tests stand between their parts.
-use Rattle.std.specs.Prelude.{ℕ, Bool, false, true, not, Option, Some, None, List, length, Ok}
+use Rattle.std.specs.Prelude.{Bool, false, true, not, Option, Some, None, List, length, Ok}
 use Rattle.cg_base.specs.declared.kind.Kinds.{Kinds}
 use Rattle.cg_base.specs.declared.place.Place.{Place}
 use Rattle.cg_base.specs.Types as types
@@ -11,7 +11,6 @@ use Rattle.cg_core.specs.declared.term.Seen.{Seen}
 use Rattle.cg_core.specs.Kernels.{Function}
 use Rattle.cg_core.specs.Terms.{Tree}
 use Rattle.cg_faults.specs.declared.rule.Rule.TheVariants.{K2, K6, K7, T5, T6, T7, T8, T10}
-use Rattle.cg_faults.specs.declared.uses.Use.{Use}
 use Rattle.cg_faults.specs.Plain.{observed}
 use Rattle.cg_kinds.specs.Kinds.{kinds}
 use Rattle.cg_typing.specs.Contexts.{push, shares}

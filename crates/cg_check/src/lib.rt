@@ -4,7 +4,7 @@
 
 mod boxed;
 mod functions;
-mod kept;
+mod leaves;
 mod pass;
 mod refusal;
 

@@ -1,55 +1,52 @@
 // The pass over a term.
 #![tactic(auto, unfolding(cg_check_laws::specs::Pass::check, crate::proofs::PassSteps::size), using(crate::proofs::PassSteps::pass_steps))]
 
-ghost use Rattle.std.specs.Prelude.{◌≡◌, IfOk, length, map, None, Some, false, true};
-ghost use Rattle.std.specs.Option.{option_copied, option_map};
-ghost use Rattle.cg_base.specs.Types.{type_of, bool as bool_type, part_of, to_parts, unit as unit_type};
-ghost use Rattle.cg_core.specs.Kernels.{function_of, the_core_form, the_field, the_term};
+ghost use Rattle.std.specs.Prelude.{◌≡◌, IfOk, map, None, Some, false, true};
+ghost use Rattle.std.specs.Option.{option_copied};
+ghost use Rattle.cg_base.specs.Types.{type_of, part_of, to_parts};
+ghost use Rattle.cg_core.specs.Kernels.{function_of, the_field, the_term};
 ghost use Rattle.cg_core.specs.Terms as terms;
 ghost use Rattle.cg_core.specs.Terms.{arg_of, to_named, to_trees};
-ghost use Rattle.cg_check_laws.specs.Pass.{binary, check as check_of, check_shape, check_fields as fields_by, leaf as leaf_by, unary};
-ghost use Rattle.cg_context.specs.View.{Agrees, bounds_of, entries_of, types_in, way_of};
+ghost use Rattle.cg_check_laws.specs.Pass.{binary, check as check_of, check_shape, check_fields as fields_by, unary};
+ghost use Rattle.cg_context.specs.View.{Agrees, entries_of, types_in};
+ghost use Rattle.cg_pieces.specs.View.{bounds_of, shape_at, way_of};
 ghost use Rattle.cg_nodes.specs.Gots.{got_of};
 ghost use Rattle.cg_typing.specs.Contexts.{push as push_of};
-ghost use Rattle.cg_typing.specs.Rules.{is_literal as literal_of, note_at as note_of, second_branch};
+ghost use Rattle.cg_typing.specs.Rules.{is_literal as literal_of, note_at as note_of};
 ghost use Rattle.cg_nodes.specs.Fields.{fields_of};
 ghost use Rattle.cg_check.specs.Forms.{case_by, case_end, if_by, let_bang_by, let_by, matched_by, member_by, other_by, put_by, scoped, take_by, taken_by};
-ghost use Rattle.cg_nodes.specs.Nodes.{shape_at};
 ghost use Rattle.cg_context.specs.Observed.{see};
 ghost use Rattle.cg_check.specs.Operators.{compared, comparison};
 ghost use Rattle.cg_faults.specs.Events.{part_directions};
-ghost use Rattle.cg_faults.specs.Plain.{mentioned as mentioned_type, observed};
+ghost use Rattle.cg_faults.specs.Plain.{observed};
 ghost use Rattle.cg_parts.specs.Views.{the_sort};
 ghost use Rattle.cg_typing.specs.Operators.{arithmetic, logic, sort_of as sort_by};
 ghost use Rattle.cg_typing.specs.Parts.{with_part as with_part_of};
-ghost use Rattle.cg_uses.specs.Uses as tables;
-ghost use Rattle.cg_core.specs.declared.derivation.Node.TheVariants as nodes;
 
 use crate::boxed::{boxed, boxed_tested};
-use cg_base::{Fun, Items, Memory, Name, Part, Place, Ty};
+use crate::leaves::{check_bare, check_bool, check_literal, check_mention, check_unit, check_var};
+use cg_base::{Items, Name, Part, Place, Ty};
 use cg_context::{
-    Known, Source, Stop, alternative_type, branches, but_last, copied_arguments, end, enter,
-    escape, flags_of, injected_type, inner, inner_seen, inner_two, last_type, last_use, leave,
-    may_touch, meet, member_type, need, observe, observe_all, put_type, restore, taken_type,
-    type_at, use_before_last,
+    Known, Source, Stop, alternative_type, branches, but_last, end, enter, escape, flags_of,
+    injected_type, inner, inner_seen, inner_two, last_type, last_use, leave, meet, member_type,
+    need, observe, observe_all, put_type, restore, taken_type, use_before_last,
 };
-use cg_core::{At, FieldTerm, Form, Node, Op, Seen, Term, TyArg, Typed};
-use cg_faults::{Rule, Use};
+use cg_core::{At, FieldTerm, Form, Op, Seen, Term, TyArg};
+use cg_faults::Rule;
 use cg_nodes::{
     Fields, Got, annot_node, app_node, are_none, case_node, cast_node, con_node, esac_node,
-    if_node, later_wanted, leaf_of, let_bang_node, let_node, member_node, next_wanted, no_fields,
-    operated, operated_both, parts_of, put_in_front, put_node, record_node, struct_node, take_node,
+    if_node, let_bang_node, let_node, member_node, no_fields, operated, operated_both,
+    put_in_front, put_node, record_node, struct_node, take_node,
 };
 use cg_parts::{
-    Sort, arguments_fault, has_word_arrays, in_range, is_made_of, is_small_enough, is_word,
-    mentioned, sort_of, takes, widens, with_part,
+    Sort, has_word_arrays, is_made_of, is_small_enough, is_word, sort_of, takes, widens, with_part,
 };
-use cg_uses::{mark, no_uses, one_use, seen_places};
-use std::alloc::Global;
+use cg_pieces::{is_literal, later_wanted, next_wanted, other_way, parts_of};
+use cg_uses::{mark, seen_places};
 
 /// What a term comes to, in a context and a direction, behind parts that touched some variables: as the pass answers it.
 #[cycle(check)]
-pub fn check_term(
+pub(crate) fn check_term(
     source: &Source,
     context: &mut Vec<Known>,
     before: &Vec<bool>,
@@ -125,145 +122,6 @@ fn check_form(
     }
 }
 
-// A variable.
-fn check_var(
-    source: &Source,
-    context: &mut Vec<Known>,
-    before: &Vec<bool>,
-    direction: Option<&Ty>,
-    place: Place,
-    at: u32,
-) -> Result<Got, Stop>
-    ensures answer { Agrees got_of result (check_shape (map function_of source.now.functions.now) (bounds_of source.now.vars.now) (types_in (entries_of context.old.items)) before.now.items (way_of (option_copied direction.entry)) place (terms.var at)) }
-    ensures same { IfOk result (λ _. entries_of context.new.items ≡ entries_of context.old.items) }
-{
-    let var = at as usize;
-    if !may_touch(source, context, before, var) {
-        return Err(Stop::Rule(Rule::K4, place));
-    }
-    let ty = boxed(source.alloc, type_at(source.alloc, context, var))?;
-    meet(direction, place, &ty)?;
-    let uses = one_use(source.alloc, context.len(), var)?;
-    Ok(leaf_of(
-        source.alloc,
-        place,
-        Box::into_inner(ty),
-        Form::Var(at),
-        Node::Var,
-        uses,
-    )?)
-}
-
-// A leaf of this type.
-fn check_bool(
-    source: &Source,
-    context: &mut Vec<Known>,
-    before: &Vec<bool>,
-    direction: Option<&Ty>,
-    place: Place,
-    value: bool,
-) -> Result<Got, Stop>
-    ensures answer { Agrees got_of result (check_shape (map function_of source.now.functions.now) (bounds_of source.now.vars.now) (types_in (entries_of context.old.items)) before.now.items (way_of (option_copied direction.entry)) place (terms.bool value)) }
-    ensures same { IfOk result (λ _. entries_of context.new.items ≡ entries_of context.old.items) }
-{
-    let uses = no_uses(source.alloc, context.len())?;
-    meet(direction, place, &Ty::Bool)?;
-    Ok(leaf_of(
-        source.alloc,
-        place,
-        Ty::Bool,
-        Form::Bool(value),
-        Node::Bool,
-        uses,
-    )?)
-}
-
-// Unit.
-fn check_unit(
-    source: &Source,
-    context: &mut Vec<Known>,
-    before: &Vec<bool>,
-    direction: Option<&Ty>,
-    place: Place,
-) -> Result<Got, Stop>
-    ensures answer { Agrees got_of result (check_shape (map function_of source.now.functions.now) (bounds_of source.now.vars.now) (types_in (entries_of context.old.items)) before.now.items (way_of (option_copied direction.entry)) place (terms.unit)) }
-    ensures same { IfOk result (λ _. entries_of context.new.items ≡ entries_of context.old.items) }
-{
-    let uses = no_uses(source.alloc, context.len())?;
-    meet(direction, place, &Ty::Unit)?;
-    Ok(leaf_of(source.alloc, place, Ty::Unit, Form::Unit, Node::Unit, uses)?)
-}
-
-// A literal.
-fn check_literal(
-    source: &Source,
-    context: &mut Vec<Known>,
-    before: &Vec<bool>,
-    direction: Option<&Ty>,
-    place: Place,
-    value: Option<u64>,
-) -> Result<Got, Stop>
-    ensures answer { Agrees got_of result (check_shape (map function_of source.now.functions.now) (bounds_of source.now.vars.now) (types_in (entries_of context.old.items)) before.now.items (way_of (option_copied direction.entry)) place (terms.lit value)) }
-    ensures same { IfOk result (λ _. entries_of context.new.items ≡ entries_of context.old.items) }
-{
-    let Some(ty) = direction else {
-        return Err(Stop::Rule(Rule::T2, place));
-    };
-    need(Rule::T1, place, is_word(ty))?;
-    need(Rule::T3, place, in_range(value, ty))?;
-    let uses = no_uses(source.alloc, context.len())?;
-    let ty = ty.copy(source.alloc)?;
-    Ok(leaf_of(source.alloc, place, ty, Form::Lit(value), Node::Lit, uses)?)
-}
-
-// A function that is mentioned.
-fn check_mention(
-    source: &Source,
-    context: &mut Vec<Known>,
-    before: &Vec<bool>,
-    direction: Option<&Ty>,
-    place: Place,
-    fun: Fun,
-    args: &Items<TyArg>,
-) -> Result<Got, Stop>
-    ensures answer { Agrees got_of result (check_shape (map function_of source.now.functions.now) (bounds_of source.now.vars.now) (types_in (entries_of context.old.items)) before.now.items (way_of (option_copied direction.entry)) place (terms.fun fun (map arg_of args.now))) }
-    ensures same { IfOk result (λ _. entries_of context.new.items ≡ entries_of context.old.items) }
-{
-    match arguments_fault(source.functions, source.vars, fun, args) {
-        Some((rule, at)) => Err(Stop::Rule(rule, at)),
-        None => check_instance(source, context, direction, place, fun, args),
-    }
-}
-
-// A function that is mentioned with type arguments as it asks for them.
-fn check_instance(
-    source: &Source,
-    context: &Vec<Known>,
-    direction: Option<&Ty>,
-    place: Place,
-    fun: Fun,
-    args: &Items<TyArg>,
-) -> Result<Got, Stop>
-    ensures { Agrees got_of result (leaf_by (length (types_in (entries_of context.now.items))) (way_of (option_copied direction.entry)) place
-        (mentioned_type (map function_of source.now.functions.now) fun (map arg_of args.now)) (terms.fun fun (map arg_of args.now)) nodes.Fun) }
-{
-    let ty = boxed(
-        source.alloc,
-        mentioned(source.alloc, source.functions, fun, args),
-    )?;
-    meet(direction, place, &ty)?;
-    let uses = no_uses(source.alloc, context.len())?;
-    let args = copied_arguments(source.alloc, args)?;
-    Ok(leaf_of(
-        source.alloc,
-        place,
-        Box::into_inner(ty),
-        Form::Fun(fun, args),
-        Node::Fun,
-        uses,
-    )?)
-}
-
 // An operator.
 #[cycle(check)]
 fn check_op(
@@ -283,38 +141,6 @@ fn check_op(
         [left, right] => check_binary(source, context, before, direction, place, op, left, right),
         _ => check_bare(source, context, place, op),
     }
-}
-
-// Whether a term is a literal.
-fn is_literal(term: &Term<Place>) -> bool
-    ensures { result ≡ literal_of (the_term term.now) }
-{
-    matches!(term.form, Form::Lit(_))
-}
-
-// No use of any variable of a context.
-#[tactic(auto, using(crate::proofs::OperandSteps::bare_steps))]
-fn unused(alloc: Global, context: &Vec<Known>) -> Result<Vec<Use>, Memory>
-    ensures { IfOk result (λ uses. uses.items ≡ tables.no_uses (length (types_in (entries_of context.now.items)))) }
-{
-    no_uses(alloc, context.len())
-}
-
-// The form of an operator without operands.
-#[tactic(auto, using(crate::proofs::OperandSteps::bare_steps))]
-fn bare(alloc: Global, op: Op) -> Form<Typed>
-    ensures { the_core_form result ≡ terms.op op terms.none }
-{
-    Form::Op(op, Items::new(alloc))
-}
-
-// An operator that has neither one operand nor two.
-fn check_bare(source: &Source, context: &Vec<Known>, place: Place, op: Op) -> Result<Got, Stop>
-    ensures { Agrees got_of result (leaf_by (length (types_in (entries_of context.now.items))) None place unit_type (terms.op op terms.none) nodes.Op) }
-{
-    let uses = unused(source.alloc, context)?;
-    let form = bare(source.alloc, op);
-    Ok(leaf_of(source.alloc, place, Ty::Unit, form, Node::Op, uses)?)
 }
 
 // An operator with one operand.
@@ -1154,16 +980,6 @@ fn check_seen(
     let got = check_term(source, context, before, None, value)?;
     restore(context, &flags);
     Ok(got)
-}
-
-// The direction of a second branch: that of both, or the type of the first one.
-fn other_way<'a>(direction: Option<&'a Ty>, first: &'a Ty) -> Option<&'a Ty>
-    ensures { way_of (option_copied result) ≡ second_branch (way_of (option_copied direction.entry)) (type_of first.now) }
-{
-    match direction {
-        Some(wanted) => Some(wanted),
-        None => Some(first),
-    }
 }
 
 // The branches of a match, whose first one gets a value of this type.

@@ -12,12 +12,6 @@ checked_is None place f h = absurd (let q = h.0 in cc)
 checked_is (Some t) place f h = (t, refl, h)
 
 module _ (place : Place) (left right : Option Tau → List Event) where
-  guide_holds : (sort : Sort) (t : Tau) → RulesHold (guided sort place t left right) → (way : Option Tau) × RulesHold (left way)
-  guide_holds sort t h = (None, hold_left _ _ h)
-
-  other_holds : (sort : Sort) (t : Tau) → RulesHold (guided sort place t left right) → (way : Option Tau) × RulesHold (right way)
-  other_holds sort t h = (Some t, (hold_right (left None) _ h).1)
-
   pub left_holds : (sort : Sort) (dir : Option Tau) (lit : Bool) (a b : Tau) → RulesHold (binary_events sort dir place lit a b left right) → (way : Option Tau) × RulesHold (left way)
   left_holds logic dir lit a b h = (Some bool, hold_left _ _ h)
   left_holds arithmetic (Some t) lit a b h = (Some t, hold_left _ _ h.1)

@@ -4,7 +4,8 @@ use Rattle.std.proofs.lemmas.List.{drop_all, take_all, get_or-map, length-map}
 use Rattle.cg_base.specs.declared.place.Place.{Place}
 use Rattle.cg_base.specs.Types.{type_of}
 use Rattle.cg_context.specs.declared.source.Known.{Known}
-use Rattle.cg_context.specs.Observed.{among_at, see, with_flags}
+use Rattle.cg_context.specs.Observed.{see, with_flags}
+use Rattle.cg_pieces.specs.View.{is_seen_at}
 use Rattle.cg_context.specs.View.{Entry, entries_of, type_seen, types_in}
 use Rattle.cg_core.specs.declared.term.Seen.{Seen}
 use Rattle.cg_faults.specs.Plain.{banged_where, observed}
@@ -18,19 +19,9 @@ use Rattle.cg_check_laws.proofs.PassSteps.{seen_among}
 abbrev entry_of : Known → Entry
 entry_of k = record { ty = type_of k.ty; observed = k.observed }
 
-pub among_get : (ss : List (Option Place)) (i : ℕ) (d : Option Place) → i < length ss → among_at ss i ≡ is_seen (get_or ss i d)
-among_get [] i d h = absurd (omega (arith, h))
-among_get (s ∷ ss) zero d h = refl
-among_get (s ∷ ss) (suc i) d h = among_get ss i d (omega (arith, h))
-
-pub among_past : (ss : List (Option Place)) (i : ℕ) → length ss ≤ i → among_at ss i ≡ false
-among_past [] i h = refl
-among_past (s ∷ ss) zero h = absurd (omega (arith, h))
-among_past (s ∷ ss) (suc i) h = among_past ss i (omega (arith, h))
-
 -- one of the entries
 see_at : (ss : List (Option Place)) (es : List Entry) (i : ℕ) (d : Entry) → i < length es
-    → get_or (see ss es) i d ≡ record { ty = (get_or es i d).ty; observed = among_at ss i || (get_or es i d).observed }
+    → get_or (see ss es) i d ≡ record { ty = (get_or es i d).ty; observed = is_seen_at ss i || (get_or es i d).observed }
 see_at ss [] i d h = absurd (omega (arith, h))
 see_at [] (e ∷ es) i d h = refl
 see_at (s ∷ ss) (e ∷ es) zero d h = refl
@@ -68,13 +59,13 @@ module _ (old now : List Known) (i : ℕ) (x y : Known) (lt : i < length old) (l
       sym (middle ys (entries_of old) i (entry_of y) e (omega (arith, lt, length-map old entry_of)))
       ∙ ap (λ es. get_or es i (entry_of y)) (sym h) ∙ get_or-map entry_of now i x (entry_of y) (omega (arith, lt, long)) ∙ ap entry_of (sym is)
 
-  pub see_more : (ss : List (Option Place)) → entries_of now ≡ take i (see ss (entries_of old)) ++ drop i (entries_of old) → y.observed ≡ (among_at ss i || x.observed)
+  pub see_more : (ss : List (Option Place)) → entries_of now ≡ take i (see ss (entries_of old)) ++ drop i (entries_of old) → y.observed ≡ (is_seen_at ss i || x.observed)
       → entries_of (set now i y) ≡ take (i + 1) (see ss (entries_of old)) ++ drop (i + 1) (entries_of old)
   see_more ss h o =
       let es = entries_of old in
       let far : i < length es = omega (arith, lt, length-map old entry_of) in
       let here = next_entry (see ss es) (see_long ss es) h in
-      let made : entry_of y ≡ record { ty = (get_or es i (entry_of y)).ty; observed = among_at ss i || (get_or es i (entry_of y)).observed } = cc (t, o, here) in
+      let made : entry_of y ≡ record { ty = (get_or es i (entry_of y)).ty; observed = is_seen_at ss i || (get_or es i (entry_of y)).observed } = cc (t, o, here) in
       toward entry_of now es (see ss es) i y h (sym (see_long ss es)) far (made ∙ sym (see_at ss es i (entry_of y) far))
 
   pub flags_more : (bs : List Bool) → entries_of now ≡ take i (with_flags bs (entries_of old)) ++ drop i (entries_of old) → y.observed ≡ flag_at bs i
@@ -130,5 +121,3 @@ pub seen_types : (ks : List Known) (os : List Seen) (n : ℕ) (seen : List (Opti
 seen_types ks os n seen h e =
     ap (λ l. types_in (see l (entries_of ks))) (h ∙ ap (λ m. seen_places m os) (e ∙ sym (length-map ks entry_of)))
     ∙ types_observed (entries_of ks) os
-
-pub ruleset flag_steps = (among_get, among_past)

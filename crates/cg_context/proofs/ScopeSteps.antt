@@ -1,25 +1,21 @@
 -- Where scopes begin and end, and tests in a row.
-use Rattle.std.proofs.Common.{◌≡◌, ◌<◌, ◌≤◌, ℕ, zero, suc, ◌+◌, ◌-◌, if◌then◌else◌, Bool, true, false, not, ◌||◌, cond, List, [], ◌∷◌, ◌++◌, length, map, Option, Some, None, Ok, Err, get_or, refl, sym, ap, ◌∙◌, arith}
+use Rattle.std.proofs.Common.{◌≡◌, ◌<◌, ◌≤◌, ℕ, zero, suc, ◌+◌, ◌-◌, if◌then◌else◌, Bool, true, false, List, [], ◌∷◌, ◌++◌, length, Option, Some, None, Err, get_or, refl, ap, ◌∙◌, arith}
 use Rattle.cg_base.specs.declared.kind.Kinds.{Kinds}
 use Rattle.cg_base.specs.declared.place.Place.{Place}
 use Rattle.cg_base.specs.Types.{Tau}
-use Rattle.cg_check_laws.specs.Pass.{Out, need, leave, none_bad, arguments, observers_test, branches_test, asked_test}
+use Rattle.cg_check_laws.specs.Pass.{Out, need, arguments, asked_test}
 use Rattle.cg_context.proofs.TestSteps.{push_flag}
-use Rattle.cg_core.specs.declared.term.Seen.{Seen}
 use Rattle.cg_core.specs.Kernels.{Function}
 use Rattle.cg_core.specs.Terms.{Arg}
 use Rattle.cg_faults.specs.declared.rule.Rule.{Rule}
-use Rattle.cg_faults.specs.declared.rule.Rule.TheVariants.{K1, K3, K4, K5, T13, T14}
+use Rattle.cg_faults.specs.declared.rule.Rule.TheVariants.{K1, T13, T14}
 use Rattle.cg_faults.specs.declared.uses.Use.{Use}
-use Rattle.cg_faults.specs.Events.{Fault}
-use Rattle.cg_faults.specs.Plain.{plain_at}
 use Rattle.cg_faults.specs.Rule.{rule}
 use Rattle.cg_parts.specs.Asked.{arguments_fault, asked_fault, unmet, failed_at}
-use Rattle.cg_typing.specs.Contexts.{push, drops, shares}
-use Rattle.cg_typing.specs.Functions.{Asked, these, a_cell, an_element, nothing, next_asked, later_asked, meets_asked, has_kinds}
+use Rattle.cg_typing.specs.Functions.{Asked, these, a_cell, an_element, nothing, next_asked, later_asked, has_kinds}
 use Rattle.cg_typing.specs.Parts.{has_word_arrays, is_cell}
 use Rattle.cg_kinds.specs.Kinds.{kinds, is_word}
-use Rattle.cg_uses.specs.Uses.{last, front, flag_at}
+use Rattle.cg_uses.specs.Uses.{last, front}
 
 -- the last of some, and the one before
 last_index : (us : List Use) (i : ℕ) (d : Use) → length us ≡ i + 1 → last us ≡ get_or us i d

@@ -1,5 +1,5 @@
 -- Contexts in which a `let!` observes some variables, and again as they were.
-use Rattle.std.specs.Prelude.{ℕ, zero, suc, Bool, false, ◌||◌, Option, List, [], ◌∷◌}
+use Rattle.std.specs.Prelude.{Bool, false, ◌||◌, Option, List, [], ◌∷◌}
 use Rattle.cg_base.specs.declared.place.Place.{Place}
 use Rattle.cg_context.specs.View.{Entry}
 use Rattle.cg_uses.specs.Uses.{is_seen}
@@ -15,9 +15,3 @@ abbrev pub with_flags : List Bool → List Entry → List Entry
 with_flags flags [] = []
 with_flags [] (e ∷ es) = record { ty = e.ty; observed = false } ∷ with_flags [] es
 with_flags (b ∷ flags) (e ∷ es) = record { ty = e.ty; observed = b } ∷ with_flags flags es
-
--- one of them
-abbrev pub among_at : List (Option Place) → ℕ → Bool
-among_at [] i = false
-among_at (s ∷ seen) zero = is_seen s
-among_at (s ∷ seen) (suc i) = among_at seen i

@@ -1,9 +1,5 @@
--- What contexts and directions stand for, and that an answer is the one of the pass.
-use Rattle.std.specs.Prelude.{◌≡◌, Bool, false, cond, Option, Result, Ok, Err, List, map, ⊤}
-use Rattle.std.specs.Option.{option_map}
-use Rattle.cg_base.specs.declared.kind.Bound.{Bound}
-use Rattle.cg_base.specs.declared.kind.Kinds.{Kinds}
-use Rattle.cg_base.specs.declared.ty.Ty.{Ty}
+-- What contexts stand for, and that an answer is the one of the pass.
+use Rattle.std.specs.Prelude.{◌≡◌, Bool, false, cond, Result, Ok, Err, List, map, ⊤}
 use Rattle.cg_base.specs.Types.{Tau, type_of}
 use Rattle.cg_context.specs.declared.source.Known.{Known}
 use Rattle.cg_context.specs.declared.stop.Stop.{Stop}
@@ -11,10 +7,6 @@ use Rattle.cg_context.specs.declared.stop.Stop.TheVariants.{Rule as Broken, Size
 use Rattle.cg_check_laws.specs.Pass.{Out}
 use Rattle.cg_faults.specs.Rule.{rule, type_limit}
 use Rattle.cg_kinds.specs.Kinds.{bang}
-
--- the kinds of type variables
-abbrev pub bounds_of : List Bound → List Kinds
-bounds_of = map (λ (b : Bound). b.kinds)
 
 -- a variable of a context: its own type, and whether a `let!` observes it
 pub record Entry : Type 0 where
@@ -38,10 +30,6 @@ types_in = map type_seen
 -- the type of one of them
 abbrev pub type_of_known : Known → Tau
 type_of_known k = cond k.observed (bang (type_of k.ty)) (type_of k.ty)
-
--- a direction
-abbrev pub way_of : Option Ty → Option Tau
-way_of = option_map type_of
 
 abbrev pub itself : {A : Type 0} → A → A
 itself a = a

@@ -14,9 +14,7 @@ pub use observed::{flags_of, observe, restore};
 pub use pieces::{
     alternative_type, injected_type, last_type, member_type, need, put_type, taken_type,
 };
-pub use scopes::{
-    but_last, copied_arguments, end, escape, inner_seen, inner_two, last_use, use_before_last,
-};
+pub use scopes::{but_last, end, escape, inner_seen, inner_two, last_use, use_before_last};
 pub use source::{Known, Source, enter, leave};
 pub use stop::Stop;
 pub use tests::{branches, end_scope, inner, may_touch, meet, observe_all, type_at};

@@ -1,13 +1,15 @@
 // What a `let!` observes.
-#![tactic(auto, using(crate::proofs::ObservedSteps::flag_steps, crate::proofs::TestSteps::test_steps))]
+#![tactic(auto, using(crate::proofs::TestSteps::test_steps))]
 
 ghost use Rattle.std.specs.Prelude.{◌≡◌, ◌||◌, IfOk, map};
-ghost use Rattle.cg_context.specs.Observed.{among_at, see, with_flags};
+ghost use Rattle.cg_context.specs.Observed.{see, with_flags};
+ghost use Rattle.cg_pieces.specs.View.{is_seen_at as is_seen_at_of};
 ghost use Rattle.cg_context.specs.View.{Entry, entries_of};
 ghost use Rattle.cg_uses.specs.Uses as tables;
 
 use crate::source::Known;
 use cg_base::{Memory, Place};
+use cg_pieces::is_seen_at;
 use std::alloc::Global;
 
 /// Which variables are observed. Want of memory is its one refusal.
@@ -18,18 +20,11 @@ pub fn flags_of(alloc: Global, context: &[Known]) -> Result<Vec<bool>, Memory>
     Ok(flags.collect(alloc)?)
 }
 
-// Whether the variable at a position is among those that a `let!` observes.
-fn is_among(seen: &Vec<Option<Place>>, at: usize) -> bool
-    ensures { result ≡ among_at seen.now.items at }
-{
-    at < seen.len() && seen[at].is_some()
-}
-
-// Whether it is, or was observed before.
+// Whether the variable at a position is among those that a `let!` observes, or was observed before.
 fn or_before(seen: &Vec<Option<Place>>, at: usize, observed: bool) -> bool
-    ensures { result ≡ (among_at seen.now.items at || observed) }
+    ensures { result ≡ (is_seen_at_of seen.now.items at || observed) }
 {
-    is_among(seen, at) || observed
+    is_seen_at(seen, at) || observed
 }
 
 // A flag; none past the end is raised.

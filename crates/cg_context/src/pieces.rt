@@ -2,40 +2,24 @@
 #![tactic(auto)]
 
 ghost use Rattle.std.specs.Prelude.{◌≡◌, Ok, not};
-ghost use Rattle.std.specs.Option.{option_copied};
 ghost use Rattle.cg_base.specs.Types.{type_of};
 ghost use Rattle.cg_check_laws.specs.Pass.{need as need_of};
-ghost use Rattle.cg_context.specs.View.{Agrees, bounds_of, itself};
+ghost use Rattle.cg_context.specs.View.{Agrees, itself};
+ghost use Rattle.cg_pieces.specs.View.{bounds_of};
 ghost use Rattle.cg_faults.specs.declared.rule.Rule.TheVariants.{K6, K7, T1, T5, T6, T7, T8, T9, T10};
-ghost use Rattle.cg_parts.specs.Views.{piece_at};
 ghost use Rattle.cg_typing.specs.Contexts.{shares};
 ghost use Rattle.cg_typing.specs.Parts as parts;
 
 use crate::source::Source;
 use crate::stop::Stop;
-use cg_base::{Name, Part, Place, Ty};
+use cg_base::{Name, Place, Ty};
 use cg_core::At;
 use cg_faults::Rule;
 use cg_kinds::kinds_of;
 use cg_parts::{
     alternative_in, field_in, held, is_last, is_read_only, is_variant, may_be_put_over,
 };
-
-// Whether a part is there, and whether it is there and isn't taken.
-fn is_there(part: Option<&Part>) -> bool
-    ensures { result ≡ parts.is_there (piece_at (option_copied part.entry)) }
-{
-    part.is_some()
-}
-
-fn is_left(part: Option<&Part>) -> bool
-    ensures { result ≡ parts.is_left (piece_at (option_copied part.entry)) }
-{
-    match part {
-        Some(part) => !part.taken,
-        None => false,
-    }
-}
+use cg_pieces::{is_left, is_there};
 
 /// A rule that has to hold here.
 pub fn need(rule: Rule, place: Place, holds: bool) -> Result<(), Stop>

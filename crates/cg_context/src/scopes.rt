@@ -4,19 +4,18 @@
 ghost use Rattle.std.specs.Prelude.{◌≡◌, IfOk, Ok, map, false};
 ghost use Rattle.cg_base.specs.Types.{type_of};
 ghost use Rattle.cg_core.specs.Kernels.{function_of};
-ghost use Rattle.cg_core.specs.Terms.{arg_of};
 ghost use Rattle.cg_faults.specs.declared.rule.Rule.TheVariants.{K2};
 ghost use Rattle.cg_kinds.specs.Kinds.{kinds as kinds_of_type};
 ghost use Rattle.cg_check_laws.specs.Pass as pass;
-ghost use Rattle.cg_context.specs.View.{Agrees, bounds_of, itself};
+ghost use Rattle.cg_context.specs.View.{Agrees, itself};
+ghost use Rattle.cg_pieces.specs.View.{bounds_of};
 ghost use Rattle.cg_typing.specs.Contexts.{push as push_of, drops as drops_of};
 ghost use Rattle.cg_uses.specs.Uses as tables;
 
 use crate::source::Source;
 use crate::stop::Stop;
 use crate::tests::{end_scope, inner};
-use cg_base::{Items, Memory, Place, Ty};
-use cg_core::TyArg;
+use cg_base::{Memory, Place, Ty};
 use cg_faults::{Rule, Use};
 use cg_kinds::kinds_of;
 use cg_uses::{NO_USE, mark_but};
@@ -93,15 +92,4 @@ pub fn but_last(uses: &[Use]) -> &[Use]
         Some((_, front)) => front,
         None => uses,
     }
-}
-
-/// Equal type arguments at the same places. Want of memory is its one refusal.
-pub fn copied_arguments(alloc: Global, args: &Items<TyArg>) -> Result<Items<TyArg>, Memory>
-    ensures { IfOk result (λ copies. map arg_of copies ≡ map arg_of args.now) }
-{
-    let mut copies = Items::new(alloc);
-    for arg in args.as_slice() {
-        copies.push(arg.copy(alloc)?)?;
-    }
-    Ok(copies)
 }

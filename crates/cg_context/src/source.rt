@@ -3,7 +3,8 @@ ghost use Rattle.std.specs.Prelude.{◌≡◌, IfOk, List};
 ghost use Rattle.cg_base.specs.Types.{type_of};
 ghost use Rattle.cg_typing.specs.Contexts.{push as push_of, drops as drops_of, shares as shares_of};
 ghost use Rattle.cg_faults.specs.Plain.{plain_at};
-ghost use Rattle.cg_context.specs.View.{Entry, bounds_of, entries_of, fresh, types_in};
+ghost use Rattle.cg_context.specs.View.{Entry, entries_of, fresh, types_in};
+ghost use Rattle.cg_pieces.specs.View.{bounds_of};
 
 use cg_base::{Bound, Items, Memory, Ty};
 use cg_core::KFun;

@@ -5,7 +5,8 @@ ghost use Rattle.std.specs.Prelude.{◌≡◌, ◌||◌, cond, not, IfOk, Ok, Li
 ghost use Rattle.std.specs.Option.{option_copied};
 ghost use Rattle.cg_base.specs.Types.{type_of};
 ghost use Rattle.cg_check_laws.specs.Pass as pass;
-ghost use Rattle.cg_context.specs.View.{Entry, Agrees, bounds_of, entries_of, itself, type_of_known, types_in, way_of};
+ghost use Rattle.cg_context.specs.View.{Entry, Agrees, entries_of, itself, type_of_known, types_in};
+ghost use Rattle.cg_pieces.specs.View.{bounds_of, way_of};
 ghost use Rattle.cg_context.specs.Ended.{ended};
 ghost use Rattle.cg_core.specs.Kernels.{function_of};
 ghost use Rattle.cg_faults.specs.Plain.{plain_at};

@@ -1,2 +1,1 @@
 pub mod FieldSteps
-pub mod NodeSteps

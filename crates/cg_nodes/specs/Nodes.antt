@@ -1,15 +1,12 @@
 -- What each form of node comes to, by what its parts come to.
-use Rattle.std.specs.Prelude.{ℕ, suc, Bool, Option, List, [], ◌∷◌, ◌++◌}
-use Rattle.cg_base.specs.declared.kind.Sigil.TheVariants.{U}
+use Rattle.std.specs.Prelude.{ℕ, suc, Option, List, ◌++◌}
 use Rattle.cg_base.specs.declared.place.Place.{Place}
-use Rattle.cg_base.specs.Types as types
 use Rattle.cg_base.specs.Types.{Tau}
 use Rattle.cg_core.specs.declared.at.At.{At}
 use Rattle.cg_core.specs.declared.derivation.Node.TheVariants as nodes
-use Rattle.cg_core.specs.declared.op.Op.{Op}
 use Rattle.cg_core.specs.declared.term.Seen.{Seen}
 use Rattle.cg_core.specs.Derivations.{derivation}
-use Rattle.cg_core.specs.Terms.{lit, op, app, lets, let_bang, if_else, con, case_of, esac, struct, member, take_field, put, cast, annot, Arg, Tree, term, Shape}
+use Rattle.cg_core.specs.Terms.{app, lets, let_bang, if_else, con, case_of, esac, struct, member, take_field, put, cast, annot, Arg}
 use Rattle.cg_check_laws.specs.Pass.{Got, GotFields, made}
 use Rattle.cg_uses.specs.Marks.{marks_of_uses, marks_seen, settled, kept_beside, kept_seen, kept_new, one_part, two_parts, three_parts}
 use Rattle.cg_uses.specs.Uses.{join, join_seen, last, front}
@@ -75,7 +72,3 @@ cast_node place t u = made place t (cast u.core) (one_part nodes.Cast u.tree) u.
 
 abbrev pub annot_node : Place → Arg → Got → Got
 annot_node place a u = made place a.ty (annot u.core a) (one_part nodes.Annot u.tree) u.uses
-
--- what a term is made of
-abbrev pub shape_at : {A : Type 0} → Tree A → Shape A
-shape_at (term a shape) = shape

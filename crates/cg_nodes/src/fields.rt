@@ -1,19 +1,16 @@
 // What the fields of a record come to.
-#![tactic(auto, using(crate::proofs::FieldSteps::field_steps))]
+#![tactic(auto, using(cg_pieces::proofs::FieldSteps::field_steps))]
 
-ghost use Rattle.std.specs.Prelude.{◌≡◌, ◌∷◌, [], IfOk, Some, cond, false, length, map, reverse};
-ghost use Rattle.std.specs.Option.{option_copied};
+ghost use Rattle.std.specs.Prelude.{◌≡◌, ◌∷◌, [], IfOk, cond, length, map, reverse};
 ghost use Rattle.cg_base.specs.declared.kind.Sigil.TheVariants.{U};
-ghost use Rattle.cg_base.specs.Types.{fields as record_of, part as one_part, part_of, to_parts, type_of};
+ghost use Rattle.cg_base.specs.Types.{fields as record_of, part_of, to_parts, type_of};
 ghost use Rattle.cg_core.specs.declared.derivation.Node.TheVariants as nodes;
-ghost use Rattle.cg_core.specs.Derivations as derivations;
 ghost use Rattle.cg_core.specs.Derivations.{derivation, derivation_of};
-ghost use Rattle.cg_core.specs.Kernels.{the_core, the_core_field, the_field};
-ghost use Rattle.cg_core.specs.Terms.{field as one_field, to_named};
-ghost use Rattle.cg_nodes.specs.Fields.{cores_back, fields_of, nothing, parts_back, trees_back};
-ghost use Rattle.cg_faults.specs.Events.{field_directions, later_directions, next_direction, part_directions};
+ghost use Rattle.cg_core.specs.Kernels.{the_core_field, the_field};
+ghost use Rattle.cg_core.specs.Terms.{to_named};
+ghost use Rattle.cg_nodes.specs.Fields.{fields_of, nothing};
 ghost use Rattle.cg_nodes.specs.Nodes as forms;
-ghost use Rattle.cg_context.specs.View.{entries_of, types_in, way_of};
+ghost use Rattle.cg_context.specs.View.{entries_of, types_in};
 ghost use Rattle.cg_nodes.specs.Gots.{got_of};
 ghost use Rattle.cg_check_laws.specs.Pass.{in_front as in_front_of, is_end};
 ghost use Rattle.cg_uses.specs.Marks as splits;
@@ -21,8 +18,9 @@ ghost use Rattle.cg_uses.specs.Marks as splits;
 use crate::got::{Got, made};
 use cg_base::{Items, Memory, Name, Part, Place, Sigil, Ty};
 use cg_context::Known;
-use cg_core::{Deriv, FieldTerm, Form, Mark, Node, Term, Typed};
+use cg_core::{Deriv, FieldTerm, Form, Mark, Node, Typed};
 use cg_faults::Use;
+use cg_pieces::{add_core, add_part, add_tree, turned};
 use cg_uses::{join, marks_of_uses, no_uses};
 use std::alloc::Global;
 
@@ -53,16 +51,6 @@ impl Drop for Fields {
     }
 }
 
-// A list the other way round.
-#[tactic(auto, using(crate::proofs::FieldSteps::turn_steps))]
-fn turned<T>(items: Items<T>) -> Items<T>
-    ensures { result ≡ reverse items }
-{
-    let mut items = items;
-    items.as_mut_slice().reverse();
-    items
-}
-
 impl Fields {
     // In the order of the fields: their types, their cores, and the record's derivation; and its uses.
     fn apart(self) -> (Items<Part>, Items<FieldTerm<Typed>>, Deriv, Vec<Use>)
@@ -87,41 +75,7 @@ impl Fields {
     }
 }
 
-// The type of a field, in front of later ones.
-fn add_part(alloc: Global, name: &Name, ty: &Ty, parts: &mut Items<Part>) -> Result<(), Memory>
-    ensures { IfOk result (λ _. parts_back parts.new ≡ one_part name.now (type_of ty.now) false (parts_back parts.old)) }
-{
-    let name = name.copy(alloc)?;
-    let ty = ty.copy(alloc)?;
-    parts.push(Part {
-        name,
-        ty,
-        taken: false,
-    })
-}
-
-// Its core.
-fn add_core(
-    alloc: Global,
-    name: &Name,
-    core: Box<Term<Typed>>,
-    cores: &mut Items<FieldTerm<Typed>>,
-) -> Result<(), Memory>
-    ensures { IfOk result (λ _. cores_back cores.new ≡ one_field name.now (the_core core.value) (cores_back cores.old)) }
-{
-    let name = name.copy(alloc)?;
-    let term = Box::into_inner(core);
-    cores.push(FieldTerm { name, term })
-}
-
-// Its derivation.
-fn add_tree(tree: Deriv, trees: &mut Items<Deriv>) -> Result<(), Memory>
-    ensures { IfOk result (λ _. trees_back trees.new ≡ derivations.part (derivation_of tree) (trees_back trees.old)) }
-{
-    trees.push(tree)
-}
-
-// The marks between it and the later ones; none for the last field.
+// The marks between a field and the later ones; none for the last field.
 fn add_string(
     alloc: Global,
     alone: bool,
@@ -195,37 +149,4 @@ pub fn no_fields(alloc: Global, context: &Vec<Known>) -> Result<Fields, Memory>
         trees: Items::new(alloc),
         uses,
     })
-}
-
-/// The parts of a record type that is a direction; none of another.
-#[tactic(auto, unfolding(cg_base::specs::Types::to_parts), using(crate::proofs::FieldSteps::wanted_steps))]
-pub fn parts_of(direction: Option<&Ty>) -> &[Part]
-    ensures { part_directions (to_parts (map part_of result.now)) ≡ field_directions (way_of (option_copied direction.entry)) }
-{
-    match direction {
-        Some(Ty::Fields(parts, _)) => parts.as_slice(),
-        _ => &[],
-    }
-}
-
-/// The direction of the next field.
-#[tactic(auto, using(crate::proofs::FieldSteps::wanted_steps))]
-pub fn next_wanted(parts: &[Part]) -> Option<&Ty>
-    ensures { way_of (option_copied result) ≡ next_direction (part_directions (to_parts (map part_of parts.now))) }
-{
-    match parts {
-        [] => None,
-        [part, ..] => Some(&part.ty),
-    }
-}
-
-/// Those of the later ones.
-#[tactic(auto, using(crate::proofs::FieldSteps::wanted_steps))]
-pub fn later_wanted(parts: &[Part]) -> &[Part]
-    ensures { part_directions (to_parts (map part_of result.now)) ≡ later_directions (part_directions (to_parts (map part_of parts.now))) }
-{
-    match parts {
-        [] => parts,
-        [_, rest @ ..] => rest,
-    }
 }

@@ -6,10 +6,7 @@ mod fields;
 mod got;
 mod nodes;
 
-pub use fields::{
-    Fields, are_none, later_wanted, next_wanted, no_fields, parts_of, put_in_front, record_node,
-    struct_node,
-};
+pub use fields::{Fields, are_none, no_fields, put_in_front, record_node, struct_node};
 pub use got::{Got, leaf_of};
 pub use nodes::{
     annot_node, app_node, case_node, cast_node, con_node, esac_node, if_node, let_bang_node,

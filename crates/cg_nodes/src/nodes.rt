@@ -1,7 +1,7 @@
 // What each form of node comes to. Want of memory is the one refusal of each of these.
-#![tactic(auto, using(crate::proofs::NodeSteps::node_steps))]
+#![tactic(auto, using(cg_pieces::proofs::CoreSteps::core_steps))]
 
-ghost use Rattle.std.specs.Prelude.{◌≡◌, [], ◌∷◌, IfOk, Ok};
+ghost use Rattle.std.specs.Prelude.{◌≡◌, IfOk};
 ghost use Rattle.cg_base.specs.Types.{type_of};
 ghost use Rattle.cg_core.specs.declared.derivation.Node.TheVariants.{LetBang};
 ghost use Rattle.cg_core.specs.Derivations.{derivation_of};
@@ -16,49 +16,18 @@ ghost use Rattle.cg_nodes.specs.Gots.{got_of};
 
 use crate::got::{Got, Pair, Single, Triple, alone, branched, in_turn, made, paired};
 use cg_base::{Items, Memory, Name, Place, Ty};
-use cg_core::{At, Form, Node, Op, Seen, Term, TyArg, Typed};
+use cg_core::{At, Form, Node, Op, Seen, TyArg};
 use cg_faults::Use;
+use cg_pieces::{copied_observers, kept_while, one_operand, two_operands};
 use cg_uses::{join_seen, keep_new, kept_beside, kept_seen, leave, marks_seen, settle};
 use std::alloc::Global;
-
-// A value that is kept while something else is made, and let go where that fails.
-fn held<T: Drop, U>(value: T, made: Result<U, Memory>) -> Result<(T, U), Memory>
-    ensures value { IfOk result (λ both. both.0 ≡ value) }
-    ensures made { IfOk result (λ both. made ≡ Ok both.1) }
-{
-    match made {
-        Ok(made) => Ok((value, made)),
-        Err(memory) => Err(memory),
-    }
-}
-
-// A list of one operand, and of two.
-fn one_operand(alloc: Global, first: Box<Term<Typed>>) -> Result<Items<Term<Typed>>, Memory>
-    ensures { IfOk result (λ operands. operands ≡ first.value ∷ []) }
-{
-    let mut operands = Items::new(alloc);
-    operands.push(Box::into_inner(first))?;
-    Ok(operands)
-}
-
-fn two_operands(
-    alloc: Global,
-    first: Box<Term<Typed>>,
-    second: Box<Term<Typed>>,
-) -> Result<Items<Term<Typed>>, Memory>
-    ensures { IfOk result (λ operands. operands ≡ first.value ∷ second.value ∷ []) }
-{
-    let mut operands = one_operand(alloc, first)?;
-    operands.push(Box::into_inner(second))?;
-    Ok(operands)
-}
 
 /// An operator with one operand.
 pub fn operated(alloc: Global, op: Op, place: Place, ty: Ty, part: Got) -> Result<Got, Memory>
     ensures { IfOk result (λ got. got_of got ≡ operated_of op place (type_of ty) (got_of part)) }
 {
-    let (ty, Single { part, tree, uses }) = held(ty, alone(alloc, Node::Op, part))?;
-    let (ty, operands) = held(ty, one_operand(alloc, part))?;
+    let (ty, Single { part, tree, uses }) = kept_while(ty, alone(alloc, Node::Op, part))?;
+    let (ty, operands) = kept_while(ty, one_operand(alloc, part))?;
     made(alloc, place, ty, Form::Op(op, operands), tree, uses)
 }
 
@@ -73,14 +42,14 @@ pub fn operated_both(
 ) -> Result<Got, Memory>
     ensures { IfOk result (λ got. got_of got ≡ operated_both_of op place (type_of ty) (got_of left) (got_of right)) }
 {
-    let (ty, pair) = held(ty, in_turn(alloc, Node::Op, left, right))?;
+    let (ty, pair) = kept_while(ty, in_turn(alloc, Node::Op, left, right))?;
     let Pair {
         first,
         second,
         tree,
         uses,
     } = pair;
-    let (ty, operands) = held(ty, two_operands(alloc, first, second))?;
+    let (ty, operands) = kept_while(ty, two_operands(alloc, first, second))?;
     made(alloc, place, ty, Form::Op(op, operands), tree, uses)
 }
 
@@ -88,7 +57,7 @@ pub fn operated_both(
 pub fn app_node(alloc: Global, place: Place, ty: Ty, fun: Got, arg: Got) -> Result<Got, Memory>
     ensures { IfOk result (λ got. got_of got ≡ forms.app_node place (type_of ty) (got_of fun) (got_of arg)) }
 {
-    let (ty, pair) = held(ty, in_turn(alloc, Node::App, fun, arg))?;
+    let (ty, pair) = kept_while(ty, in_turn(alloc, Node::App, fun, arg))?;
     let Pair {
         first,
         second,
@@ -138,7 +107,7 @@ pub fn let_node(
 {
     let body = closed(alloc, count, body)?;
     let ty = body.ty().copy(alloc)?;
-    let (ty, pair) = held(ty, in_turn(alloc, Node::Let, value, body))?;
+    let (ty, pair) = kept_while(ty, in_turn(alloc, Node::Let, value, body))?;
     let Pair {
         first,
         second,
@@ -153,17 +122,6 @@ pub fn let_node(
         tree,
         uses,
     )
-}
-
-// Equal observers.
-fn copied(alloc: Global, observers: &Items<Seen>) -> Result<Items<Seen>, Memory>
-    ensures { IfOk result (λ list. list ≡ observers.now) }
-{
-    let mut list = Items::new(alloc);
-    for observer in observers.as_slice() {
-        list.push(*observer)?;
-    }
-    Ok(list)
 }
 
 // The first part of a `let!` that observes these.
@@ -226,9 +184,9 @@ pub fn let_bang_node(
 {
     let value = observing(alloc, seen, value)?;
     let body = behind_observers(alloc, seen, count, body)?;
-    let observers = copied(alloc, observers)?;
+    let observers = copied_observers(alloc, observers)?;
     let ty = body.ty().copy(alloc)?;
-    let (ty, pair) = held(ty, observed_pair(alloc, seen, value, body))?;
+    let (ty, pair) = kept_while(ty, observed_pair(alloc, seen, value, body))?;
     let Pair {
         first,
         second,
@@ -273,7 +231,7 @@ pub fn if_node(
     ensures { IfOk result (λ got. got_of got ≡ forms.if_node place (got_of test) (got_of first) (got_of second)) }
 {
     let ty = first.ty().copy(alloc)?;
-    let (ty, branches) = held(ty, both_beside(alloc, test, first, second))?;
+    let (ty, branches) = kept_while(ty, both_beside(alloc, test, first, second))?;
     let Triple {
         part,
         first,
@@ -289,8 +247,8 @@ pub fn if_node(
 pub fn con_node(alloc: Global, place: Place, ty: Ty, name: &Name, part: Got) -> Result<Got, Memory>
     ensures { IfOk result (λ got. got_of got ≡ forms.con_node place (type_of ty) name.now (got_of part)) }
 {
-    let (ty, name) = held(ty, name.copy(alloc))?;
-    let (ty, Single { part, tree, uses }) = held(ty, alone(alloc, Node::Con, part))?;
+    let (ty, name) = kept_while(ty, name.copy(alloc))?;
+    let (ty, Single { part, tree, uses }) = kept_while(ty, alone(alloc, Node::Con, part))?;
     made(alloc, place, ty, Form::Con(name, part), tree, uses)
 }
 
@@ -343,8 +301,8 @@ pub fn case_node(
     ensures { IfOk result (λ got. got_of got ≡ forms.case_node count place at.now binder (got_of value) (got_of first) (got_of second)) }
 {
     let ty = first.ty().copy(alloc)?;
-    let (ty, at) = held(ty, at.copy(alloc))?;
-    let (ty, branches) = held(ty, matched(alloc, count, value, first, second))?;
+    let (ty, at) = kept_while(ty, at.copy(alloc))?;
+    let (ty, branches) = kept_while(ty, matched(alloc, count, value, first, second))?;
     let Triple {
         part,
         first,
@@ -360,8 +318,8 @@ pub fn case_node(
 pub fn esac_node(alloc: Global, place: Place, ty: Ty, at: &At, part: Got) -> Result<Got, Memory>
     ensures { IfOk result (λ got. got_of got ≡ forms.esac_node place (type_of ty) at.now (got_of part)) }
 {
-    let (ty, at) = held(ty, at.copy(alloc))?;
-    let (ty, Single { part, tree, uses }) = held(ty, alone(alloc, Node::Esac, part))?;
+    let (ty, at) = kept_while(ty, at.copy(alloc))?;
+    let (ty, Single { part, tree, uses }) = kept_while(ty, alone(alloc, Node::Esac, part))?;
     made(alloc, place, ty, Form::Esac(at, part), tree, uses)
 }
 
@@ -369,8 +327,8 @@ pub fn esac_node(alloc: Global, place: Place, ty: Ty, at: &At, part: Got) -> Res
 pub fn member_node(alloc: Global, place: Place, ty: Ty, at: &At, part: Got) -> Result<Got, Memory>
     ensures { IfOk result (λ got. got_of got ≡ forms.member_node place (type_of ty) at.now (got_of part)) }
 {
-    let (ty, at) = held(ty, at.copy(alloc))?;
-    let (ty, Single { part, tree, uses }) = held(ty, alone(alloc, Node::Member, part))?;
+    let (ty, at) = kept_while(ty, at.copy(alloc))?;
+    let (ty, Single { part, tree, uses }) = kept_while(ty, alone(alloc, Node::Member, part))?;
     made(alloc, place, ty, Form::Member(part, at), tree, uses)
 }
 
@@ -405,7 +363,7 @@ pub fn take_node(
     let body = closed_twice(alloc, count, body)?;
     let at = at.copy(alloc)?;
     let ty = body.ty().copy(alloc)?;
-    let (ty, pair) = held(ty, in_turn(alloc, Node::Take, value, body))?;
+    let (ty, pair) = kept_while(ty, in_turn(alloc, Node::Take, value, body))?;
     let Pair {
         first,
         second,
@@ -427,8 +385,8 @@ pub fn put_node(
 ) -> Result<Got, Memory>
     ensures { IfOk result (λ got. got_of got ≡ forms.put_node place (type_of ty) at.now (got_of value) (got_of part)) }
 {
-    let (ty, at) = held(ty, at.copy(alloc))?;
-    let (ty, pair) = held(ty, in_turn(alloc, Node::Put, value, part))?;
+    let (ty, at) = kept_while(ty, at.copy(alloc))?;
+    let (ty, pair) = kept_while(ty, in_turn(alloc, Node::Put, value, part))?;
     let Pair {
         first,
         second,
@@ -442,7 +400,7 @@ pub fn put_node(
 pub fn cast_node(alloc: Global, place: Place, ty: Ty, part: Got) -> Result<Got, Memory>
     ensures { IfOk result (λ got. got_of got ≡ forms.cast_node place (type_of ty) (got_of part)) }
 {
-    let (ty, Single { part, tree, uses }) = held(ty, alone(alloc, Node::Cast, part))?;
+    let (ty, Single { part, tree, uses }) = kept_while(ty, alone(alloc, Node::Cast, part))?;
     made(alloc, place, ty, Form::Cast(part), tree, uses)
 }
 
@@ -452,6 +410,6 @@ pub fn annot_node(alloc: Global, place: Place, arg: &TyArg, part: Got) -> Result
 {
     let Single { part, tree, uses } = alone(alloc, Node::Annot, part)?;
     let ty = arg.ty.copy(alloc)?;
-    let (ty, arg) = held(ty, arg.copy(alloc))?;
+    let (ty, arg) = kept_while(ty, arg.copy(alloc))?;
     made(alloc, place, ty, Form::Annot(part, arg), tree, uses)
 }

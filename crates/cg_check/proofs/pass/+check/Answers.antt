@@ -1,6 +1,7 @@
 use Rattle.std.proofs.Common.{rules, ◌≡◌, Ok, arith, ap, length, map, sym, subst}
 use Rattle.std.specs.Option.{option_copied}
-use Rattle.cg_context.specs.View.{Agrees, bounds_of, entries_of, types_in, way_of}
+use Rattle.cg_context.specs.View.{Agrees, entries_of, types_in}
+use Rattle.cg_pieces.specs.View.{bounds_of, way_of}
 use Rattle.cg_nodes.specs.Gots.{got_of}
 use Rattle.cg_check.proofs.ArmSteps.{let_arm, let_bang_arm, if_arm, case_arm, member_arm, take_arm, put_arm}
 use Rattle.cg_check.proofs.FormSteps.{let_is, let_bang_is, if_is, case_is, member_is, take_is, put_is}
@@ -8,9 +9,8 @@ use Rattle.cg_context.proofs.ObservedSteps.{seen_types}
 use Rattle.cg_check_laws.specs.Pass.{check_shape}
 use Rattle.cg_core.specs.Kernels.{function_of, the_term}
 use Rattle.cg_core.specs.Terms.{to_trees, lets, let_bang, if_else, case_of, member, take_field, put}
-use Rattle.cg_check.proofs.OperandSteps.{size_more}
-use Rattle.cg_nodes.proofs.FieldSteps.{no_named, more_named}
-use Rattle.cg_check.proofs.OperandSteps.{one_operand, two_operands, other_operands, size_one, size_two}
+use Rattle.cg_check.proofs.OperandSteps.{one_operand, other_operands, size_more, size_one, size_two, two_operands}
+use Rattle.cg_pieces.proofs.FieldSteps.{no_named, more_named}
 use Rattle.cg_check.proofs.PassSteps.{sizes}
 use Rattle.cg_check.proofs.pass.+check.Goals as goal
 use Rattle.cg_check.proofs.pass.+check.Goals.{check_op-in_default-via-then-as_slice-lt1, check_op-in_default-via-else-as_slice-lt1+else-this-lt2+else-this-lt3}

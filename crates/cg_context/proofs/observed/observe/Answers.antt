@@ -1,7 +1,7 @@
 use Rattle.std.proofs.Common.{refl, sym, arith, ap, ◌||◌, ◌∙◌}
 use Rattle.std.proofs.lemmas.List.{length-set, get_or_default}
 use Rattle.cg_context.proofs.ObservedSteps.{see_more, see_done}
-use Rattle.cg_context.specs.Observed.{among_at}
+use Rattle.cg_pieces.specs.View.{is_seen_at}
 use Rattle.cg_context.proofs.observed.observe.Goals as goal
 
 pub loop-i-preserved : goal.loop-i-preserved
@@ -16,7 +16,7 @@ loop-i-preserved c =
       length-set _ _ _ ∙ inv.0,
       see_more c.args.context.now.items items i x (record { ty = x.ty; observed = c.or_before-observed.result })
           (omega (arith, c.loop-i-test.true, c.len-i-end.ensures)) inv.0 c.index_mut.ensures.value refl seen inv.1
-          (c.or_before-observed.ensures ∙ ap (λ k. among_at seen i || k.observed) same),
+          (c.or_before-observed.ensures ∙ ap (λ k. is_seen_at seen i || k.observed) same),
     )
 
 pub returns : goal.returns

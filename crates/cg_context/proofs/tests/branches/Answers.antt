@@ -1,5 +1,5 @@
 use Rattle.std.proofs.Common.{map, arith, sym, ◌∙◌}
-use Rattle.cg_context.specs.View.{bounds_of}
+use Rattle.cg_pieces.specs.View.{bounds_of}
 use Rattle.cg_core.specs.Kernels.{function_of}
 use Rattle.cg_context.proofs.TestSteps.{branches_past}
 use Rattle.cg_context.proofs.tests.branches.Goals as goal

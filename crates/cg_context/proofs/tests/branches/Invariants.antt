@@ -1,5 +1,6 @@
 use Rattle.std.proofs.Common.{◌≡◌, Ok, drop, map}
-use Rattle.cg_context.specs.View.{bounds_of, entries_of, types_in}
+use Rattle.cg_context.specs.View.{entries_of, types_in}
+use Rattle.cg_pieces.specs.View.{bounds_of}
 use Rattle.cg_check_laws.specs.Pass.{Out, branches_test}
 use Rattle.cg_core.specs.Kernels.{function_of}
 use Rattle.cg_context.proofs.tests.branches.Given as goal

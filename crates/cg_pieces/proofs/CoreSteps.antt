@@ -1,4 +1,4 @@
--- Forms of cores whose parts are known, and parts whose variables go out of scope.
+-- Forms of cores whose parts are known.
 use Rattle.std.proofs.Common.{◌≡◌, List, [], ◌∷◌, map, ap, ◌∙◌}
 use Rattle.cg_core.specs.declared.op.Op.{Op}
 use Rattle.cg_core.specs.declared.term.Form.TheVariants as form
@@ -20,4 +20,4 @@ pub two_operands : (o : Op) (ts : List (Term Typed)) (a b : Term Typed) → ts �
 unfolding to_trees
 two_operands o ts a b h = op_is o ts ∙ ap (λ ts. op o (to_trees (map the_core ts))) h
 
-pub ruleset node_steps = (one_operand, two_operands, the_lemmas)
+pub ruleset core_steps = (one_operand, two_operands, the_lemmas)

@@ -3,7 +3,7 @@
 
 ghost use Rattle.std.specs.Prelude.{◌≡◌, IfOk};
 ghost use Rattle.cg_typing.specs.Kept.{maybe_core, maybe_tree};
-ghost use Rattle.cg_check.specs.Bodies.{core_in, lists_of, maybe_both, no_lists, one_more, tree_in};
+ghost use Rattle.cg_pieces.specs.Bodies.{core_in, lists_of, maybe_both, no_lists, one_more, tree_in};
 
 use cg_base::{Items, Memory};
 use cg_core::{Deriv, Term, Typed};

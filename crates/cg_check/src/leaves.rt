@@ -1,0 +1,196 @@
+// Leaves of a body: variables, literals, functions that are mentioned, and operators without operands.
+#![tactic(auto, unfolding(cg_check_laws::specs::Pass::check), using(crate::proofs::PassSteps::pass_steps))]
+
+ghost use Rattle.std.specs.Prelude.{◌≡◌, IfOk, length, map, None};
+ghost use Rattle.std.specs.Option.{option_copied};
+ghost use Rattle.cg_base.specs.Types.{unit as unit_type};
+ghost use Rattle.cg_check_laws.specs.Pass.{check_shape, leaf as leaf_by};
+ghost use Rattle.cg_context.specs.View.{Agrees, entries_of, types_in};
+ghost use Rattle.cg_core.specs.declared.derivation.Node.TheVariants as nodes;
+ghost use Rattle.cg_core.specs.Kernels.{function_of, the_core_form};
+ghost use Rattle.cg_core.specs.Terms as terms;
+ghost use Rattle.cg_core.specs.Terms.{arg_of};
+ghost use Rattle.cg_faults.specs.Plain.{mentioned as mentioned_type};
+ghost use Rattle.cg_nodes.specs.Gots.{got_of};
+ghost use Rattle.cg_pieces.specs.View.{bounds_of, way_of};
+ghost use Rattle.cg_uses.specs.Uses as tables;
+
+use crate::boxed::boxed;
+use cg_base::{Fun, Items, Memory, Place, Ty};
+use cg_context::{Known, Source, Stop, may_touch, meet, need, type_at};
+use cg_core::{Form, Node, Op, TyArg, Typed};
+use cg_faults::{Rule, Use};
+use cg_nodes::{Got, leaf_of};
+use cg_parts::{arguments_fault, in_range, is_word, mentioned};
+use cg_pieces::copied_arguments;
+use cg_uses::{no_uses, one_use};
+use std::alloc::Global;
+
+/// A variable.
+pub(crate) fn check_var(
+    source: &Source,
+    context: &mut Vec<Known>,
+    before: &Vec<bool>,
+    direction: Option<&Ty>,
+    place: Place,
+    at: u32,
+) -> Result<Got, Stop>
+    ensures answer { Agrees got_of result (check_shape (map function_of source.now.functions.now) (bounds_of source.now.vars.now) (types_in (entries_of context.old.items)) before.now.items (way_of (option_copied direction.entry)) place (terms.var at)) }
+    ensures same { IfOk result (λ _. entries_of context.new.items ≡ entries_of context.old.items) }
+{
+    let var = at as usize;
+    if !may_touch(source, context, before, var) {
+        return Err(Stop::Rule(Rule::K4, place));
+    }
+    let ty = boxed(source.alloc, type_at(source.alloc, context, var))?;
+    meet(direction, place, &ty)?;
+    let uses = one_use(source.alloc, context.len(), var)?;
+    Ok(leaf_of(
+        source.alloc,
+        place,
+        Box::into_inner(ty),
+        Form::Var(at),
+        Node::Var,
+        uses,
+    )?)
+}
+
+/// A truth value.
+pub(crate) fn check_bool(
+    source: &Source,
+    context: &mut Vec<Known>,
+    before: &Vec<bool>,
+    direction: Option<&Ty>,
+    place: Place,
+    value: bool,
+) -> Result<Got, Stop>
+    ensures answer { Agrees got_of result (check_shape (map function_of source.now.functions.now) (bounds_of source.now.vars.now) (types_in (entries_of context.old.items)) before.now.items (way_of (option_copied direction.entry)) place (terms.bool value)) }
+    ensures same { IfOk result (λ _. entries_of context.new.items ≡ entries_of context.old.items) }
+{
+    let uses = no_uses(source.alloc, context.len())?;
+    meet(direction, place, &Ty::Bool)?;
+    Ok(leaf_of(
+        source.alloc,
+        place,
+        Ty::Bool,
+        Form::Bool(value),
+        Node::Bool,
+        uses,
+    )?)
+}
+
+/// Unit.
+pub(crate) fn check_unit(
+    source: &Source,
+    context: &mut Vec<Known>,
+    before: &Vec<bool>,
+    direction: Option<&Ty>,
+    place: Place,
+) -> Result<Got, Stop>
+    ensures answer { Agrees got_of result (check_shape (map function_of source.now.functions.now) (bounds_of source.now.vars.now) (types_in (entries_of context.old.items)) before.now.items (way_of (option_copied direction.entry)) place (terms.unit)) }
+    ensures same { IfOk result (λ _. entries_of context.new.items ≡ entries_of context.old.items) }
+{
+    let uses = no_uses(source.alloc, context.len())?;
+    meet(direction, place, &Ty::Unit)?;
+    Ok(leaf_of(source.alloc, place, Ty::Unit, Form::Unit, Node::Unit, uses)?)
+}
+
+/// A literal.
+pub(crate) fn check_literal(
+    source: &Source,
+    context: &mut Vec<Known>,
+    before: &Vec<bool>,
+    direction: Option<&Ty>,
+    place: Place,
+    value: Option<u64>,
+) -> Result<Got, Stop>
+    ensures answer { Agrees got_of result (check_shape (map function_of source.now.functions.now) (bounds_of source.now.vars.now) (types_in (entries_of context.old.items)) before.now.items (way_of (option_copied direction.entry)) place (terms.lit value)) }
+    ensures same { IfOk result (λ _. entries_of context.new.items ≡ entries_of context.old.items) }
+{
+    let Some(ty) = direction else {
+        return Err(Stop::Rule(Rule::T2, place));
+    };
+    need(Rule::T1, place, is_word(ty))?;
+    need(Rule::T3, place, in_range(value, ty))?;
+    let uses = no_uses(source.alloc, context.len())?;
+    let ty = ty.copy(source.alloc)?;
+    Ok(leaf_of(source.alloc, place, ty, Form::Lit(value), Node::Lit, uses)?)
+}
+
+/// A function that is mentioned.
+pub(crate) fn check_mention(
+    source: &Source,
+    context: &mut Vec<Known>,
+    before: &Vec<bool>,
+    direction: Option<&Ty>,
+    place: Place,
+    fun: Fun,
+    args: &Items<TyArg>,
+) -> Result<Got, Stop>
+    ensures answer { Agrees got_of result (check_shape (map function_of source.now.functions.now) (bounds_of source.now.vars.now) (types_in (entries_of context.old.items)) before.now.items (way_of (option_copied direction.entry)) place (terms.fun fun (map arg_of args.now))) }
+    ensures same { IfOk result (λ _. entries_of context.new.items ≡ entries_of context.old.items) }
+{
+    match arguments_fault(source.functions, source.vars, fun, args) {
+        Some((rule, at)) => Err(Stop::Rule(rule, at)),
+        None => check_instance(source, context, direction, place, fun, args),
+    }
+}
+
+// A function that is mentioned with type arguments as it asks for them.
+fn check_instance(
+    source: &Source,
+    context: &Vec<Known>,
+    direction: Option<&Ty>,
+    place: Place,
+    fun: Fun,
+    args: &Items<TyArg>,
+) -> Result<Got, Stop>
+    ensures { Agrees got_of result (leaf_by (length (types_in (entries_of context.now.items))) (way_of (option_copied direction.entry)) place
+        (mentioned_type (map function_of source.now.functions.now) fun (map arg_of args.now)) (terms.fun fun (map arg_of args.now)) nodes.Fun) }
+{
+    let ty = boxed(
+        source.alloc,
+        mentioned(source.alloc, source.functions, fun, args),
+    )?;
+    meet(direction, place, &ty)?;
+    let uses = no_uses(source.alloc, context.len())?;
+    let args = copied_arguments(source.alloc, args)?;
+    Ok(leaf_of(
+        source.alloc,
+        place,
+        Box::into_inner(ty),
+        Form::Fun(fun, args),
+        Node::Fun,
+        uses,
+    )?)
+}
+
+// No use of any variable of a context.
+#[tactic(auto, using(crate::proofs::OperandSteps::bare_steps))]
+fn unused(alloc: Global, context: &Vec<Known>) -> Result<Vec<Use>, Memory>
+    ensures { IfOk result (λ uses. uses.items ≡ tables.no_uses (length (types_in (entries_of context.now.items)))) }
+{
+    no_uses(alloc, context.len())
+}
+
+// The form of an operator without operands.
+#[tactic(auto, using(crate::proofs::OperandSteps::bare_steps))]
+fn bare(alloc: Global, op: Op) -> Form<Typed>
+    ensures { the_core_form result ≡ terms.op op terms.none }
+{
+    Form::Op(op, Items::new(alloc))
+}
+
+/// An operator that has neither one operand nor two.
+pub(crate) fn check_bare(
+    source: &Source,
+    context: &Vec<Known>,
+    place: Place,
+    op: Op,
+) -> Result<Got, Stop>
+    ensures { Agrees got_of result (leaf_by (length (types_in (entries_of context.now.items))) None place unit_type (terms.op op terms.none) nodes.Op) }
+{
+    let uses = unused(source.alloc, context)?;
+    let form = bare(source.alloc, op);
+    Ok(leaf_of(source.alloc, place, Ty::Unit, form, Node::Op, uses)?)
+}

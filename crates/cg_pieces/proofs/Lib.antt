@@ -1,0 +1,4 @@
+pub mod BodySteps
+pub mod CoreSteps
+pub mod FieldSteps
+pub mod SeenSteps
