@@ -35,7 +35,7 @@ module _ (functions : List Function) (vars : List Kinds) where
 
   -- no event of fields fails, over these mark strings, and behind their nodes these are left
   pub record FineFields (g : Context) (p : List Tau) (ps : Option Parts) (strings : List (List Mark)) (ns : List CertNode) (n : ℕ) (fs : Named Place) (rest : List CertNode) : Type 0 where
-    pub strings_hold : field_strings functions vars fs strings g ≡ true
+    pub strings_hold : field_strings vars fs strings g ≡ true
     pub holds : AllHold (field_events functions vars g p (ways ps) strings ns n fs)
     pub left : drop (field_sizes fs) ns ≡ rest
 
@@ -51,7 +51,7 @@ module _ (functions : List Function) (vars : List Kinds) where
       let d0 = nth 0 ds in
       let he = subst (λ z. Derives functions vars g d0 z (core functions p way e)) (next_along functions p dir ps name e end o) h.value in
       let d = f g p way ns n d0 rest b w (given_last d0 ns rest (q ∙ ap (λ z. nodes_in z ++ rest) h.parts)) he (limits_left (faults.events functions vars p b way e) _ l) in
-      record { strings_hold = ap (λ z. field_strings functions vars (field name e end) z g) h.ended; holds = d.holds; left = left_of_two (size e) 0 ns rest d.left }
+      record { strings_hold = ap (λ z. field_strings vars (field name e end) z g) h.ended; holds = d.holds; left = left_of_two (size e) 0 ns rest d.left }
 
   pub complete_earlier : (name : List ℕ) (e : Tree Place) (later : List ℕ) (x : Tree Place) (fs : Named Place) → Complete functions vars e → CompleteFields (field later x fs)
       → CompleteFields (field name e (field later x fs))
@@ -69,7 +69,7 @@ module _ (functions : List Function) (vars : List Kinds) where
       let lm = subst (λ z. LimitsHold (faults.field_events functions vars p (after b e) z more)) (ways_on ps) (limits_right (faults.events functions vars p b way e) _ l) in
       let r = ff (second m g) p dir (behind ps) (later_marks strings) (drop (size e) ns) (n + size e) dm rest (after b e) (within_second vars m g p h.splits w) (follows_on dir ps name e more o) d.left hm lm in
       record {
-        strings_hold = ap (λ z. field_strings functions vars (field name e more) z g) h.marked ∙ both_and (splits vars [] m g) _ (is_splits vars [] m g h.splits) r.strings_hold;
+        strings_hold = ap (λ z. field_strings vars (field name e more) z g) h.marked ∙ both_and (splits vars [] m g) _ (is_splits vars [] m g h.splits) r.strings_hold;
         holds = hold_append (E (first m g) p way ns n e) _ d.holds
             (subst (λ z. AllHold (field_events functions vars (second m g) p z (later_marks strings) (drop (size e) ns) (n + size e) more)) (sym (ways_on ps)) r.holds);
         left = left_of_two (size e) (field_sizes more) ns rest r.left;

@@ -89,7 +89,7 @@ module _ (functions : List Function) (vars : List Kinds) where
           refl,
           (
             is_splits vars [] m g h.splits,
-            two_ok functions vars p n l r whole left right (guided_reached functions vars (suc n) later (first m g)) (guided_number functions vars (suc n) (value_of functions vars l)) (sort_of o) dir q
+            two_ok functions vars p n l r whole left right (guided_reached vars (suc n) later (first m g)) (guided_number (suc n) (value_of l)) (sort_of o) dir q
                 (guided functions vars (first m g) p later (suc n) l)
                 (record { left_holds = dl.holds; right_holds = dr.holds; takes = subst (λ u. takes (sort_of o) u ≡ true) li h.takes; result = subst (λ u. plain_in functions p dir whole ≡ gives (sort_of o) u) li h.is }),
           ),

@@ -16,7 +16,7 @@ use Rattle.cg_certcheck_laws.proofs.Operands.{IsGuided}
 
 module _ (functions : List Function) (vars : List Kinds) (g : Context) (p : List Tau) (ns : List CertNode) (n : ℕ) where
   pub guided : (l : Tree Place) → is_literal l ≡ true
-      → IsGuided (λ way. events functions vars g p way ns n l) (guided_reached functions vars n ns g) (guided_number functions vars n (value_of functions vars l))
+      → IsGuided (λ way. events functions vars g p way ns n l) (guided_reached vars n ns g) (guided_number n (value_of l))
   guided (term a (lit v)) q = record {
     together = λ t r m. (r.0, (r.1.0, (both_and (drops_all vars g) (in_range v t) r.1.1.0 m.0, (m.1.0, tt))));
     reached = λ t h. (h.0, (h.1.0, ((and_both (drops_all vars g) (in_range v t) h.1.1.0).0, tt)));

@@ -6,7 +6,8 @@ use Rattle.cg_cert.specs.declared.cert.CertFun.{CertFun}
 use Rattle.cg_cert.specs.Certificates.{certificate}
 use Rattle.cg_typing.specs.Kept.{AreKept}
 use Rattle.cg_certcheck_laws.specs.Events.{AllHold, cert_events}
-use Rattle.cg_certcheck_laws.specs.Laws.{EventsDecide, KeptIsListed, tree_in, all_kept}
+use Rattle.cg_certcheck_laws.specs.Laws.{EventsDecide, KeptIsListed, all_kept}
+use Rattle.cg_pieces.specs.Bodies.{tree_in}
 use Rattle.cg_certcheck_laws.proofs.KernelComplete.{functions_complete}
 use Rattle.cg_certcheck_laws.proofs.KernelSound.{functions_sound}
 

@@ -81,7 +81,7 @@ module _ (functions : List Function) (vars : List Kinds) (p : List Tau) (n : ℕ
 
   -- the events say that
   pub one_holds : (sort : Sort) (direction : Option Tau) → plain functions p whole ≡ gives sort (plain functions p x)
-      → AllHold (unary_events functions vars sort direction n (plain functions p x) part) → OneHolds sort direction
+      → AllHold (unary_events sort direction n (plain functions p x) part) → OneHolds sort direction
   one_holds logic direction is h =
       record { holds = hold_left _ _ h; takes = refl; result = met_is functions p direction whole types.bool is (hold_right (part (Some types.bool)) _ h).0 }
   one_holds arithmetic (Some t) is h = record { holds = h.1; takes = h.0; result = refl }
@@ -94,7 +94,7 @@ module _ (functions : List Function) (vars : List Kinds) (p : List Tau) (n : ℕ
       record { holds = hold_left _ _ h; takes = q.0; result = met_is functions p direction whole types.bool is q.1 }
 
   -- and nothing else
-  pub one_ok : (sort : Sort) (direction : Option Tau) → OneHolds sort direction → AllHold (unary_events functions vars sort direction n (plain functions p x) part)
+  pub one_ok : (sort : Sort) (direction : Option Tau) → OneHolds sort direction → AllHold (unary_events sort direction n (plain functions p x) part)
   one_ok logic direction h = hold_append (part (Some types.bool)) _ h.holds (is_met functions p direction whole types.bool h.result, tt)
   one_ok arithmetic (Some t) h = (h.takes, h.holds)
   one_ok arithmetic None h = hold_append (part None) _ h.holds (h.takes, tt)
@@ -135,7 +135,7 @@ module _ (functions : List Function) (vars : List Kinds) (p : List Tau) (n : ℕ
 
   -- the events say that, where the left operand is a literal that is guided as well
   pub two_hold : (sort : Sort) (direction : Option Tau) (q : Bool) → (q ≡ true → IsGuided left reaches number) → plain functions p whole ≡ gives sort (cond q b a)
-      → AllHold (binary_events functions vars sort direction n q a b left right reaches number) → TwoHold sort direction q
+      → AllHold (binary_events sort direction n q a b left right reaches number) → TwoHold sort direction q
   two_hold logic direction q guided is h =
       let h1 = hold_right (left (Some types.bool)) _ h in
       record {
@@ -189,7 +189,7 @@ module _ (functions : List Function) (vars : List Kinds) (p : List Tau) (n : ℕ
 
   -- and nothing else
   pub two_ok : (sort : Sort) (direction : Option Tau) (q : Bool) → (q ≡ true → IsGuided left reaches number) → TwoHold sort direction q
-      → AllHold (binary_events functions vars sort direction n q a b left right reaches number)
+      → AllHold (binary_events sort direction n q a b left right reaches number)
   two_ok logic direction q guided h =
       hold_append (left (Some types.bool)) _ h.left_holds (hold_append (right (Some types.bool)) _ h.right_holds (is_met functions p direction whole types.bool h.result, tt))
   two_ok arithmetic (Some t) true guided h = (h.takes, hold_append (left (Some t)) _ h.left_holds h.right_holds)

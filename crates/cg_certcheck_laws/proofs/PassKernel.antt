@@ -47,7 +47,7 @@ module _ (functions : List Function) (vars : List Kinds) where
   values p ways at to fs = record { parts = parts_in p ways fs; cores = core_fields functions p ways fs; trees = trees_at at.nodes fs; at = to }
 
   abbrev PassesFields : Named Place → Type 0
-  PassesFields fs = (g : Context) (p : List Tau) (ways : List (Option Tau)) (strings : List (List Mark)) (at : Cursor) → Agree g p → field_strings functions vars fs strings g ≡ true
+  PassesFields fs = (g : Context) (p : List Tau) (ways : List (Option Tau)) (strings : List (List Mark)) (at : Cursor) → Agree g p → field_strings vars fs strings g ≡ true
       → check_fields functions vars g ways strings at fs ≡ run (field_events functions vars g p ways strings at.nodes at.next fs) (Ok (values p ways at (past (field_sizes fs) at) fs))
 
   past_none : (at : Cursor) → at ≡ past 0 at
@@ -87,10 +87,10 @@ module _ (functions : List Function) (vars : List Kinds) where
       let here = step at in let ways = field_directions dir in let strings = strings_at at.nodes in
       let es = field_events functions vars g p ways strings here.nodes here.next fs in
       ap (stands at.next _) (guarded (C2 at.next) _
-      (row at.next (is_record functions vars dir fs) (bind (check_fields functions vars g ways strings here fs)
+      (row at.next (is_record dir fs) (bind (check_fields functions vars g ways strings here fs)
       (λ u. Ok (made a (wanted dir (fields u.parts U)) (struct u.cores) (derivation nodes.Struct strings u.trees) u.at))))
-      (row at.next (is_record functions vars dir fs) (run es (Ok (value functions vars p dir at (term a (struct fs))))))
-      (λ e. ap (row at.next (is_record functions vars dir fs))
+      (row at.next (is_record dir fs) (run es (Ok (value functions vars p dir at (term a (struct fs))))))
+      (λ e. ap (row at.next (is_record dir fs))
       (last_part (check_fields functions vars g ways strings here fs) (λ u. Ok (made a (wanted dir (fields u.parts U)) (struct u.cores) (derivation nodes.Struct strings u.trees) u.at))
       es (values p ways here (past (field_sizes fs) here) fs) (Ok (value functions vars p dir at (term a (struct fs))))
       (pf g p ways strings here h (right_holds _ _ e))

@@ -32,7 +32,7 @@ module _ (functions : List Function) (vars : List Kinds) (o : Op) (place : Place
   Whole way t = made place t (op o (more (c way) none)) (one nodes.Op d) to
 
   pub unary_is : (sort : Sort) (dir : Option Tau)
-      → unary sort o dir place at x ≡ run (unary_events functions vars sort dir at.next a part) (Ok (Whole (operand sort dir true (operand_type sort dir a)) (in_direction dir (gives sort a))))
+      → unary sort o dir place at x ≡ run (unary_events sort dir at.next a part) (Ok (Whole (operand sort dir true (operand_type sort dir a)) (in_direction dir (gives sort a))))
   unary_is logic dir =
       next (x (step at) (Some types.bool)) _ (part (Some types.bool)) _ (X (Some types.bool)) _ (answers (Some types.bool))
       (met at.next (meets dir types.bool) dir place types.bool _ _ to (λ h. h))
@@ -68,10 +68,10 @@ module _ (functions : List Function) (vars : List Kinds) (m : List Mark) (o : Op
   Kind sort dir q = operand_type sort dir (cond q b a)
 
   abbrev Reaches : List Event
-  Reaches = guided_reached functions vars (suc at.next) (behind at.nodes) g
+  Reaches = guided_reached vars (suc at.next) (behind at.nodes) g
 
   abbrev Number : Tau → List Event
-  Number t = guided_number functions vars (suc at.next) value t
+  Number t = guided_number (suc at.next) value t
 
   bool_is : (v w dir : Option Tau) → row at.next (meets dir types.bool) (Ok (Both v w types.bool)) ≡ row at.next (meets dir types.bool) (Ok (Both v w (in_direction dir types.bool)))
   bool_is v w dir = met at.next (meets dir types.bool) dir place types.bool _ _ to (λ h. h)
@@ -89,7 +89,7 @@ module _ (functions : List Function) (vars : List Kinds) (m : List Mark) (o : Op
   guided_bool f dir = ap (λ u. row at.next (meets dir types.bool) (Ok u)) (literal_in f types.bool) ∙ bool_is (Some b) None dir
 
   pub binary_is : (sort : Sort) (dir : Option Tau) (q : Bool) → Literal q
-      → binary functions vars m sort o dir place q note value g at l r ≡ run (binary_events functions vars sort dir at.next q a b left right Reaches Number)
+      → binary functions vars m sort o dir place q note value g at l r ≡ run (binary_events sort dir at.next q a b left right Reaches Number)
       (Ok (Both (operand sort dir (not q) (Kind sort dir q)) (operand sort dir q (Kind sort dir q)) (in_direction dir (gives sort (cond q b a)))))
   binary_is logic dir q f =
       next (l (step at) (Some types.bool)) _ (left (Some types.bool)) _ (L (Some types.bool)) _ (pl (Some types.bool))

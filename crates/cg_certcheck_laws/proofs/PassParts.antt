@@ -16,7 +16,7 @@ use Rattle.cg_core.specs.Terms.{Tree, term, Shape, var, unit, bool, lit, fun, op
 use Rattle.cg_faults.specs.Plain.{plain, plain_in, plain_at, mentioned}
 use Rattle.cg_kinds.specs.Kinds.{or_unit}
 use Rattle.cg_certcheck_laws.specs.Events as tests
-use Rattle.cg_certcheck_laws.specs.Events.{Event, behind, marks_next, strings_at, size, size_below, no_strings, meets, is_number, is_alternative, alternative_held, is_checked, is_cast, value_of, reached, unary_events, binary_events, guided_reached, guided_number, events, events_shape}
+use Rattle.cg_certcheck_laws.specs.Events.{Event, behind, marks_next, strings_at, size, size_below, no_strings, meets, is_number, is_alternative, alternative_held, is_cast, value_of, reached, unary_events, binary_events, guided_reached, guided_number, events, events_shape}
 use Rattle.cg_certcheck_laws.specs.Pass.{Out, bind, wanted, row, reach, Cursor, step, Got, made, binary, check, check_shape}
 use Rattle.cg_certcheck_laws.specs.Reads.{tree_at, tree_of}
 use Rattle.cg_certcheck_laws.specs.Tests.{is_present, drops_all, drops_but}
@@ -119,7 +119,7 @@ module _ (functions : List Function) (vars : List Kinds) where
       ap (Reach at nodes.Op)
       (unary_is functions vars o a at (past (size x) mid) (λ from way. check functions vars g way from x) (λ way. events functions vars g p way mid.nodes mid.next x)
       (plain functions p x) (λ way. core functions p way x) (tree_at mid.nodes x) (λ way. px g p way mid h ∙ operand_is g p mid x way) (sort_of o) dir
-      ∙ ap (run (unary_events functions vars (sort_of o) dir at.next (plain functions p x) (λ way. events functions vars g p way mid.nodes mid.next x)))
+      ∙ ap (run (unary_events (sort_of o) dir at.next (plain functions p x) (λ way. events functions vars g p way mid.nodes mid.next x)))
       (got p dir a whole _ at (past (size x) mid) (in_is p dir (term a whole)) (past_step (size x) at ∙ ap (λ k. past (suc k) at) (omega arith))))
 
   -- a literal left of its guide
@@ -127,7 +127,7 @@ module _ (functions : List Function) (vars : List Kinds) where
   literal_size (term note (lit v)) h = refl
   literal_size _ h = absurd (cc)
 
-  literal_core : (l : Tree Place) (p : List Tau) (t : Tau) → is_literal l ≡ true → core functions p (Some t) l ≡ term (noted (note_at l) t) (lit (value_of functions vars l))
+  literal_core : (l : Tree Place) (p : List Tau) (t : Tau) → is_literal l ≡ true → core functions p (Some t) l ≡ term (noted (note_at l) t) (lit (value_of l))
   literal_core (term note (lit v)) p t h = refl
   literal_core _ p t h = absurd (cc)
 
@@ -145,14 +145,14 @@ module _ (functions : List Function) (vars : List Kinds) where
       let left : Option Tau → List Event = λ way. events functions vars (first m g) p way here.nodes here.next l in
       let right : Option Tau → List Event = λ way. events functions vars (second m g) p way mid.nodes mid.next r in
       split_is functions vars [] g nodes.Op at
-      (λ m. binary functions vars m (sort_of o) o dir a (is_literal l) (note_at l) (value_of functions vars l) (first m g) at
+      (λ m. binary functions vars m (sort_of o) o dir a (is_literal l) (note_at l) (value_of l) (first m g) at
       (λ from way. check functions vars (first m g) way from l) (λ from way. check functions vars (second m g) way from r))
-      (binary_events functions vars (sort_of o) dir at.next (is_literal l) (plain functions p l) (plain functions p r) left right
-      (guided_reached functions vars (suc at.next) (behind at.nodes) (first m g)) (guided_number functions vars (suc at.next) (value_of functions vars l))) _
+      (binary_events (sort_of o) dir at.next (is_literal l) (plain functions p l) (plain functions p r) left right
+      (guided_reached vars (suc at.next) (behind at.nodes) (first m g)) (guided_number (suc at.next) (value_of l))) _
       (λ s.
       let on_left = agree_left m g p vars s h in
       let on_right = agree_second (λ i. false) m g p vars s h in
-      binary_is functions vars m o a (note_at l) (value_of functions vars l) (first m g) at mid to
+      binary_is functions vars m o a (note_at l) (value_of l) (first m g) at mid to
       (λ from way. check functions vars (first m g) way from l) (λ from way. check functions vars (second m g) way from r) left right
       (plain functions p l) (plain functions p r) (λ way. core functions p way l) (λ way. core functions p way r) (tree_at here.nodes l) (tree_at mid.nodes r)
       (λ way. pl (first m g) p way here on_left ∙ operand_is (first m g) p here l way)
@@ -163,8 +163,8 @@ module _ (functions : List Function) (vars : List Kinds) where
         core = λ q. literal_core l p (plain functions p r) q;
         tree = λ q. literal_tree l here.nodes q;
       })
-      ∙ ap (run (binary_events functions vars (sort_of o) dir at.next (is_literal l) (plain functions p l) (plain functions p r) left right
-      (guided_reached functions vars (suc at.next) (behind at.nodes) (first m g)) (guided_number functions vars (suc at.next) (value_of functions vars l))))
+      ∙ ap (run (binary_events (sort_of o) dir at.next (is_literal l) (plain functions p l) (plain functions p r) left right
+      (guided_reached vars (suc at.next) (behind at.nodes) (first m g)) (guided_number (suc at.next) (value_of l))))
       (got p dir a whole _ at to (in_is p dir (term a whole)) (past_two (size l) (size r) at ∙ ap (λ k. past (suc k) at) (omega arith))))
 
   -- ---- one part
@@ -175,13 +175,13 @@ module _ (functions : List Function) (vars : List Kinds) where
 
   pub pass_con : (a : Place) (name : List ℕ) (e : Tree Place) → Passes e → PassesShape a (con name e)
   pass_con a name e pe g p None at h =
-      let way = Some (alternative_held functions vars name None) in
-      ap (λ k. Reach at nodes.Con (row at.next (is_alternative functions vars name None) k))
+      let way = Some (alternative_held name None) in
+      ap (λ k. Reach at nodes.Con (row at.next (is_alternative name None) k))
       (last_part (check functions vars g way (step at) e) (λ u. Ok (made a types.unit (con name u.core) (one nodes.Con u.tree) u.at)) (Below g p way at e) (value p way (step at) e)
       (Ok (value p None at (term a (con name e)))) (pe g p way (step at) h) (got p None a (con name e) types.unit at (past (size e) (step at)) refl (past_step (size e) at)))
   pass_con a name e pe g p (Some t) at h =
-      let way = Some (alternative_held functions vars name (Some t)) in
-      ap (λ k. Reach at nodes.Con (row at.next (is_alternative functions vars name (Some t)) k))
+      let way = Some (alternative_held name (Some t)) in
+      ap (λ k. Reach at nodes.Con (row at.next (is_alternative name (Some t)) k))
       (last_part (check functions vars g way (step at) e) (λ u. Ok (made a t (con name u.core) (one nodes.Con u.tree) u.at)) (Below g p way at e) (value p way (step at) e)
       (Ok (value p (Some t) at (term a (con name e)))) (pe g p way (step at) h) (got p (Some t) a (con name e) t at (past (size e) (step at)) refl (past_step (size e) at)))
 
@@ -222,10 +222,10 @@ module _ (functions : List Function) (vars : List Kinds) where
 
   pub pass_cast : (a : Place) (e : Tree Place) → Passes e → PassesShape a (cast e)
   pass_cast a e pe g p dir at h =
-      ap (λ k. Reach at nodes.Cast (row at.next (is_checked functions vars dir) k)) (tested g p None at e (λ u.
-      row at.next (is_cast functions vars dir u.ty) (Ok (made a (wanted dir types.unit) (cast u.core) (one nodes.Cast u.tree) u.at)))
-      (is_cast functions vars dir (plain functions p e)) (Ok (value p dir at (term a (cast e)))) pe h
-      (ap (row at.next (is_cast functions vars dir (plain functions p e)))
+      ap (λ k. Reach at nodes.Cast (row at.next (is_present dir) k)) (tested g p None at e (λ u.
+      row at.next (is_cast dir u.ty) (Ok (made a (wanted dir types.unit) (cast u.core) (one nodes.Cast u.tree) u.at)))
+      (is_cast dir (plain functions p e)) (Ok (value p dir at (term a (cast e)))) pe h
+      (ap (row at.next (is_cast dir (plain functions p e)))
       (got p dir a (cast e) (wanted dir types.unit) at (past (size e) (step at)) (cast_is a e p dir at) (past_step (size e) at))))
 
   pub pass_annot : (a : Place) (e : Tree Place) (t : Arg) → Passes e → PassesShape a (annot e t)

@@ -201,7 +201,7 @@ look_is (Some u ∷ g) [] i h e = absurd h
 -- ---- nodes with one mark string
 
 module _ (functions : List Function) (vars : List Kinds) where
-  string_splits : (observers : List Observer) (strings : List (List Mark)) (g : Context) → one_string functions vars observers strings g ≡ true
+  string_splits : (observers : List Observer) (strings : List (List Mark)) (g : Context) → one_string vars observers strings g ≡ true
       → splits vars observers (first_marks strings) g ≡ true
   string_splits observers [] g h = absurd (cc)
   string_splits observers (s ∷ []) g h = h
@@ -210,6 +210,6 @@ module _ (functions : List Function) (vars : List Kinds) where
   -- what stands behind such a node may go by the split
   pub split_is : {A : Type 0} (observers : List Observer) (g : Context) (node : Node) (at : Cursor) (k : List Mark → Out A) (ys : List Event) (l : Out A)
       → (splits vars observers (marks_next at.nodes) g ≡ true → k (marks_next at.nodes) ≡ run ys l)
-      → split_at functions vars observers g node at k ≡ run (split_reached functions vars at.next at.nodes node observers g ++ ys) l
+      → split_at functions vars observers g node at k ≡ run (split_reached vars at.next at.nodes node observers g ++ ys) l
   split_is observers g node at k ys l h =
       ap (test (C3 at.next) _) (guarded (C2 at.next) _ _ _ (λ e. h (string_splits observers (strings_at at.nodes) g (right_holds _ _ e))))

@@ -56,12 +56,12 @@ unmarked (x ∷ ns) h = go x.marks h
     go (string ∷ strings) h = absurd (cc)
 
 module _ (functions : List Function) (vars : List Kinds) where
-  one_marked : (os : List Seen) (ns : List CertNode) (g : Context) → one_string functions vars os (strings_at ns) g ≡ true
+  one_marked : (os : List Seen) (ns : List CertNode) (g : Context) → one_string vars os (strings_at ns) g ≡ true
       → (strings_at ns ≡ marks_next ns ∷ []) × Splits vars os (marks_next ns) g
   one_marked os [] g h = absurd (cc)
   one_marked os (x ∷ ns) g h = go x.marks h
     where
-      go : (strings : List (List Mark)) → one_string functions vars os strings g ≡ true → (strings ≡ first_marks strings ∷ []) × Splits vars os (first_marks strings) g
+      go : (strings : List (List Mark)) → one_string vars os strings g ≡ true → (strings ≡ first_marks strings ∷ []) × Splits vars os (first_marks strings) g
       go [] h = absurd (cc)
       go (m ∷ []) h = (refl, splits_is vars os m g h)
       go (m ∷ (m' ∷ ms)) h = absurd (cc)
@@ -72,10 +72,10 @@ module _ (functions : List Function) (vars : List Kinds) where
     pub one : strings_at ns ≡ marks_next ns ∷ []
     pub splits : Splits vars os (marks_next ns) g
 
-  pub split_is : (os : List Seen) (ns : List CertNode) (node : Node) (g : Context) → is_some ns ≡ true → (same_node (name_at ns) node && one_string functions vars os (strings_at ns) g) ≡ true
+  pub split_is : (os : List Seen) (ns : List CertNode) (node : Node) (g : Context) → is_some ns ≡ true → (same_node (name_at ns) node && one_string vars os (strings_at ns) g) ≡ true
       → Split os ns node g
   split_is os ns node g h k =
-      let r = reached_is ns node (one_string functions vars os (strings_at ns) g) h k in let m = one_marked os ns g r.marks in record { is = r.is; one = m.0; splits = m.1 }
+      let r = reached_is ns node (one_string vars os (strings_at ns) g) h k in let m = one_marked os ns g r.marks in record { is = r.is; one = m.0; splits = m.1 }
 
 -- ---- types that are met
 

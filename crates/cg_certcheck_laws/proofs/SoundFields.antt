@@ -44,7 +44,7 @@ module _ (functions : List Function) (vars : List Kinds) (types_in : ℕ) where
   -- fields of which there is one at least
   abbrev pub SoundFields : Named Place → Type 0
   SoundFields fs = (g : Context) (p : List Tau) (dir : Option Tau) (ps : Option Parts) (strings : List (List Mark)) (ns : List CertNode) (n : ℕ)
-      → AreLawfulFields (map (λ f. length f.vars) functions) types_in (length p) fs → Within g p → Follows dir ps fs → field_strings functions vars fs strings g ≡ true
+      → AreLawfulFields (map (λ f. length f.vars) functions) types_in (length p) fs → Within g p → Follows dir ps fs → field_strings vars fs strings g ≡ true
       → AllHold (field_events functions vars g p (ways ps) strings ns n fs) → SpelledFields g p dir ps strings ns fs
 
   pub sound_last : (name : List ℕ) (e : Tree Place) → Sound functions vars types_in e → SoundFields (field name e end)
@@ -69,7 +69,7 @@ module _ (functions : List Function) (vars : List Kinds) (types_in : ℕ) where
       let rest : Named Place = field later x fs in
       let way = next_direction (ways ps) in
       let ee = E (first string g) p way ns n e in
-      let k = and_both (splits vars [] string g) (field_strings functions vars rest strings (second string g)) m in
+      let k = and_both (splits vars [] string g) (field_strings vars rest strings (second string g)) m in
       let sp = splits_is vars [] string g k.0 in
       let d = f (first string g) p way ns n s.0 (within_first vars string g p sp w) (hold_left ee _ h) in
       let ds = ff (second string g) p dir (behind ps) strings (drop (size e) ns) (n + size e) s.1 (within_second vars string g p sp w) (follows_on dir ps name e rest o) k.1
@@ -91,7 +91,7 @@ module _ (functions : List Function) (vars : List Kinds) (types_in : ℕ) where
 
   pub sound_struct : (a : Place) (fs : Named Place) → (AreSome (field_names fs) → SoundFields fs) → SoundShape functions vars types_in a (struct fs)
   sound_struct a fs f g p None ns n s w h =
-      let r = reached_is ns nodes.Struct (field_strings functions vars fs (strings_at ns) g) h.0 h.1.0 in
+      let r = reached_is ns nodes.Struct (field_strings vars fs (strings_at ns) g) h.0 h.1.0 in
       let d = f s.0 g p None None (strings_at ns) (certs.behind ns) (suc n) s.2 w tt r.marks h.1.1.1 in
       record {
         tree = derivation nodes.Struct (strings_at ns) d.trees;
@@ -101,7 +101,7 @@ module _ (functions : List Function) (vars : List Kinds) (types_in : ℕ) where
         limits = λ b. d.limits b;
       }
   sound_struct a fs f g p (Some (fields ps U)) ns n s w h =
-      let r = reached_is ns nodes.Struct (field_strings functions vars fs (strings_at ns) g) h.0 h.1.0 in
+      let r = reached_is ns nodes.Struct (field_strings vars fs (strings_at ns) g) h.0 h.1.0 in
       let d = f s.0 g p (Some (fields ps U)) (Some ps) (strings_at ns) (certs.behind ns) (suc n) s.2 w h.1.1.0 r.marks h.1.1.1 in
       record {
         tree = derivation nodes.Struct (strings_at ns) d.trees;

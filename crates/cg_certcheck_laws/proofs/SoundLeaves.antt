@@ -38,9 +38,9 @@ pub record LeafHolds (ns : List CertNode) (node : Node) (test : Bool) : Type 0 w
   pub heads : Heads 1 (leaf node) ns
   pub holds : test ≡ true
 
-pub leaf_holds : (functions : List Function) (vars : List Kinds) (n : ℕ) (ns : List CertNode) (node : Node) (test : Bool)
-    → AllHold (leaf_reached functions vars n ns node ++ (row n test ∷ [])) → LeafHolds ns node test
-leaf_holds functions vars n ns node test h =
+pub leaf_holds : (n : ℕ) (ns : List CertNode) (node : Node) (test : Bool)
+    → AllHold (leaf_reached n ns node ++ (row n test ∷ [])) → LeafHolds ns node test
+leaf_holds n ns node test h =
     record { heads = heads_plain 0 node done ns (reached_is ns node (no_strings ns) h.0 h.1.0) refl; holds = h.1.1.0 }
 
 there : (o : Option Tau) (t : Tau) → is_present o ≡ true → Of o t → o ≡ Some t
@@ -78,7 +78,7 @@ module _ (functions : List Function) (vars : List Kinds) (types_in : ℕ) where
 
   pub sound_var : (a : Place) (i : ℕ) → SoundShape a (var i)
   sound_var a i g p dir ns n s w h =
-      let q = leaf_holds functions vars n ns nodes.Var _ h in
+      let q = leaf_holds n ns nodes.Var _ h in
       let t = and_both (is_present (look g i)) _ q.holds in
       let u = and_both (drops_but vars i g) _ t.1 in
       record {
@@ -96,7 +96,7 @@ module _ (functions : List Function) (vars : List Kinds) (types_in : ℕ) where
 
   pub sound_unit : (a : Place) → SoundShape a unit
   sound_unit a g p dir ns n s w h =
-      let q = leaf_holds functions vars n ns nodes.Unit _ h in
+      let q = leaf_holds n ns nodes.Unit _ h in
       let t = and_both (drops_all vars g) _ q.holds in
       record {
         tree = leaf nodes.Unit;
@@ -108,7 +108,7 @@ module _ (functions : List Function) (vars : List Kinds) (types_in : ℕ) where
 
   pub sound_bool : (a : Place) (v : Bool) → SoundShape a (bool v)
   sound_bool a v g p dir ns n s w h =
-      let q = leaf_holds functions vars n ns nodes.Bool _ h in
+      let q = leaf_holds n ns nodes.Bool _ h in
       let t = and_both (drops_all vars g) _ q.holds in
       record {
         tree = leaf nodes.Bool;
@@ -121,10 +121,10 @@ module _ (functions : List Function) (vars : List Kinds) (types_in : ℕ) where
 
   pub sound_lit : (a : Place) (v : Option ℕ) → SoundShape a (lit v)
   sound_lit a v g p None ns n s w h =
-      let q = leaf_holds functions vars n ns nodes.Lit _ h in
+      let q = leaf_holds n ns nodes.Lit _ h in
       let t = and_both (drops_all vars g) _ q.holds in absurd (let z = t.1 in cc)
   sound_lit a v g p (Some u) ns n s w h =
-      let q = leaf_holds functions vars n ns nodes.Lit _ h in
+      let q = leaf_holds n ns nodes.Lit _ h in
       let t = and_both (drops_all vars g) _ q.holds in
       record {
         tree = leaf nodes.Lit;
@@ -136,7 +136,7 @@ module _ (functions : List Function) (vars : List Kinds) (types_in : ℕ) where
 
   pub sound_fun : (a : Place) (f : Fun) (args : List Arg) → SoundShape a (fun f args)
   sound_fun a f args g p dir ns n s w h =
-      let q = leaf_holds functions vars n ns nodes.Fun _ h in
+      let q = leaf_holds n ns nodes.Fun _ h in
       let t = and_both (drops_all vars g) _ q.holds in
       let u = and_both (are_good_arguments vars (asked_by functions f) args) _ t.1 in
       record {

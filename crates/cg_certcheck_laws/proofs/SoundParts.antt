@@ -76,8 +76,8 @@ module _ (functions : List Function) (vars : List Kinds) (types_in : ℕ) where
       let q = is_literal l in
       let left : Option Tau → List Event = λ way. E (first m g) p way (behind ns) (suc n) l in
       let right : Option Tau → List Event = λ way. E (second m g) p way (drop (size l) (behind ns)) (suc n + size l) r in
-      let reaches = guided_reached functions vars (suc n) (behind ns) (first m g) in
-      let number = guided_number functions vars (suc n) (value_of functions vars l) in
+      let reaches = guided_reached vars (suc n) (behind ns) (first m g) in
+      let number = guided_number (suc n) (value_of l) in
       let k = two_hold functions vars p n l r whole left right reaches number (sort_of o) dir q (guided functions vars (first m g) p (behind ns) (suc n) l) refl h.1.1 in
       let sp = split_is functions vars [] ns nodes.Op g h.0 h.1.0 in
       let t = common functions p l r (sort_of o) dir q in

@@ -123,7 +123,10 @@ abbrev pub is_number : Option ℕ → Option Tau → Bool
 is_number value None = false
 is_number value (Some t) = in_range value t
 
-module _ (functions : List Function) (vars : List Kinds) where
+abbrev pub leaf_reached : ℕ → List CertNode → Node → List Event
+leaf_reached n ns node = reached n ns node (no_strings ns)
+
+module _ (vars : List Kinds) where
   -- one mark string, which splits the context with these observers
   abbrev pub one_string : List Seen → List (List Mark) → Context → Bool
   one_string observers (string ∷ []) g = splits vars observers string g
@@ -136,9 +139,6 @@ module _ (functions : List Function) (vars : List Kinds) where
   field_strings fs [] g = true
   field_strings fs (string ∷ strings) g = false
 
-  abbrev pub leaf_reached : ℕ → List CertNode → Node → List Event
-  leaf_reached n ns node = reached n ns node (no_strings ns)
-
   abbrev pub split_reached : ℕ → List CertNode → Node → List Seen → Context → List Event
   split_reached n ns node observers g = reached n ns node (one_string observers (strings_at ns) g)
 
@@ -146,59 +146,57 @@ module _ (functions : List Function) (vars : List Kinds) where
   abbrev pub guided_reached : ℕ → List CertNode → Context → List Event
   guided_reached n ns g = leaf_reached n ns nodes.Lit ++ (row n (drops_all vars g) ∷ [])
 
-  abbrev pub guided_number : ℕ → Option ℕ → Tau → List Event
-  guided_number n value t = row n (in_range value t) ∷ (within t ∷ [])
+-- and its events where it is judged, by its guide's type
+abbrev pub guided_number : ℕ → Option ℕ → Tau → List Event
+guided_number n value t = row n (in_range value t) ∷ (within t ∷ [])
 
-  -- the number that a literal is
-  abbrev pub value_of : Tree Place → Option ℕ
-  value_of (term place (lit value)) = value
-  value_of e = None
+-- the number that a literal is
+abbrev pub value_of : Tree Place → Option ℕ
+value_of (term place (lit value)) = value
+value_of e = None
 
-  -- ---- operators, over the events of their operands in a direction
+-- ---- operators, over the events of their operands in a direction
 
-  abbrev pub Way : Type 0
-  Way = Option Tau → List Event
+abbrev pub Way : Type 0
+Way = Option Tau → List Event
 
-  abbrev pub unary_events : Sort → Option Tau → ℕ → Tau → Way → List Event
-  unary_events logic direction n a operand = operand (Some types.bool) ++ (row n (meets direction types.bool) ∷ [])
-  unary_events arithmetic (Some t) n a operand = row n (is_word t) ∷ operand (Some t)
-  unary_events arithmetic None n a operand = operand None ++ (row n (is_word a) ∷ [])
-  unary_events sort direction n a operand = operand None ++ (row n (takes sort a && meets direction types.bool) ∷ [])
+abbrev pub unary_events : Sort → Option Tau → ℕ → Tau → Way → List Event
+unary_events logic direction n a operand = operand (Some types.bool) ++ (row n (meets direction types.bool) ∷ [])
+unary_events arithmetic (Some t) n a operand = row n (is_word t) ∷ operand (Some t)
+unary_events arithmetic None n a operand = operand None ++ (row n (is_word a) ∷ [])
+unary_events sort direction n a operand = operand None ++ (row n (takes sort a && meets direction types.bool) ∷ [])
 
-  -- the left operand is a literal or not; where it is one and the right operand is the guide, it is reached before that, and judged behind it
-  abbrev pub binary_events : Sort → Option Tau → ℕ → Bool → Tau → Tau → Way → Way → List Event → (Tau → List Event) → List Event
-  binary_events logic direction n literal a b left right reaches number =
-      left (Some types.bool) ++ (right (Some types.bool) ++ (row n (meets direction types.bool) ∷ []))
-  binary_events arithmetic (Some t) n literal a b left right reaches number = row n (is_word t) ∷ (left (Some t) ++ right (Some t))
-  binary_events arithmetic None n true a b left right reaches number = reaches ++ (right None ++ (row n (is_word b) ∷ number b))
-  binary_events arithmetic None n false a b left right reaches number = left None ++ (row n (is_word a) ∷ right (Some a))
-  binary_events sort direction n true a b left right reaches number =
-      reaches ++ (right None ++ (row n (takes sort b) ∷ (number b ++ (row n (meets direction types.bool) ∷ []))))
-  binary_events sort direction n false a b left right reaches number =
-      left None ++ (row n (takes sort a) ∷ (right (Some a) ++ (row n (meets direction types.bool) ∷ [])))
+-- the left operand is a literal or not; where it is one and the right operand is the guide, it is reached before that, and judged behind it
+abbrev pub binary_events : Sort → Option Tau → ℕ → Bool → Tau → Tau → Way → Way → List Event → (Tau → List Event) → List Event
+binary_events logic direction n literal a b left right reaches number =
+    left (Some types.bool) ++ (right (Some types.bool) ++ (row n (meets direction types.bool) ∷ []))
+binary_events arithmetic (Some t) n literal a b left right reaches number = row n (is_word t) ∷ (left (Some t) ++ right (Some t))
+binary_events arithmetic None n true a b left right reaches number = reaches ++ (right None ++ (row n (is_word b) ∷ number b))
+binary_events arithmetic None n false a b left right reaches number = left None ++ (row n (is_word a) ∷ right (Some a))
+binary_events sort direction n true a b left right reaches number =
+    reaches ++ (right None ++ (row n (takes sort b) ∷ (number b ++ (row n (meets direction types.bool) ∷ []))))
+binary_events sort direction n false a b left right reaches number =
+    left None ++ (row n (takes sort a) ∷ (right (Some a) ++ (row n (meets direction types.bool) ∷ [])))
 
-  -- T1 of a record that is checked
-  abbrev pub is_record : Option Tau → Named Place → Bool
-  is_record None fs = true
-  is_record (Some t) fs = is_made_of t fs
+-- T1 of a record that is checked
+abbrev pub is_record : Option Tau → Named Place → Bool
+is_record None fs = true
+is_record (Some t) fs = is_made_of t fs
 
-  -- the alternative of a constructor
-  abbrev pub is_alternative : List ℕ → Option Tau → Bool
-  is_alternative name None = false
-  is_alternative name (Some t) = is_left (alternative_in name t)
+-- the alternative of a constructor
+abbrev pub is_alternative : List ℕ → Option Tau → Bool
+is_alternative name None = false
+is_alternative name (Some t) = is_left (alternative_in name t)
 
-  abbrev pub alternative_held : List ℕ → Option Tau → Tau
-  alternative_held name None = types.unit
-  alternative_held name (Some t) = held (alternative_in name t)
+abbrev pub alternative_held : List ℕ → Option Tau → Tau
+alternative_held name None = types.unit
+alternative_held name (Some t) = held (alternative_in name t)
 
-  abbrev pub is_cast : Option Tau → Tau → Bool
-  is_cast None t = false
-  is_cast (Some wanted) t = widens t wanted
+abbrev pub is_cast : Option Tau → Tau → Bool
+is_cast None t = false
+is_cast (Some wanted) t = widens t wanted
 
-  abbrev pub is_checked : Option Tau → Bool
-  is_checked None = false
-  is_checked (Some t) = true
-
+module _ (functions : List Function) (vars : List Kinds) where
   abbrev mutual
     -- the events of a term in a context that the marks left, and a plain one that tells types, in a direction, over the nodes that are left,
     -- of which the next one has this number
@@ -220,29 +218,29 @@ module _ (functions : List Function) (vars : List Kinds) where
     events_shape g p direction ns n (op o (more x none)) =
         leaf_reached n ns nodes.Op ++ unary_events (sort_of o) direction n (plain functions p x) (λ way. events g p way (behind ns) (suc n) x)
     events_shape g p direction ns n (op o (more l (more r none))) =
-        split_reached n ns nodes.Op [] g ++ binary_events (sort_of o) direction n (is_literal l) (plain functions p l) (plain functions p r)
+        split_reached vars n ns nodes.Op [] g ++ binary_events (sort_of o) direction n (is_literal l) (plain functions p l) (plain functions p r)
         (λ way. events (first (marks_next ns) g) p way (behind ns) (suc n) l)
         (λ way. events (second (marks_next ns) g) p way (drop (size l) (behind ns)) (suc n + size l) r)
-        (guided_reached (suc n) (behind ns) (first (marks_next ns) g)) (guided_number (suc n) (value_of l))
+        (guided_reached vars (suc n) (behind ns) (first (marks_next ns) g)) (guided_number (suc n) (value_of l))
     events_shape g p direction ns n (op o ts) = row n false ∷ []
     -- a call
     events_shape g p direction ns n (app f x) =
-        split_reached n ns nodes.App [] g ++ (events (first (marks_next ns) g) p None (behind ns) (suc n) f
+        split_reached vars n ns nodes.App [] g ++ (events (first (marks_next ns) g) p None (behind ns) (suc n) f
         ++ (row n (is_arrow (plain functions p f))
         ∷ (events (second (marks_next ns) g) p (Some (taken_by (plain functions p f))) (drop (size f) (behind ns)) (suc n + size f) x
         ++ (row n (meets direction (given_by (plain functions p f))) ∷ []))))
     -- bindings
     events_shape g p direction ns n (lets binder e k) =
-        split_reached n ns nodes.Let [] g ++ (events (first (marks_next ns) g) p None (behind ns) (suc n) e
+        split_reached vars n ns nodes.Let [] g ++ (events (first (marks_next ns) g) p None (behind ns) (suc n) e
         ++ events (push (second (marks_next ns) g) (Some (plain functions p e))) (push p (plain functions p e)) direction (drop (size e) (behind ns)) (suc n + size e) k)
     events_shape g p direction ns n (let_bang observers binder e k) =
-        split_reached n ns nodes.LetBang observers g ++ (events (first (marks_next ns) g) (observed observers p) None (behind ns) (suc n) e
+        split_reached vars n ns nodes.LetBang observers g ++ (events (first (marks_next ns) g) (observed observers p) None (behind ns) (suc n) e
         ++ (row n (kinds vars (plain functions (observed observers p) e)).escape
         ∷ events (push (second (marks_next ns) g) (Some (plain functions (observed observers p) e))) (push p (plain functions (observed observers p) e)) direction
         (drop (size e) (behind ns)) (suc n + size e) k))
     -- a condition
     events_shape g p direction ns n (if_else c x y) =
-        split_reached n ns nodes.If [] g ++ (events (first (marks_next ns) g) p (Some types.bool) (behind ns) (suc n) c
+        split_reached vars n ns nodes.If [] g ++ (events (first (marks_next ns) g) p (Some types.bool) (behind ns) (suc n) c
         ++ (events (second (marks_next ns) g) p direction (drop (size c) (behind ns)) (suc n + size c) x
         ++ events (second (marks_next ns) g) p (second_branch direction (plain functions p x)) (drop (size c + size x) (behind ns)) (suc n + (size c + size x)) y))
     -- a constructor
@@ -250,7 +248,7 @@ module _ (functions : List Function) (vars : List Kinds) where
         leaf_reached n ns nodes.Con ++ (row n (is_alternative name direction) ∷ events g p (Some (alternative_held name direction)) (behind ns) (suc n) e)
     -- matches
     events_shape g p direction ns n (case_of e at binder x y) =
-        split_reached n ns nodes.Case [] g ++ (events (first (marks_next ns) g) p None (behind ns) (suc n) e
+        split_reached vars n ns nodes.Case [] g ++ (events (first (marks_next ns) g) p None (behind ns) (suc n) e
         ++ (row n (is_left (alternative_in at.name (plain functions p e)))
         ∷ (events (push (second (marks_next ns) g) (Some (held (alternative_in at.name (plain functions p e)))))
         (push p (held (alternative_in at.name (plain functions p e)))) direction (drop (size e) (behind ns)) (suc n + size e) x
@@ -263,27 +261,27 @@ module _ (functions : List Function) (vars : List Kinds) where
         && meets direction (held (alternative_in at.name (plain functions p e))))) ∷ []))
     -- records
     events_shape g p direction ns n (struct fs) =
-        reached n ns nodes.Struct (field_strings fs (strings_at ns) g) ++ (row n (is_record direction fs)
+        reached n ns nodes.Struct (field_strings vars fs (strings_at ns) g) ++ (row n (is_record direction fs)
         ∷ field_events g p (field_directions direction) (strings_at ns) (behind ns) (suc n) fs)
     events_shape g p direction ns n (member e at) =
         leaf_reached n ns nodes.Member ++ (events g p None (behind ns) (suc n) e
         ++ (row n (is_left (field_in at.name (plain functions p e)) && (shares vars (plain functions p e)
         && meets direction (held (field_in at.name (plain functions p e))))) ∷ []))
     events_shape g p direction ns n (take_field e at rest binder k) =
-        split_reached n ns nodes.Take [] g ++ (events (first (marks_next ns) g) p None (behind ns) (suc n) e
+        split_reached vars n ns nodes.Take [] g ++ (events (first (marks_next ns) g) p None (behind ns) (suc n) e
         ++ (row n (is_left (field_in at.name (plain functions p e)) && not (is_read_only (plain functions p e)))
         ∷ events (push (push (second (marks_next ns) g) (Some (with_part at.name true (plain functions p e)))) (Some (held (field_in at.name (plain functions p e)))))
         (push (push p (with_part at.name true (plain functions p e))) (held (field_in at.name (plain functions p e)))) direction
         (drop (size e) (behind ns)) (suc n + size e) k))
     events_shape g p direction ns n (put e at x) =
-        split_reached n ns nodes.Put [] g ++ (events (first (marks_next ns) g) p None (behind ns) (suc n) e
+        split_reached vars n ns nodes.Put [] g ++ (events (first (marks_next ns) g) p None (behind ns) (suc n) e
         ++ (row n (is_there (field_in at.name (plain functions p e)) && (not (is_read_only (plain functions p e))
         && may_be_put_over vars (field_in at.name (plain functions p e))))
         ∷ (events (second (marks_next ns) g) p (Some (held (field_in at.name (plain functions p e)))) (drop (size e) (behind ns)) (suc n + size e) x
         ++ (row n (meets direction (with_part at.name false (plain functions p e))) ∷ []))))
     -- a cast, and an annotation
     events_shape g p direction ns n (cast e) =
-        leaf_reached n ns nodes.Cast ++ (row n (is_checked direction) ∷ (events g p None (behind ns) (suc n) e
+        leaf_reached n ns nodes.Cast ++ (row n (is_present direction) ∷ (events g p None (behind ns) (suc n) e
         ++ (row n (is_cast direction (plain functions p e)) ∷ [])))
     events_shape g p direction ns n (annot e a) =
         leaf_reached n ns nodes.Annot ++ (row n (has_word_arrays a.ty) ∷ (events g p (Some a.ty) (behind ns) (suc n) e

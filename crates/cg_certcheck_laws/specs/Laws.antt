@@ -12,6 +12,7 @@ use Rattle.cg_lawful.specs.Lawful.{IsLawfulKernel}
 use Rattle.cg_certcheck_laws.specs.Events.{AllHold, first_failing, cert_events, nodes_next, funs_behind}
 use Rattle.cg_certcheck_laws.specs.Pass.{Kept, check_cert, verdict}
 use Rattle.cg_certcheck_laws.specs.Reads.{tree_at}
+use Rattle.cg_pieces.specs.Bodies.{core_in, tree_in}
 use Rattle.cg_typing.specs.Kept.{AreKept}
 use Rattle.cg_typing.specs.Parts.{taken_by, given_by}
 
@@ -41,15 +42,6 @@ all_kept functions (f ∷ fs) funs = body_kept functions f f.body funs (λ rest.
 abbrev pub PassAnswersTheFirstFault : Type 0
 PassAnswersTheFirstFault = (functions : List Function) (cert : Cert)
     → check_cert functions cert ≡ verdict (first_failing (cert_events functions cert)) (all_kept functions functions cert.funs)
-
--- the core that is kept, and the derivation
-abbrev pub core_in : Kept → Option (Tree Note)
-core_in None = None
-core_in (Some kept) = Some kept.0
-
-abbrev pub tree_in : Kept → Option Derivation
-tree_in None = None
-tree_in (Some kept) = Some kept.1
 
 -- where no event fails, what the pass keeps is what the certificate lists: derivations of cores of the bodies
 abbrev pub KeptIsListed : Type 0

@@ -26,7 +26,7 @@ use Rattle.cg_core.specs.Terms.{Tree, term, Shape, var, unit, bool, lit, fun, op
 use Rattle.cg_faults.specs.Events.{field_directions, next_direction, later_directions}
 use Rattle.cg_faults.specs.Plain.{mentioned}
 use Rattle.cg_kinds.specs.Kinds.{kinds, is_word, or_unit}
-use Rattle.cg_certcheck_laws.specs.Events.{is_some, name_at, strings_at, marks_next, behind, no_strings, one_string, field_strings, value_of, meets, is_number, is_record, is_alternative, alternative_held, is_cast, is_checked, is_over, is_named, nodes_next, funs_behind}
+use Rattle.cg_certcheck_laws.specs.Events.{is_some, name_at, strings_at, marks_next, behind, no_strings, one_string, field_strings, value_of, meets, is_number, is_record, is_alternative, alternative_held, is_cast, is_over, is_named, nodes_next, funs_behind}
 use Rattle.cg_certcheck_laws.specs.Tests.{same_node, is_present, drops_all, drops_but}
 use Rattle.cg_typing.specs.Accepted.{kinds_of_vars}
 use Rattle.cg_typing.specs.Contexts.{Context, look, push, first, second, shares}
@@ -154,7 +154,7 @@ module _ (functions : List Function) (vars : List Kinds) where
 
   -- a node with one mark string, handed on
   abbrev pub split_at : {A : Type 0} → List Seen → Context → Node → Cursor → (List Mark → Out A) → Out A
-  split_at observers g node at k = reach at node (one_string functions vars observers (strings_at at.nodes) g) (k (marks_next at.nodes))
+  split_at observers g node at k = reach at node (one_string vars observers (strings_at at.nodes) g) (k (marks_next at.nodes))
 
   abbrev mutual
     -- a term in a context that the marks left, in a direction, from a place among the nodes
@@ -175,7 +175,7 @@ module _ (functions : List Function) (vars : List Kinds) where
     check_shape g direction at place (op o (more x none)) =
         reach at nodes.Op (no_strings at.nodes) (unary (sort_of o) o direction place at (λ from way. check g way from x))
     check_shape g direction at place (op o (more l (more r none))) =
-        split_at [] g nodes.Op at (λ m. binary m (sort_of o) o direction place (is_literal l) (note_at l) (value_of functions vars l) (first m g) at
+        split_at [] g nodes.Op at (λ m. binary m (sort_of o) o direction place (is_literal l) (note_at l) (value_of l) (first m g) at
         (λ from way. check (first m g) way from l) (λ from way. check (second m g) way from r))
     check_shape g direction at place (op o ts) = Err (C2 at.next)
     check_shape g direction at place (app f x) =
@@ -194,8 +194,8 @@ module _ (functions : List Function) (vars : List Kinds) where
         bind (check (second m g) (second_branch direction v.ty) v.at y) (λ w.
         Ok (made place v.ty (if_else u.core v.core w.core) (three nodes.If m u.tree v.tree w.tree) w.at)))))
     check_shape g direction at place (con name e) =
-        reach at nodes.Con (no_strings at.nodes) (row at.next (is_alternative functions vars name direction)
-        (bind (check g (Some (alternative_held functions vars name direction)) (step at) e) (λ u.
+        reach at nodes.Con (no_strings at.nodes) (row at.next (is_alternative name direction)
+        (bind (check g (Some (alternative_held name direction)) (step at) e) (λ u.
         Ok (made place (wanted direction types.unit) (con name u.core) (one nodes.Con u.tree) u.at))))
     check_shape g direction at place (case_of e alternative binder x y) =
         split_at [] g nodes.Case at (λ m. bind (check (first m g) None (step at) e) (λ u. row at.next (is_left (alternative_in alternative.name u.ty))
@@ -207,7 +207,7 @@ module _ (functions : List Function) (vars : List Kinds) where
         row at.next (is_left (alternative_in alternative.name u.ty) && (is_last alternative.name u.ty && meets direction (held (alternative_in alternative.name u.ty))))
         (Ok (made place (held (alternative_in alternative.name u.ty)) (esac alternative u.core) (one nodes.Esac u.tree) u.at))))
     check_shape g direction at place (struct fs) =
-        reach at nodes.Struct (field_strings functions vars fs (strings_at at.nodes) g) (row at.next (is_record functions vars direction fs)
+        reach at nodes.Struct (field_strings vars fs (strings_at at.nodes) g) (row at.next (is_record direction fs)
         (bind (check_fields g (field_directions direction) (strings_at at.nodes) (step at) fs) (λ u.
         Ok (made place (wanted direction (fields u.parts U)) (struct u.cores) (derivation nodes.Struct (strings_at at.nodes) u.trees) u.at))))
     check_shape g direction at place (member e name) =
@@ -225,8 +225,8 @@ module _ (functions : List Function) (vars : List Kinds) where
         (bind (check (second m g) (Some (held (field_in name.name u.ty))) u.at x) (λ v. row at.next (meets direction (with_part name.name false u.ty))
         (Ok (made place (with_part name.name false u.ty) (put u.core name v.core) (two nodes.Put m u.tree v.tree) v.at))))))
     check_shape g direction at place (cast e) =
-        reach at nodes.Cast (no_strings at.nodes) (row at.next (is_checked functions vars direction) (bind (check g None (step at) e) (λ u.
-        row at.next (is_cast functions vars direction u.ty) (Ok (made place (wanted direction types.unit) (cast u.core) (one nodes.Cast u.tree) u.at)))))
+        reach at nodes.Cast (no_strings at.nodes) (row at.next (is_present direction) (bind (check g None (step at) e) (λ u.
+        row at.next (is_cast direction u.ty) (Ok (made place (wanted direction types.unit) (cast u.core) (one nodes.Cast u.tree) u.at)))))
     check_shape g direction at place (annot e a) =
         reach at nodes.Annot (no_strings at.nodes) (row at.next (has_word_arrays a.ty) (bind (check g (Some a.ty) (step at) e) (λ u.
         row at.next (meets direction a.ty) (Ok (made place a.ty (annot u.core a) (one nodes.Annot u.tree) u.at)))))

@@ -1,0 +1,12 @@
+use Rattle.std.proofs.Common.{◌≡◌, map, drop}
+use Rattle.cg_certcheck.proofs.BodySteps.{behind}
+use Rattle.cg_certcheck.specs.Bodies.{as_lists}
+use Rattle.cg_pieces.specs.Bodies.{lists_of}
+use Rattle.cg_core.specs.Kernels.{function_of}
+use Rattle.cg_certcheck_laws.specs.Pass.{check_functions}
+use Rattle.cg_certcheck.proofs.functions.recheck_functions.Given as goal
+
+abbrev pub invariant-loop-fun : goal.invariant-loop-fun
+invariant-loop-fun l =
+    as_lists (check_functions (map function_of l.functions) (map function_of l.fun-items) l.funs 1)
+    ≡ behind (lists_of l.kept) (check_functions (map function_of l.functions) (map function_of (drop l.fun-index l.fun-items)) (drop l.at.index l.funs) l.at.next)

@@ -1,0 +1,137 @@
+use Rattle.std.proofs.Common.{◌+◌, ◌*◌, map}
+use Rattle.cg_certcheck.proofs.PassSteps.{size, size_fields, sizes}
+use Rattle.cg_core.specs.Kernels.{the_field, the_term}
+use Rattle.cg_core.specs.Terms.{to_named, to_trees}
+use Rattle.cg_certcheck.proofs.pass.+check.Given as goal
+
+abbrev pub decreases-check_term : goal.decreases-check_term
+decreases-check_term l = 5 * size (the_term l.term.now) + 1
+
+abbrev pub decreases-check_form : goal.decreases-check_form
+decreases-check_form l = 5 * size (the_term l.term.now)
+
+abbrev pub decreases-check_first : goal.decreases-check_first
+decreases-check_first l = 5 * size (the_term l.term.now) + 2
+
+abbrev pub decreases-check_second : goal.decreases-check_second
+decreases-check_second l = 5 * size (the_term l.term.now) + 2
+
+abbrev pub decreases-check_opened : goal.decreases-check_opened
+decreases-check_opened l = 5 * size (the_term l.term.now) + 2
+
+abbrev pub decreases-check_opened_twice : goal.decreases-check_opened_twice
+decreases-check_opened_twice l = 5 * size (the_term l.term.now) + 2
+
+abbrev pub decreases-check_op : goal.decreases-check_op
+decreases-check_op l = 5 * sizes (to_trees (map the_term l.operands.now)) + 4
+
+abbrev pub decreases-check_unary : goal.decreases-check_unary
+decreases-check_unary l = 5 * size (the_term l.part.now) + 5
+
+abbrev pub decreases-check_operand : goal.decreases-check_operand
+decreases-check_operand l = 5 * size (the_term l.part.now) + 4
+
+abbrev pub decreases-check_logic : goal.decreases-check_logic
+decreases-check_logic l = 5 * size (the_term l.part.now) + 3
+
+abbrev pub decreases-check_sum_against : goal.decreases-check_sum_against
+decreases-check_sum_against l = 5 * size (the_term l.part.now) + 3
+
+abbrev pub decreases-check_sum : goal.decreases-check_sum
+decreases-check_sum l = 5 * size (the_term l.part.now) + 3
+
+abbrev pub decreases-check_compared : goal.decreases-check_compared
+decreases-check_compared l = 5 * size (the_term l.part.now) + 3
+
+abbrev pub decreases-check_binary : goal.decreases-check_binary
+decreases-check_binary l = 5 * (size (the_term l.left.now) + size (the_term l.right.now)) + 6
+
+abbrev pub decreases-check_operands : goal.decreases-check_operands
+decreases-check_operands l = 5 * (size (the_term l.left.now) + size (the_term l.right.now)) + 5
+
+abbrev pub decreases-check_logic_of_both : goal.decreases-check_logic_of_both
+decreases-check_logic_of_both l = 5 * (size (the_term l.left.now) + size (the_term l.right.now)) + 4
+
+abbrev pub decreases-check_both_against : goal.decreases-check_both_against
+decreases-check_both_against l = 5 * (size (the_term l.left.now) + size (the_term l.right.now)) + 4
+
+abbrev pub decreases-check_both : goal.decreases-check_both
+decreases-check_both l = 5 * (size (the_term l.left.now) + size (the_term l.right.now)) + 4
+
+abbrev pub decreases-check_comparison : goal.decreases-check_comparison
+decreases-check_comparison l = 5 * (size (the_term l.left.now) + size (the_term l.right.now)) + 4
+
+abbrev pub decreases-check_both_by_left : goal.decreases-check_both_by_left
+decreases-check_both_by_left l = 5 * (size (the_term l.left.now) + size (the_term l.right.now)) + 3
+
+abbrev pub decreases-check_both_by_right : goal.decreases-check_both_by_right
+decreases-check_both_by_right l = 5 * (size (the_term l.left.now) + size (the_term l.right.now)) + 3
+
+abbrev pub decreases-check_comparison_by_left : goal.decreases-check_comparison_by_left
+decreases-check_comparison_by_left l = 5 * (size (the_term l.left.now) + size (the_term l.right.now)) + 3
+
+abbrev pub decreases-check_comparison_by_right : goal.decreases-check_comparison_by_right
+decreases-check_comparison_by_right l = 5 * (size (the_term l.left.now) + size (the_term l.right.now)) + 3
+
+abbrev pub decreases-check_app : goal.decreases-check_app
+decreases-check_app l = 5 * (size (the_term l.fun.now) + size (the_term l.arg.now)) + 3
+
+abbrev pub decreases-check_let : goal.decreases-check_let
+decreases-check_let l = 5 * (size (the_term l.value.now) + size (the_term l.body.now)) + 3
+
+abbrev pub decreases-check_let_bang : goal.decreases-check_let_bang
+decreases-check_let_bang l = 5 * (size (the_term l.value.now) + size (the_term l.body.now)) + 3
+
+abbrev pub decreases-check_take : goal.decreases-check_take
+decreases-check_take l = 5 * (size (the_term l.value.now) + size (the_term l.body.now)) + 3
+
+abbrev pub decreases-check_if : goal.decreases-check_if
+decreases-check_if l = 5 * (size (the_term l.test.now) + size (the_term l.first.now) + size (the_term l.second.now)) + 3
+
+abbrev pub decreases-check_con : goal.decreases-check_con
+decreases-check_con l = 5 * size (the_term l.part.now) + 3
+
+abbrev pub decreases-check_esac : goal.decreases-check_esac
+decreases-check_esac l = 5 * size (the_term l.part.now) + 3
+
+abbrev pub decreases-check_member : goal.decreases-check_member
+decreases-check_member l = 5 * size (the_term l.part.now) + 3
+
+abbrev pub decreases-check_cast : goal.decreases-check_cast
+decreases-check_cast l = 5 * size (the_term l.part.now) + 3
+
+abbrev pub decreases-check_annot : goal.decreases-check_annot
+decreases-check_annot l = 5 * size (the_term l.part.now) + 3
+
+abbrev pub decreases-check_case : goal.decreases-check_case
+decreases-check_case l = 5 * (size (the_term l.value.now) + size (the_term l.first.now) + size (the_term l.second.now)) + 4
+
+abbrev pub decreases-check_matched : goal.decreases-check_matched
+decreases-check_matched l = 5 * (size (the_term l.first.now) + size (the_term l.second.now)) + 4
+
+abbrev pub decreases-check_other : goal.decreases-check_other
+decreases-check_other l = 5 * size (the_term l.second.now) + 3
+
+abbrev pub decreases-check_put : goal.decreases-check_put
+decreases-check_put l = 5 * (size (the_term l.value.now) + size (the_term l.part.now)) + 3
+
+abbrev pub decreases-check_struct : goal.decreases-check_struct
+decreases-check_struct l = 5 * size_fields (to_named (map the_field l.fields.now)) + 4
+
+abbrev pub decreases-check_record : goal.decreases-check_record
+decreases-check_record l = 5 * size_fields (to_named (map the_field l.fields.now)) + 3
+
+abbrev pub decreases-check_own_record : goal.decreases-check_own_record
+decreases-check_own_record l = 5 * size_fields (to_named (map the_field l.fields.now)) + 3
+
+abbrev pub decreases-check_fields : goal.decreases-check_fields
+decreases-check_fields l = 5 * size_fields (to_named (map the_field l.fields.now)) + 2
+
+abbrev pub decreases-check_last_field : goal.decreases-check_last_field
+decreases-check_last_field l = 5 * size (the_term l.field.now.term) + 3
+
+abbrev pub decreases-check_more_fields : goal.decreases-check_more_fields
+decreases-check_more_fields l = 5 * (size (the_term l.field.now.term) + size_fields (to_named (map the_field l.rest.now))) + 4
+
+abbrev pub decreases-check_later_fields : goal.decreases-check_later_fields
+decreases-check_later_fields l = 5 * size_fields (to_named (map the_field l.rest.now)) + 3

@@ -1,0 +1,232 @@
+-- Forms of nodes as the second checker takes them: a node is reached, and then one step after another.
+use Rattle.std.specs.Prelude.{ℕ, Bool, true, false, ◌&&◌, Option, Some, None, List, [], Ok, Err}
+use Rattle.cg_base.specs.declared.kind.Kinds.{Kinds}
+use Rattle.cg_base.specs.declared.kind.Sigil.TheVariants.{U}
+use Rattle.cg_base.specs.declared.place.Place.{Place}
+use Rattle.cg_base.specs.Types as types
+use Rattle.cg_base.specs.Types.{Tau, fields}
+use Rattle.cg_cert.specs.declared.fault.CertFault.TheVariants.{C2}
+use Rattle.cg_certnodes.specs.Nodes.{app_node, let_node, let_bang_node, if_node, con_node, case_node, esac_node, struct_node, member_node, take_node, put_node, cast_node, annot_node}
+use Rattle.cg_certnodes.specs.Steps.{Strings, leaf_reached, leaf_tested, split_reached, record_reached, literal_reached, literal_judged, alternative_held, last_held, member_held, taken_held, put_held}
+use Rattle.cg_core.specs.declared.at.At.{At}
+use Rattle.cg_core.specs.declared.derivation.Mark.{Mark}
+use Rattle.cg_core.specs.declared.derivation.Node.{Node}
+use Rattle.cg_core.specs.declared.derivation.Node.TheVariants as nodes
+use Rattle.cg_core.specs.declared.op.Op.{Op}
+use Rattle.cg_core.specs.declared.term.Seen.{Seen}
+use Rattle.cg_core.specs.Kernels.{Function}
+use Rattle.cg_core.specs.Terms.{Tree, Shape, var, unit, bool, lit, fun, op, app, lets, let_bang, if_else, con, case_of, esac, struct, member, take_field, put, cast, annot, none, more, Named, Arg, Note}
+use Rattle.cg_faults.specs.Events.{field_directions, next_direction, later_directions}
+use Rattle.cg_faults.specs.Plain.{mentioned, is_made_of}
+use Rattle.cg_kinds.specs.Kinds.{kinds, is_word, or_unit}
+use Rattle.cg_certcheck_laws.specs.Events.{meets, is_number, value_of}
+use Rattle.cg_certcheck_laws.specs.Pass.{Out, Cursor, Got, GotFields, bind, row, made, in_front, no_fields, wanted, operated, operated_both, check, check_fields}
+use Rattle.cg_certcheck_laws.specs.Tests.{is_present, drops_all, drops_but}
+use Rattle.cg_typing.specs.Contexts.{Context, look, push, first, second}
+use Rattle.cg_typing.specs.Functions.{asked_by, are_good_arguments}
+use Rattle.cg_typing.specs.Operators.{Sort, arithmetic, logic, sort_of, takes}
+use Rattle.cg_typing.specs.Parts.{is_arrow, taken_by, given_by, widens, with_part, has_word_arrays}
+use Rattle.cg_typing.specs.Rules.{is_literal, note_at, second_branch}
+use Rattle.cg_typing.specs.Trees.{first_marks, later_marks, leaf}
+
+-- a leaf of this type, of whose context it is known whether it may end here
+abbrev pub leaf_by : Option Tau → Place → Tau → Shape Note → Node → Bool → Cursor → Out Got
+leaf_by d place t shape node holds at = bind (leaf_tested d t node holds at) (λ behind. Ok (made place t shape (leaf node) behind))
+
+-- a put behind its parts
+abbrev pub put_end : List Mark → Option Tau → ℕ → Place → At → Got → Got → Out Got
+put_end m d n place name u v = row n (meets d (with_part name.name false u.ty)) (Ok (put_node m place (with_part name.name false u.ty) name u v))
+
+module _ (functions : List Function) (vars : List Kinds) where
+  abbrev pub literal_by : Context → Option Tau → Cursor → Place → Option ℕ → Out Got
+  literal_by g d at place value =
+      bind (leaf_reached at nodes.Lit) (λ behind. row at.next (drops_all vars g && is_number value d) (Ok (made place (wanted d types.unit) (lit value) (leaf nodes.Lit) behind)))
+
+  -- ---- operators, whose node has this number, over operands from a place on
+
+  abbrev pub logic_by : Context → Option Tau → ℕ → Cursor → Place → Op → Tree Place → Out Got
+  logic_by g d n at place o x = bind (check functions vars g (Some types.bool) at x) (λ u. row n (meets d types.bool) (Ok (operated o place types.bool u)))
+
+  abbrev pub sum_against : Context → Tau → ℕ → Cursor → Place → Op → Tree Place → Out Got
+  sum_against g t n at place o x = row n (is_word t) (bind (check functions vars g (Some t) at x) (λ u. Ok (operated o place t u)))
+
+  abbrev pub sum_by : Context → ℕ → Cursor → Place → Op → Tree Place → Out Got
+  sum_by g n at place o x = bind (check functions vars g None at x) (λ u. row n (is_word u.ty) (Ok (operated o place u.ty u)))
+
+  abbrev pub compared_by : Sort → Context → Option Tau → ℕ → Cursor → Place → Op → Tree Place → Out Got
+  compared_by sort g d n at place o x =
+      bind (check functions vars g None at x) (λ u. row n (takes sort u.ty && meets d types.bool) (Ok (operated o place types.bool u)))
+
+  abbrev pub unary_by : Sort → Context → Option Tau → ℕ → Cursor → Place → Op → Tree Place → Out Got
+  unary_by logic g d n at place o x = logic_by g d n at place o x
+  unary_by arithmetic g (Some t) n at place o x = sum_against g t n at place o x
+  unary_by arithmetic g None n at place o x = sum_by g n at place o x
+  unary_by sort g d n at place o x = compared_by sort g d n at place o x
+
+  -- of two, with these marks between them
+  abbrev pub logic_of_both : List Mark → Context → Option Tau → ℕ → Cursor → Place → Op → Tree Place → Tree Place → Out Got
+  logic_of_both m g d n at place o l r =
+      bind (check functions vars (first m g) (Some types.bool) at l) (λ x. bind (check functions vars (second m g) (Some types.bool) x.at r) (λ y.
+      row n (meets d types.bool) (Ok (operated_both m o place types.bool x y y.at))))
+
+  abbrev pub both_against : List Mark → Context → Tau → ℕ → Cursor → Place → Op → Tree Place → Tree Place → Out Got
+  both_against m g t n at place o l r =
+      row n (is_word t) (bind (check functions vars (first m g) (Some t) at l) (λ x. bind (check functions vars (second m g) (Some t) x.at r) (λ y.
+      Ok (operated_both m o place t x y y.at))))
+
+  -- the guide is the left operand, or the right one of a literal
+  abbrev pub both_by : Bool → List Mark → Context → ℕ → Cursor → Place → Op → Tree Place → Tree Place → Out Got
+  both_by false m g n at place o l r =
+      bind (check functions vars (first m g) None at l) (λ x. row n (is_word x.ty) (bind (check functions vars (second m g) (Some x.ty) x.at r) (λ y.
+      Ok (operated_both m o place x.ty x y y.at))))
+  both_by true m g n at place o l r =
+      bind (literal_reached vars (first m g) at) (λ behind. bind (check functions vars (second m g) None behind r) (λ y. row n (is_word y.ty)
+      (bind (literal_judged (note_at l) (value_of l) y.ty at.next behind) (λ x. Ok (operated_both m o place y.ty x y y.at)))))
+
+  abbrev pub comparison_by : Bool → Sort → List Mark → Context → Option Tau → ℕ → Cursor → Place → Op → Tree Place → Tree Place → Out Got
+  comparison_by false sort m g d n at place o l r =
+      bind (check functions vars (first m g) None at l) (λ x. row n (takes sort x.ty) (bind (check functions vars (second m g) (Some x.ty) x.at r) (λ y.
+      row n (meets d types.bool) (Ok (operated_both m o place types.bool x y y.at)))))
+  comparison_by true sort m g d n at place o l r =
+      bind (literal_reached vars (first m g) at) (λ behind. bind (check functions vars (second m g) None behind r) (λ y. row n (takes sort y.ty)
+      (bind (literal_judged (note_at l) (value_of l) y.ty at.next behind) (λ x.
+      row n (meets d types.bool) (Ok (operated_both m o place types.bool x y y.at))))))
+
+  abbrev pub binary_by : Sort → List Mark → Context → Option Tau → ℕ → Cursor → Place → Op → Tree Place → Tree Place → Out Got
+  binary_by logic m g d n at place o l r = logic_of_both m g d n at place o l r
+  binary_by arithmetic m g (Some t) n at place o l r = both_against m g t n at place o l r
+  binary_by arithmetic m g None n at place o l r = both_by (is_literal l) m g n at place o l r
+  binary_by sort m g d n at place o l r = comparison_by (is_literal l) sort m g d n at place o l r
+
+  abbrev pub op_one : Context → Option Tau → Cursor → Place → Op → Tree Place → Out Got
+  op_one g d at place o x = bind (leaf_reached at nodes.Op) (λ behind. unary_by (sort_of o) g d at.next behind place o x)
+
+  abbrev pub op_two : Context → Option Tau → Cursor → Place → Op → Tree Place → Tree Place → Out Got
+  op_two g d at place o l r = bind (split_reached vars [] g nodes.Op at) (λ s. binary_by (sort_of o) s.marks g d at.next s.at place o l r)
+
+  -- ---- the other forms
+
+  abbrev pub app_by : Context → Option Tau → Cursor → Place → Tree Place → Tree Place → Out Got
+  app_by g d at place f x =
+      bind (split_reached vars [] g nodes.App at) (λ s. bind (check functions vars (first s.marks g) None s.at f) (λ u. row at.next (is_arrow u.ty)
+      (bind (check functions vars (second s.marks g) (Some (taken_by u.ty)) u.at x) (λ v. row at.next (meets d (given_by u.ty))
+      (Ok (app_node s.marks place (given_by u.ty) u v))))))
+
+  abbrev pub let_by : Context → Option Tau → Cursor → Place → Place → Tree Place → Tree Place → Out Got
+  let_by g d at place binder e k =
+      bind (split_reached vars [] g nodes.Let at) (λ s. bind (check functions vars (first s.marks g) None s.at e) (λ u.
+      bind (check functions vars (push (second s.marks g) (Some u.ty)) d u.at k) (λ v. Ok (let_node s.marks place binder u v))))
+
+  abbrev pub let_bang_by : Context → Option Tau → Cursor → Place → List Seen → Place → Tree Place → Tree Place → Out Got
+  let_bang_by g d at place observers binder e k =
+      bind (split_reached vars observers g nodes.LetBang at) (λ s. bind (check functions vars (first s.marks g) None s.at e) (λ u.
+      row at.next (kinds vars u.ty).escape
+      (bind (check functions vars (push (second s.marks g) (Some u.ty)) d u.at k) (λ v. Ok (let_bang_node s.marks place observers binder u v)))))
+
+  abbrev pub if_by : Context → Option Tau → Cursor → Place → Tree Place → Tree Place → Tree Place → Out Got
+  if_by g d at place c x y =
+      bind (split_reached vars [] g nodes.If at) (λ s. bind (check functions vars (first s.marks g) (Some types.bool) s.at c) (λ u.
+      bind (check functions vars (second s.marks g) d u.at x) (λ v. bind (check functions vars (second s.marks g) (second_branch d v.ty) v.at y) (λ w.
+      Ok (if_node s.marks place u v w)))))
+
+  abbrev pub con_from : Context → Option Tau → ℕ → Cursor → Place → List ℕ → Tree Place → Out Got
+  con_from g None n at place name e = Err (C2 n)
+  con_from g (Some t) n at place name e =
+      bind (alternative_held n name t) (λ h. bind (check functions vars g (Some h) at e) (λ u. Ok (con_node place t name u)))
+
+  abbrev pub con_by : Context → Option Tau → Cursor → Place → List ℕ → Tree Place → Out Got
+  con_by g d at place name e = bind (leaf_reached at nodes.Con) (λ behind. con_from g d at.next behind place name e)
+
+  -- the other branch of a match, behind the first one
+  abbrev pub other_by : List Mark → Context → Option Tau → Place → At → Place → Tree Place → Got → Got → Out Got
+  other_by m g d place alternative binder y u v =
+      bind (check functions vars (push (second m g) (Some (with_part alternative.name true u.ty))) (second_branch d v.ty) v.at y) (λ w.
+      Ok (case_node m place alternative binder u v w))
+
+  -- the branches of a match on a value
+  abbrev pub matched_by : List Mark → Context → Option Tau → Place → At → Place → Tree Place → Tree Place → Got → Tau → Out Got
+  matched_by m g d place alternative binder x y u h =
+      bind (check functions vars (push (second m g) (Some h)) d u.at x) (λ v. other_by m g d place alternative binder y u v)
+
+  abbrev pub case_by : Context → Option Tau → Cursor → Place → Tree Place → At → Place → Tree Place → Tree Place → Out Got
+  case_by g d at place e alternative binder x y =
+      bind (split_reached vars [] g nodes.Case at) (λ s. bind (check functions vars (first s.marks g) None s.at e) (λ u.
+      bind (alternative_held at.next alternative.name u.ty) (λ h. matched_by s.marks g d place alternative binder x y u h)))
+
+  abbrev pub esac_by : Context → Option Tau → Cursor → Place → At → Tree Place → Out Got
+  esac_by g d at place alternative e =
+      bind (leaf_reached at nodes.Esac) (λ behind. bind (check functions vars g None behind e) (λ u. bind (last_held at.next d alternative.name u.ty) (λ h.
+      Ok (esac_node place h alternative u))))
+
+  -- the last field of a record, and one in front of later ones
+  abbrev pub last_field : Context → List (Option Tau) → Cursor → List ℕ → Tree Place → Out GotFields
+  last_field g directions at name e = bind (check functions vars g (next_direction directions) at e) (λ u. Ok (in_front name u (no_fields u.at)))
+
+  abbrev pub more_fields : Context → List (Option Tau) → List (List Mark) → Cursor → List ℕ → Tree Place → Named Place → Out GotFields
+  more_fields g directions strings at name e fs =
+      bind (check functions vars (first (first_marks strings) g) (next_direction directions) at e) (λ u.
+      bind (check_fields functions vars (second (first_marks strings) g) (later_directions directions) (later_marks strings) u.at fs) (λ v. Ok (in_front name u v)))
+
+  abbrev pub record_from : Context → Option Tau → ℕ → Strings → Place → Named Place → Out Got
+  record_from g None n s place fs =
+      bind (check_fields functions vars g (field_directions None) s.marks s.at fs) (λ u. Ok (struct_node s.marks place (fields u.parts U) u))
+  record_from g (Some t) n s place fs =
+      row n (is_made_of t fs) (bind (check_fields functions vars g (field_directions (Some t)) s.marks s.at fs) (λ u. Ok (struct_node s.marks place t u)))
+
+  abbrev pub struct_by : Context → Option Tau → Cursor → Place → Named Place → Out Got
+  struct_by g d at place fs = bind (record_reached vars fs g at) (λ s. record_from g d at.next s place fs)
+
+  abbrev pub member_by : Context → Option Tau → Cursor → Place → Tree Place → At → Out Got
+  member_by g d at place e name =
+      bind (leaf_reached at nodes.Member) (λ behind. bind (check functions vars g None behind e) (λ u. bind (member_held vars at.next d name.name u.ty) (λ h.
+      Ok (member_node place h name u))))
+
+  abbrev pub take_by : Context → Option Tau → Cursor → Place → Tree Place → At → Place → Place → Tree Place → Out Got
+  take_by g d at place e name rest binder k =
+      bind (split_reached vars [] g nodes.Take at) (λ s. bind (check functions vars (first s.marks g) None s.at e) (λ u.
+      bind (taken_held at.next name.name u.ty) (λ h.
+      bind (check functions vars (push (push (second s.marks g) (Some (with_part name.name true u.ty))) (Some h)) d u.at k) (λ v.
+      Ok (take_node s.marks place name rest binder u v)))))
+
+  abbrev pub put_by : Context → Option Tau → Cursor → Place → Tree Place → At → Tree Place → Out Got
+  put_by g d at place e name x =
+      bind (split_reached vars [] g nodes.Put at) (λ s. bind (check functions vars (first s.marks g) None s.at e) (λ u.
+      bind (put_held vars at.next name.name u.ty) (λ h. bind (check functions vars (second s.marks g) (Some h) u.at x) (λ v.
+      put_end s.marks d at.next place name u v))))
+
+  abbrev pub cast_from : Context → Option Tau → ℕ → Cursor → Place → Tree Place → Out Got
+  cast_from g None n at place e = Err (C2 n)
+  cast_from g (Some t) n at place e = bind (check functions vars g None at e) (λ u. row n (widens u.ty t) (Ok (cast_node place t u)))
+
+  abbrev pub cast_by : Context → Option Tau → Cursor → Place → Tree Place → Out Got
+  cast_by g d at place e = bind (leaf_reached at nodes.Cast) (λ behind. cast_from g d at.next behind place e)
+
+  abbrev pub annot_by : Context → Option Tau → Cursor → Place → Tree Place → Arg → Out Got
+  annot_by g d at place e a =
+      bind (leaf_reached at nodes.Annot) (λ behind. row at.next (has_word_arrays a.ty) (bind (check functions vars g (Some a.ty) behind e) (λ u.
+      row at.next (meets d a.ty) (Ok (annot_node place a u)))))
+
+  -- a node of any form
+  abbrev pub form_by : Context → Option Tau → Cursor → Place → Shape Place → Out Got
+  form_by g d at place (var i) = leaf_by d place (or_unit (look g i)) (var i) nodes.Var (is_present (look g i) && drops_but vars i g) at
+  form_by g d at place unit = leaf_by d place types.unit unit nodes.Unit (drops_all vars g) at
+  form_by g d at place (bool b) = leaf_by d place types.bool (bool b) nodes.Bool (drops_all vars g) at
+  form_by g d at place (lit value) = literal_by g d at place value
+  form_by g d at place (fun f args) =
+      leaf_by d place (mentioned functions f args) (fun f args) nodes.Fun (drops_all vars g && are_good_arguments vars (asked_by functions f) args) at
+  form_by g d at place (op o (more x none)) = op_one g d at place o x
+  form_by g d at place (op o (more l (more r none))) = op_two g d at place o l r
+  form_by g d at place (op o ts) = Err (C2 at.next)
+  form_by g d at place (app f x) = app_by g d at place f x
+  form_by g d at place (lets binder e k) = let_by g d at place binder e k
+  form_by g d at place (let_bang observers binder e k) = let_bang_by g d at place observers binder e k
+  form_by g d at place (if_else c x y) = if_by g d at place c x y
+  form_by g d at place (con name e) = con_by g d at place name e
+  form_by g d at place (case_of e alternative binder x y) = case_by g d at place e alternative binder x y
+  form_by g d at place (esac alternative e) = esac_by g d at place alternative e
+  form_by g d at place (struct fs) = struct_by g d at place fs
+  form_by g d at place (member e name) = member_by g d at place e name
+  form_by g d at place (take_field e name rest binder k) = take_by g d at place e name rest binder k
+  form_by g d at place (put e name x) = put_by g d at place e name x
+  form_by g d at place (cast e) = cast_by g d at place e
+  form_by g d at place (annot e a) = annot_by g d at place e a

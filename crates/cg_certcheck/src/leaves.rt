@@ -1,0 +1,172 @@
+// Leaves of a body: variables, literals, and functions that are mentioned.
+#![tactic(auto, using(crate::proofs::LeafSteps::leaf_steps))]
+
+ghost use Rattle.std.specs.Prelude.{◌≡◌, map};
+ghost use Rattle.std.specs.Option.{option_copied};
+ghost use Rattle.cg_base.specs.Types.{type_of};
+ghost use Rattle.cg_certcheck.specs.Forms.{form_by, leaf_by, literal_by};
+ghost use Rattle.cg_certnodes.specs.Contexts.{context_of};
+ghost use Rattle.cg_certnodes.specs.Gots.{got_in};
+ghost use Rattle.cg_certnodes.specs.Steps.{literal_judged};
+ghost use Rattle.cg_certnodes.specs.View.{Agrees, cursor_of};
+ghost use Rattle.cg_pieces.specs.View.{bounds_of, way_of};
+ghost use Rattle.cg_core.specs.declared.derivation.Node.TheVariants as nodes;
+ghost use Rattle.cg_core.specs.Kernels.{function_of};
+ghost use Rattle.cg_core.specs.Terms as terms;
+ghost use Rattle.cg_core.specs.Terms.{arg_of};
+ghost use Rattle.cg_typing.specs.Functions.{are_good_arguments, asked_by};
+
+use cg_base::{Fun, Items, Limit, Place, Ty};
+use cg_cert::CertFault;
+use cg_certnodes::{
+    Cursor, Entry, Got, Source, drops_all, drops_but, is_present, leaf_of, reach_leaf, test_leaf,
+    type_at,
+};
+use cg_core::{Form, Node, TyArg};
+use cg_parts::{arguments_fault, in_range, is_small_enough, mentioned};
+use cg_pieces::copied_arguments;
+
+/// A variable.
+pub(crate) fn check_var(
+    source: &Source,
+    context: &[Entry],
+    direction: Option<&Ty>,
+    at: Cursor,
+    place: Place,
+    var: u32,
+) -> Result<Got, CertFault>
+    ensures { Agrees (got_in source.now.nodes.now) result (form_by (map function_of source.now.functions.now) (bounds_of source.now.vars.now) (context_of context.now) (way_of (option_copied direction.entry)) (cursor_of source.now.nodes.now at) place (terms.var var)) }
+{
+    let position = var as usize;
+    let holds = is_present(context, position) && drops_but(source, context, position);
+    let ty = type_at(source.alloc, context, position)?;
+    let behind = test_leaf(source, direction, &ty, Node::Var, holds, at)?;
+    Ok(leaf_of(source, place, ty, Form::Var(var), Node::Var, behind)?)
+}
+
+/// Unit.
+pub(crate) fn check_unit(
+    source: &Source,
+    context: &[Entry],
+    direction: Option<&Ty>,
+    at: Cursor,
+    place: Place,
+) -> Result<Got, CertFault>
+    ensures { Agrees (got_in source.now.nodes.now) result (form_by (map function_of source.now.functions.now) (bounds_of source.now.vars.now) (context_of context.now) (way_of (option_copied direction.entry)) (cursor_of source.now.nodes.now at) place terms.unit) }
+{
+    let holds = drops_all(source, context);
+    let behind = test_leaf(source, direction, &Ty::Unit, Node::Unit, holds, at)?;
+    Ok(leaf_of(source, place, Ty::Unit, Form::Unit, Node::Unit, behind)?)
+}
+
+/// A truth value.
+pub(crate) fn check_bool(
+    source: &Source,
+    context: &[Entry],
+    direction: Option<&Ty>,
+    at: Cursor,
+    place: Place,
+    value: bool,
+) -> Result<Got, CertFault>
+    ensures { Agrees (got_in source.now.nodes.now) result (form_by (map function_of source.now.functions.now) (bounds_of source.now.vars.now) (context_of context.now) (way_of (option_copied direction.entry)) (cursor_of source.now.nodes.now at) place (terms.bool value)) }
+{
+    let holds = drops_all(source, context);
+    let behind = test_leaf(source, direction, &Ty::Bool, Node::Bool, holds, at)?;
+    let form = Form::Bool(value);
+    Ok(leaf_of(source, place, Ty::Bool, form, Node::Bool, behind)?)
+}
+
+/// A literal.
+pub(crate) fn check_literal(
+    source: &Source,
+    context: &[Entry],
+    direction: Option<&Ty>,
+    at: Cursor,
+    place: Place,
+    value: Option<u64>,
+) -> Result<Got, CertFault>
+    ensures { Agrees (got_in source.now.nodes.now) result (literal_by (map function_of source.now.functions.now) (bounds_of source.now.vars.now) (context_of context.now) (way_of (option_copied direction.entry)) (cursor_of source.now.nodes.now at) place value) }
+{
+    let behind = reach_leaf(source, Node::Lit, at)?;
+    let Some(ty) = direction else {
+        return Err(CertFault::C2(at.next));
+    };
+    if !drops_all(source, context) {
+        return Err(CertFault::C2(at.next));
+    }
+    if !in_range(value, ty) {
+        return Err(CertFault::C2(at.next));
+    }
+    let ty = ty.copy(source.alloc)?;
+    Ok(leaf_of(source, place, ty, Form::Lit(value), Node::Lit, behind)?)
+}
+
+/// A literal that stands left of its guide and was reached before it, of the guide's type: C2 where it isn't in range, and the limit
+/// where the type passes it.
+#[tactic(auto, using(crate::proofs::LeafSteps::leaf_steps), unfolding(cg_certnodes::specs::Steps::literal_judged))]
+pub(crate) fn judge_literal(
+    source: &Source,
+    place: Place,
+    value: Option<u64>,
+    ty: &Ty,
+    number: u64,
+    behind: Cursor,
+) -> Result<Got, CertFault>
+    ensures { Agrees (got_in source.now.nodes.now) result (literal_judged place value (type_of ty.now) number (cursor_of source.now.nodes.now behind)) }
+{
+    if !in_range(value, ty) {
+        return Err(CertFault::C2(number));
+    }
+    if !is_small_enough(ty) {
+        return Err(CertFault::Limit(Limit::Ty));
+    }
+    let ty = ty.copy(source.alloc)?;
+    Ok(leaf_of(source, place, ty, Form::Lit(value), Node::Lit, behind)?)
+}
+
+// Whether each type argument is written with arrays of words alone, and is what the function asks for.
+#[tactic(auto, using(crate::proofs::LeafSteps::argument_steps))]
+fn are_good(source: &Source, fun: Fun, args: &Items<TyArg>) -> bool
+    ensures { result ≡ are_good_arguments (bounds_of source.now.vars.now) (asked_by (map function_of source.now.functions.now) fun) (map arg_of args.now) }
+{
+    match arguments_fault(source.functions, source.vars, fun, args) {
+        Some(_) => false,
+        None => true,
+    }
+}
+
+/// A function that is mentioned.
+pub(crate) fn check_mention(
+    source: &Source,
+    context: &[Entry],
+    direction: Option<&Ty>,
+    at: Cursor,
+    place: Place,
+    fun: Fun,
+    args: &Items<TyArg>,
+) -> Result<Got, CertFault>
+    ensures { Agrees (got_in source.now.nodes.now) result (form_by (map function_of source.now.functions.now) (bounds_of source.now.vars.now) (context_of context.now) (way_of (option_copied direction.entry)) (cursor_of source.now.nodes.now at) place (terms.fun fun (map arg_of args.now))) }
+{
+    let holds = drops_all(source, context) && are_good(source, fun, args);
+    let ty = mentioned(source.alloc, source.functions, fun, args)?;
+    end_mention(source, direction, at, place, fun, args, ty, holds)
+}
+
+// The same of this type, of whose context and type arguments it is known whether they may stand there.
+fn end_mention(
+    source: &Source,
+    direction: Option<&Ty>,
+    at: Cursor,
+    place: Place,
+    fun: Fun,
+    args: &Items<TyArg>,
+    ty: Ty,
+    holds: bool,
+) -> Result<Got, CertFault>
+    ensures { Agrees (got_in source.now.nodes.now) result (leaf_by (way_of (option_copied direction.entry)) place (type_of ty) (terms.fun fun (map arg_of args.now)) nodes.Fun holds (cursor_of source.now.nodes.now at)) }
+{
+    let behind = test_leaf(source, direction, &ty, Node::Fun, holds, at)?;
+    let args = copied_arguments(source.alloc, args)?;
+    let form = Form::Fun(fun, args);
+    Ok(leaf_of(source, place, ty, form, Node::Fun, behind)?)
+}

@@ -1,0 +1,4 @@
+pub mod ContextSteps
+pub mod NodeSteps
+pub mod SplitSteps
+pub mod TestSteps

@@ -1,0 +1,5 @@
+pub mod Contexts
+pub mod Gots
+pub mod Nodes
+pub mod Steps
+pub mod View
