@@ -1,6 +1,7 @@
 pub mod Complete
 pub mod Lines
 pub mod Marked
+pub mod OneByte
 pub mod Printed
 pub mod Printing
 pub mod Says

@@ -1,8 +1,10 @@
 -- What holds of all certificates.
-use Rattle.std.specs.Prelude.{◌≡◌, ℕ, List, map, Option, Some, None, ⊤}
+use Rattle.std.specs.Prelude.{◌≡◌, ℕ, List, map, Option, Some, None, Err, ⊤}
 use Rattle.std.specs.List.{AllByRecursion}
+use Rattle.cg_cert.specs.Answers.{Answers as IsReadAs}
 use Rattle.cg_cert.specs.Certificates.{nodes_of, certificate}
 use Rattle.cg_cert.specs.declared.cert.Cert.{Cert}
+use Rattle.cg_cert.specs.declared.fault.CertFault.TheVariants.{C1}
 use Rattle.cg_cert.specs.Texts.{text, IsName, AreNodes, CertText}
 use Rattle.cg_core.specs.Derivations.{Derivation}
 use Rattle.cg_core.specs.Kernels.{Function, kernel_of}
@@ -14,6 +16,11 @@ use Rattle.cg_typing.specs.Kept.{AreKept, maybe_tree}
 -- bytes are the text of one certificate at most
 abbrev pub OneCertificate : Type 0
 OneCertificate = (bytes : List ℕ) (a b : Cert) → CertText bytes a → CertText bytes b → a ≡ b
+
+-- bytes that are refused are refused at one byte, and the text of a certificate at none
+abbrev pub OneByte : Type 0
+OneByte = (bytes : List ℕ) (n : ℕ) → IsReadAs bytes (Err (C1 n))
+    → ((m : ℕ) → IsReadAs bytes (Err (C1 m)) → n ≡ m) × ((cert : Cert) → CertText bytes cert → ⊥)
 
 -- the names of functions can be written
 abbrev pub AreNamed : List Function → Type 0

@@ -1,9 +1,14 @@
 // The laws of certificates.
-ghost use Rattle.cg_cert.specs.Laws.{OneCertificate, PrintedIsRead, KeptIsMarked, CheckedIsRead};
+ghost use Rattle.cg_cert.specs.Laws.{OneByte, OneCertificate, PrintedIsRead, KeptIsMarked, CheckedIsRead};
 
 /// Bytes are the text of one certificate at most.
 pub fn one_certificate()
     ensures { OneCertificate }
+{}
+
+/// Bytes that are the text of no certificate are refused at one byte.
+pub fn one_byte()
+    ensures { OneByte }
 {}
 
 /// What is printed is read: the text of a certificate whose names and mark strings can be written is one of that certificate.

@@ -13,6 +13,7 @@ pub mod Patterns
 pub mod Places
 pub mod Rising
 pub mod Spans
+pub mod Spelling
 pub mod TypeFaults
 pub mod TypeTakes
 pub mod Types

@@ -1,7 +1,11 @@
 -- The laws of the grammar. Each line and column of a text with fewer bytes than the greatest line and column that are told is told.
 use Rattle.std.specs.Prelude.{ℕ, ◌<◌, List, length}
+use Rattle.std.specs.List.{AllByRecursion}
+use Rattle.cg_base.specs.Bytes.{Each, Starts}
 use Rattle.cg_base.specs.Places.{most}
+use Rattle.cg_lexer.specs.Bytes.{part_of_name, small}
 use Rattle.cg_surface.specs.Programs.{Entry}
+use Rattle.cg_desugar.specs.Desugar.{functions_of}
 use Rattle.cg_desugar.specs.Faults.{program_faults}
 use Rattle.cg_desugar.specs.Order.{AreGrowing, AreOrdered}
 use Rattle.cg_desugar.specs.Takes.{missing_fields}
@@ -20,3 +24,11 @@ SpelledFaultsAreOrdered = (bytes : List ℕ) (p : List Entry) → length bytes <
 -- the places of N5 of a program that such a text spells grow, each before all later ones
 abbrev pub SpelledTakesGrow : Type 0
 SpelledTakesGrow = (bytes : List ℕ) (p : List Entry) → length bytes < most → Spells bytes p → AreGrowing (missing_fields p)
+
+-- a name of a variable or function: it begins with a small letter or `_` and goes on as names do
+abbrev pub IsNamed : List ℕ → Type 0
+IsNamed name = Starts small name × Each part_of_name name
+
+-- the functions of a program that the bytes of a text spell have such names
+abbrev pub SpelledIsNamed : Type 0
+SpelledIsNamed = (bytes : List ℕ) (p : List Entry) → Spells bytes p → AllByRecursion (λ f. IsNamed f.at.name) (functions_of p)
