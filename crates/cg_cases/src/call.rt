@@ -104,6 +104,9 @@ fn words_text(alloc: Global, words: &[String]) -> Result<String, AllocError> {
     match read_words(alloc, words) {
         Ok(None) => String::from_str(alloc, "none\n"),
         Ok(Some(Command::Check { file })) => Ok(format!(in alloc; "check {file}\n")?),
+        Ok(Some(Command::Recheck { file, certificate })) => {
+            Ok(format!(in alloc; "recheck {file} {certificate}\n")?)
+        }
         Ok(
             Some(
                 Command::Run {

@@ -1,7 +1,11 @@
--- The steps of `check` come to status 0 over exactly the files whose source is accepted.
-use Rattle.std.proofs.Common.{◌≡◌, ◌∙◌, ◌+◌, ◌≤◌, ◌⊎◌, inl, inr, ℕ, List, [], ◌∷◌, Option, Some, None, take, length, refl, ap, subst, arith}
+-- The steps of `check` come to status 0 over exactly the files whose source is accepted, and those of `recheck` over exactly those whose
+-- certificate spells a derivation of the source.
+use Rattle.std.proofs.Common.{◌≡◌, ◌∙◌, ◌+◌, ◌≤◌, ◌⊎◌, inl, inr, ℕ, List, [], ◌∷◌, ◌++◌, Option, Some, None, take, length, refl, sym, ap, subst, arith}
 use Rattle.std.proofs.lemmas.List.{take_all, length-take}
 use Rattle.cg_base.specs.declared.limit.Limit.TheVariants.{Nesting, Functions, Fields, Ty, Depth}
+use Rattle.cg_cert.specs.declared.cert.Cert.{Cert}
+use Rattle.cg_cert.specs.Texts.{CertText}
+use Rattle.cg_certcheck_laws.specs.Laws.{SpellsDerivation}
 use Rattle.cg_check.specs.Judged.{AreTypesWithin}
 use Rattle.cg_circles.specs.Circles.{NoCircle}
 use Rattle.cg_desugar.specs.Faults.{program_faults}
@@ -16,21 +20,22 @@ use Rattle.cg_desugar.specs.Desugar.{functions_of, functions_limit, parts_limit,
 use Rattle.cg_outside.specs.Held.{Held, bytes_at}
 use Rattle.cg_steps.specs.declared.status.Status.TheVariants.{Done}
 use Rattle.cg_steps.specs.World.{World, calm}
-use Rattle.cg_steps.specs.Steps.{goes, Runs, Settles, WritesNone, judged_first}
+use Rattle.cg_steps.specs.Steps.{goes, Step, Runs, Settles, WritesNone, judged_first}
 use Rattle.cg_steps.specs.Scripts.{ComesTo}
 use Rattle.cg_steps.proofs.Joining.{judged_runs}
 use Rattle.cg_steps.proofs.Topping.{came_done}
-use Rattle.cg_words.specs.Words.{Command, check, run}
-use Rattle.cg_driver.specs.Accepted.{IsAcceptedSource}
-use Rattle.cg_driver.specs.Commands.{Judgement, spelled, within, acyclic, with_fields, typed, Judges, kernel_rules, program_rules, source_rules, reads_source, script_of}
-use Rattle.cg_driver.specs.Found.{Found, nothing, with_source, with_program, functions, source_limit}
+use Rattle.cg_words.specs.Words.{Command, check, recheck, run}
+use Rattle.cg_driver.specs.Accepted.{HasKernel, IsAcceptedSource, IsCertifiedSource}
+use Rattle.cg_driver.specs.Commands.{Judgement, spelled, within, acyclic, with_fields, written, certified, Judges, kernel_rules, resolving_rules, reading_rules, source_rules, certificate_rules, reads_source, certificate_steps, recheck_steps, script_of}
+use Rattle.cg_driver.specs.Found.{Found, nothing, with_source, with_program, with_certificate, with_cert, functions, source_limit, certificate_limit}
 use Rattle.cg_driver.proofs.Judging.{ruling}
-use Rattle.cg_driver.proofs.Saying.{accepted_settles}
+use Rattle.cg_driver.proofs.Saying.{accepted_settles, reading_settles}
 
 -- no command writes
 pub no_writes : (c : Option Command) → WritesNone (script_of c).steps
 no_writes None = tt
 no_writes (Some (check file)) = tt
+no_writes (Some (recheck file certificate)) = tt
 no_writes (Some (run file entry heap steps)) = tt
 
 -- bytes within the limit were read whole
@@ -62,30 +67,66 @@ spells : (Q : Type 0) (js : List Judgement) (f n : Found) → (⊥ × Q) ⊎ ((n
 spells Q js f n (inl r) = absurd r.0
 spells Q js f n (inr r) = (r.1.0, r.1.2, subst (λ x. Settles Judges js x (goes n)) r.1.1 r.2)
 
--- rules that all go leave a source that is accepted
-accepted_of : (file : List ℕ) (f n : Found) → Settles Judges (source_rules file) f (goes n) → IsAcceptedSource f.source (functions n)
-accepted_of file f n r =
-    let short = stays (length f.source ≤ source_limit) _ (spelled file ∷ within Nesting ∷ program_rules file) f n r in
-    let read = spells _ (within Nesting ∷ program_rules file) f n short.1 in
+-- judgements that all go, and then others
+parted : (js ks : List Judgement) (f n : Found) → Settles Judges (js ++ ks) f (goes n) → (m : Found) × Settles Judges js f (goes m) × Settles Judges ks m (goes n)
+parted [] ks f n r = (f, refl, r)
+parted (j ∷ js) ks f n (inl r) = absurd r.0
+parted (j ∷ js) ks f n (inr r) = let p = parted js ks r.0 n r.2 in (p.0, inr (r.0, r.1, p.1), p.2)
+
+-- judgements that all go, and then steps
+parted_steps : (js : List Judgement) (rest : List (Step Judgement Found)) (f : Found) (old new : World) (n : Found) → Runs Judges (judged_first js rest) f old (goes n) new
+    → (m : Found) × Settles Judges js f (goes m) × Runs Judges rest m old (goes n) new
+parted_steps [] rest f old new n r = (f, refl, r)
+parted_steps (j ∷ js) rest f old new n (inl r) = absurd r.0
+parted_steps (j ∷ js) rest f old new n (inr r) =
+    let p = parted_steps js rest r.0 r.1 new n r.3 in
+    (p.0, inr (r.0, r.2.0, p.1), subst (λ w. Runs Judges rest p.0 w (goes n) new) r.2.1 p.2)
+
+-- a state in which the program was found that the source spells, and its kernel
+record IsRead (f n : Found) : Type 0 where
+  program : List Entry
+  short : length f.source ≤ source_limit
+  resolved : HasKernel f.source program
+  state : n ≡ with_program program f
+
+-- rules of reading that all go leave it
+read_of : (file : List ℕ) (f n : Found) → Settles Judges (reading_rules file) f (goes n) → IsRead f n
+read_of file f n r =
+    let short = stays (length f.source ≤ source_limit) _ (spelled file ∷ within Nesting ∷ resolving_rules file) f n r in
+    let read = spells _ (within Nesting ∷ resolving_rules file) f n short.1 in
     let g = with_program read.0 f in
-    let shallow = stays (program_depth read.0 ≤ depth_limit) _ (program_rules file) g n read.2 in
-    let names = stays (program_faults read.0 ≡ []) _ (acyclic file ∷ with_fields file ∷ within Functions ∷ within Fields ∷ within Ty ∷ within Depth ∷ kernel_rules file) g n shallow.1 in
-    let circles = stays (NoCircle (mentions read.0)) _ (with_fields file ∷ within Functions ∷ within Fields ∷ within Ty ∷ within Depth ∷ kernel_rules file) g n names.1 in
-    let fields = stays (missing_fields read.0 ≡ []) _ (within Functions ∷ within Fields ∷ within Ty ∷ within Depth ∷ kernel_rules file) g n circles.1 in
-    let few = stays (length (functions_of read.0) ≤ functions_limit) _ (within Fields ∷ within Ty ∷ within Depth ∷ kernel_rules file) g n fields.1 in
-    let narrow = stays (widest_part read.0 ≤ parts_limit) _ (within Ty ∷ within Depth ∷ kernel_rules file) g n few.1 in
-    let light = stays (largest_type read.0 ≤ type_limit) _ (within Depth ∷ kernel_rules file) g n narrow.1 in
-    let low = stays (deepest_body (functions_of read.0) ≤ term_limit) _ (kernel_rules file) g n light.1 in
-    let derived = derives (IsAcceptedKernel (functions_of read.0)) (AreTypesWithin (functions_of read.0)) _ [] g n low.1 in
-    let last : goes n ≡ goes g = derived.2 in
-    let same : n ≡ g = cc in
+    let shallow = stays (program_depth read.0 ≤ depth_limit) _ (resolving_rules file) g n read.2 in
+    let names = stays (program_faults read.0 ≡ []) _ (acyclic file ∷ with_fields file ∷ within Functions ∷ within Fields ∷ within Ty ∷ within Depth ∷ []) g n shallow.1 in
+    let circles = stays (NoCircle (mentions read.0)) _ (with_fields file ∷ within Functions ∷ within Fields ∷ within Ty ∷ within Depth ∷ []) g n names.1 in
+    let fields = stays (missing_fields read.0 ≡ []) _ (within Functions ∷ within Fields ∷ within Ty ∷ within Depth ∷ []) g n circles.1 in
+    let few = stays (length (functions_of read.0) ≤ functions_limit) _ (within Fields ∷ within Ty ∷ within Depth ∷ []) g n fields.1 in
+    let narrow = stays (widest_part read.0 ≤ parts_limit) _ (within Ty ∷ within Depth ∷ []) g n few.1 in
+    let light = stays (largest_type read.0 ≤ type_limit) _ (within Depth ∷ []) g n narrow.1 in
+    let low = stays (deepest_body (functions_of read.0) ≤ term_limit) _ [] g n light.1 in
+    let last : goes n ≡ goes g = low.1 in
     record {
       program = read.0;
       short = short.0;
       resolved = record { spelled = read.1; shallow = shallow.0; names = record { names = names.0; circles = circles.0; fields = fields.0 }; limits = (few.0, narrow.0, light.0, low.0) };
-      typed = derived.0;
-      within = derived.1;
-      kernel = ap functions same;
+      state = cc;
+    }
+
+-- rules that all go leave a source that is accepted
+accepted_of : (file : List ℕ) (f n : Found) → Settles Judges (source_rules file) f (goes n) → IsAcceptedSource f.source (functions n)
+accepted_of file f n r =
+    let both = parted (reading_rules file) (kernel_rules file) f n r in
+    let read = read_of file f both.0 both.1 in
+    let derived = derives (IsAcceptedKernel (functions both.0)) (AreTypesWithin (functions both.0)) _ [] both.0 n both.2 in
+    let last : goes n ≡ goes both.0 = derived.2 in
+    let same : n ≡ both.0 = cc in
+    let kernel : functions both.0 ≡ functions_of read.program = ap functions read.state in
+    record {
+      program = read.program;
+      short = read.short;
+      resolved = read.resolved;
+      typed = subst IsAcceptedKernel kernel derived.0;
+      within = subst AreTypesWithin kernel derived.1;
+      kernel = ap functions same ∙ kernel;
     }
 
 read_whole : (held : Held) (file : List ℕ) (found : Found) (after : Held) → Runs Judges (reads_source file ∷ judged_first (source_rules file) []) nothing (calm held) (goes found) (calm after)
@@ -106,3 +147,82 @@ all_accepted held file a =
     let next = with_program a.1.program f in
     let settles = accepted_settles file (bytes_at held file) a.0 a.1 f (short_whole source_limit (bytes_at held file) a.1.short) in
     (goes next, held, inr (f, calm held, (bytes, refl, refl, refl), judged_runs Judges (source_rules file) [] f next (calm held) (calm held) (goes next) settles (refl, refl)), refl)
+
+-- ---- certificates
+
+-- the rule that reads the certificate
+writes : (Q : Type 0) (js : List Judgement) (f n : Found) → (⊥ × Q) ⊎ ((next : Found) × ((c : Cert) × (next ≡ with_cert c f) × CertText f.certificate c) × Settles Judges js next (goes n))
+    → (c : Cert) × CertText f.certificate c × Settles Judges js (with_cert c f) (goes n)
+writes Q js f n (inl r) = absurd r.0
+writes Q js f n (inr r) = (r.1.0, r.1.2, subst (λ x. Settles Judges js x (goes n)) r.1.1 r.2)
+
+record IsJudged (bytes : List ℕ) (fs : List Function) : Type 0 where
+  cert : Cert
+  brief : length bytes ≤ certificate_limit
+  written : CertText bytes cert
+  spells : SpellsDerivation fs cert
+  narrow : AreTypesWithin fs
+
+judged_of : (name : List ℕ) (f n : Found) → Settles Judges (certificate_rules name) f (goes n) → IsJudged f.certificate (functions f)
+judged_of name f n r =
+    let brief = stays (length f.certificate ≤ certificate_limit) _ (written name ∷ certified name ∷ []) f n r in
+    let read = writes _ (certified name ∷ []) f n brief.1 in
+    let derived = derives (SpellsDerivation (functions f) read.0) (AreTypesWithin (functions f)) _ [] (with_cert read.0 f) n read.2 in
+    record { cert = read.0; brief = brief.0; written = read.1; spells = derived.0; narrow = derived.1 }
+
+-- a certificate file that was read whole, behind a source that was
+certificate_whole : (held : Held) (name : List ℕ) (f found : Found) (after : Held) → Runs Judges (certificate_steps name) f (calm held) (goes found) (calm after) → IsJudged (bytes_at held name) (functions f)
+certificate_whole held name f found after (inl r) = absurd r.0
+certificate_whole held name f found after (inr r) =
+    let judged = judged_of name r.0 found (settled (certificate_rules name) r.0 r.1 (calm after) found r.3) in
+    let is : r.0.certificate ≡ take (certificate_limit + 1) (bytes_at held name) = ap (λ g. g.certificate) r.2.2 ∙ r.2.1 in
+    let all : r.0.certificate ≡ bytes_at held name = whole certificate_limit (bytes_at held name) r.0.certificate is judged.brief in
+    let same : functions r.0 ≡ functions f = ap functions r.2.2 in
+    subst (λ b. IsJudged b (functions f)) all (subst (IsJudged r.0.certificate) same judged)
+
+certified_whole : (held : Held) (file name : List ℕ) (found : Found) (after : Held) → Runs Judges (reads_source file ∷ recheck_steps file name) nothing (calm held) (goes found) (calm after)
+    → IsCertifiedSource (bytes_at held file) (bytes_at held name)
+certified_whole held file name found after (inl r) = absurd r.0
+certified_whole held file name found after (inr r) =
+    let rest = subst (λ w. Runs Judges (recheck_steps file name) r.0 w (goes found) (calm after)) r.2.3 r.3 in
+    let both = parted_steps (reading_rules file) (certificate_steps name) r.0 (calm held) (calm after) found rest in
+    let read = read_of file r.0 both.0 both.1 in
+    let is : r.0.source ≡ take (source_limit + 1) (bytes_at held file) = ap (λ f. f.source) r.2.2 ∙ r.2.1 in
+    let all : r.0.source ≡ bytes_at held file = whole source_limit (bytes_at held file) r.0.source is read.short in
+    let judged = subst (IsJudged (bytes_at held name)) (ap functions read.state) (certificate_whole held name both.0 found after both.2) in
+    record {
+      program = read.program;
+      cert = judged.cert;
+      short = subst (λ x. length x ≤ source_limit) all read.short;
+      resolved = subst (λ x. HasKernel x read.program) all read.resolved;
+      brief = judged.brief;
+      written = judged.written;
+      spells = judged.spells;
+      within = judged.narrow;
+    }
+
+pub only_certified : (held : Held) (file name : List ℕ) → ComesTo Judges (script_of (Some (recheck file name))) held Done → IsCertifiedSource (bytes_at held file) (bytes_at held name)
+only_certified held file name k = let d = came_done Judges ruling (script_of (Some (recheck file name))) held k in certified_whole held file name d.0 d.1 d.2
+
+pub all_certified : (held : Held) (file name : List ℕ) → IsCertifiedSource (bytes_at held file) (bytes_at held name) → ComesTo Judges (script_of (Some (recheck file name))) held Done
+all_certified held file name a =
+    let bytes = take (source_limit + 1) (bytes_at held file) in
+    let f = with_source bytes nothing in
+    let next = with_program a.program f in
+    let settles = reading_settles file (bytes_at held file) a.program a.short a.resolved f (short_whole source_limit (bytes_at held file) a.short) in
+    let text = take (certificate_limit + 1) (bytes_at held name) in
+    let text_is : text ≡ bytes_at held name = short_whole certificate_limit (bytes_at held name) a.brief in
+    let g = with_certificate text next in
+    let last = with_cert a.cert g in
+    let judged : Settles Judges (certificate_rules name) g (goes last) = inr (
+      g,
+      (refl, subst (λ x. length x ≤ certificate_limit) (sym text_is) a.brief),
+      inr (last, (a.cert, refl, subst (λ x. CertText x a.cert) (sym text_is) a.written), inr (last, (refl, a.spells, a.within), refl)),
+    ) in
+    let rest : Runs Judges (certificate_steps name) next (calm held) (goes last) (calm held) =
+    inr (g, calm held, (text, refl, refl, refl), judged_runs Judges (certificate_rules name) [] g last (calm held) (calm held) (goes last) judged (refl, refl)) in (
+      goes last,
+      held,
+      inr (f, calm held, (bytes, refl, refl, refl), judged_runs Judges (reading_rules file) (certificate_steps name) f next (calm held) (calm held) (goes last) settles rest),
+      refl,
+    )

@@ -5,6 +5,8 @@ use Rattle.std.proofs.lemmas.Option.{same_Some}
 use Rattle.cg_base.specs.declared.fun.Fun.TheVariants.{User}
 use Rattle.cg_base.specs.declared.kind.Word.TheVariants.{U32}
 use Rattle.cg_base.specs.declared.place.Place.{Place}
+use Rattle.cg_cert.proofs.Complete.{one as one_certificate}
+use Rattle.cg_cert.proofs.OneByte.{one_byte, no_byte}
 use Rattle.cg_check.specs.Judged.{AreTypesWithin}
 use Rattle.cg_check_laws.proofs.OneFault.{one_fault}
 use Rattle.cg_core.specs.Kernels.{Function}
@@ -30,7 +32,7 @@ use Rattle.cg_parser.proofs.One.{one_program}
 use Rattle.cg_parser.proofs.Same.{one_answer as one_reading}
 use Rattle.cg_resolve.specs.Answers.{IsCircleAt}
 use Rattle.cg_steps.specs.declared.status.Status.{Status}
-use Rattle.cg_steps.specs.declared.status.Status.TheVariants.{Refused, Usage, StepLimit, HeapRefused, TooLarge}
+use Rattle.cg_steps.specs.declared.status.Status.TheVariants.{Refused, Usage, StepLimit, HeapRefused, CertRefused, TooLarge}
 use Rattle.cg_steps.specs.Steps.{Outcome, refuses, goes}
 use Rattle.cg_steps.specs.Scripts.{IsRuling}
 use Rattle.cg_surface.specs.declared.program.Program.{Program}
@@ -38,11 +40,12 @@ use Rattle.cg_surface.specs.Programs.{Entry}
 use Rattle.cg_takes.specs.Says as takes
 use Rattle.cg_typing.specs.Accepted.{IsAcceptedKernel}
 use Rattle.cg_value.specs.Values.{Val, number, function}
-use Rattle.cg_words.specs.Words.{Command, check, run}
-use Rattle.cg_driver.specs.Commands.{Judgement, no_command, within, spelled, named, acyclic, with_fields, typed, plain, has_entry, heap_spelled, in_range, evaluated, RefusesSyntax, unknown_byte, open_comment, unexpected, wrong_bar, RefusesTyping, RefusesType, Judges, script_of}
-use Rattle.cg_driver.specs.Found.{Found, with_program, with_entry, with_argument, with_value, functions}
-use Rattle.cg_driver.specs.Lines.{fault_line, name_rule, rule_line, limit_line, report}
+use Rattle.cg_words.specs.Words.{Command, check, recheck, run}
+use Rattle.cg_driver.specs.Commands.{Judgement, no_command, within, spelled, named, acyclic, with_fields, typed, written, certified, plain, has_entry, heap_spelled, in_range, evaluated, RefusesSyntax, unknown_byte, open_comment, unexpected, wrong_bar, RefusesTyping, RefusesType, Judges, script_of}
+use Rattle.cg_driver.specs.Found.{Found, with_program, with_cert, with_entry, with_argument, with_value, functions}
+use Rattle.cg_driver.specs.Lines.{fault_line, name_rule, rule_line, byte_line, limit_line, report}
 use Rattle.cg_driver.specs.Run.{table_in, emitted, budget, Evaluates, RunsOut, IsReport}
+use Rattle.cg_driver.proofs.Certifying.{one_node, none_misfits, node_ruling, node_not_usage}
 use Rattle.cg_driver.proofs.Cores.{one_list}
 
 abbrev the_refusal : Status → List ℕ → Outcome Found
@@ -203,6 +206,15 @@ single (typed file) f (refuses s t) (refuses s' t') d d' = one_untyped file (fun
 single (typed file) f (refuses s t) (goes n) d d' = absurd (not_typed file (functions f) s t d d'.1 d'.2)
 single (typed file) f (goes n) (refuses s t) d d' = absurd (not_typed file (functions f) s t d' d.1 d.2)
 single (typed file) f (goes n) (goes n') d d' = ap goes (d.0 ∙ sym d'.0)
+single (written file) f (refuses s t) (refuses s' t') d d' =
+    refused_same s s' CertRefused t t' d.1 d'.1 (d.2 ∙ ap (byte_line file) (one_byte f.certificate d.0 d'.0 d.3 d'.3) ∙ sym d'.2)
+single (written file) f (refuses s t) (goes n) d d' = absurd (no_byte f.certificate d'.0 d.0 d'.2 d.3)
+single (written file) f (goes n) (refuses s t) d d' = absurd (no_byte f.certificate d.0 d'.0 d.2 d'.3)
+single (written file) f (goes n) (goes n') d d' = ap goes (d.1 ∙ ap (λ c. with_cert c f) (one_certificate f.certificate d.0 d'.0 d.2 d'.2) ∙ sym d'.1)
+single (certified file) f (refuses s t) (refuses s' t') d d' = one_node file (functions f) f.cert s s' t t' d.1 d'.1
+single (certified file) f (refuses s t) (goes n) d d' = absurd (none_misfits file (functions f) f.cert s t d.0 d.1 d'.1 d'.2)
+single (certified file) f (goes n) (refuses s t) d d' = absurd (none_misfits file (functions f) f.cert s t d'.0 d'.1 d.1 d.2)
+single (certified file) f (goes n) (goes n') d d' = ap goes (d.0 ∙ sym d'.0)
 single (plain file) f (refuses s t) (refuses s' t') d d' = refused_same s s' Refused t t' d.0 d'.0 (d.1 ∙ sym d'.1)
 single (plain file) f (refuses s t) (goes n) d d' = let x = d.2 in let y = d'.1 in absurd (cc)
 single (plain file) f (goes n) (refuses s t) d d' = let x = d'.2 in let y = d.1 in absurd (cc)
@@ -250,6 +262,8 @@ ruling (acyclic file) f s t d = subst IsRuling (sym d.0) tt
 ruling (with_fields file) f s t d = subst IsRuling (sym d.0) tt
 ruling (typed file) f s t (inl d) = subst IsRuling (sym d.0) tt
 ruling (typed file) f s t (inr d) = subst IsRuling (sym d.0) tt
+ruling (written file) f s t d = subst IsRuling (sym d.1) tt
+ruling (certified file) f s t d = node_ruling file (functions f) f.cert s t d.1
 ruling (plain file) f s t d = subst IsRuling (sym d.0) tt
 ruling (has_entry file name) f s t d = subst IsRuling (sym d.0) tt
 ruling (heap_spelled heap) f s t d = subst IsRuling (sym d.0) tt
@@ -273,6 +287,8 @@ not_usage (acyclic file) f s t of d = λ e. let x = d.0 in absurd (cc)
 not_usage (with_fields file) f s t of d = λ e. let x = d.0 in absurd (cc)
 not_usage (typed file) f s t of (inl d) = λ e. let x = d.0 in absurd (cc)
 not_usage (typed file) f s t of (inr d) = λ e. let x = d.0 in absurd (cc)
+not_usage (written file) f s t of d = λ e. let x = d.1 in absurd (cc)
+not_usage (certified file) f s t of d = node_not_usage file (functions f) f.cert s t d.1
 not_usage (plain file) f s t of d = λ e. let x = d.0 in absurd (cc)
 not_usage (has_entry file name) f s t of d = λ e. let x = d.0 in absurd (cc)
 not_usage (heap_spelled heap) f s t of d = λ e. let x = d.0 in absurd (cc)
@@ -303,4 +319,5 @@ report_once fs at arg value cost t t' a b =
 pub once : (c : Option Command) (f : Found) (t t' : List ℕ) → (script_of c).line f t → (script_of c).line f t' → t ≡ t'
 once None f t t' a b = absurd a
 once (Some (check file)) f t t' a b = a ∙ sym b
+once (Some (recheck file certificate)) f t t' a b = a ∙ sym b
 once (Some (run file entry heap steps)) f t t' a b = report_once (functions f) f.at f.argument f.value f.cost t t' a b

@@ -8,7 +8,7 @@ use Rattle.cg_base.specs.declared.memory.Memory.{Memory}
 use Rattle.cg_base.specs.declared.place.Place.{Place}
 use Rattle.cg_base.specs.Places.{most}
 use Rattle.cg_check.specs.declared.refusal.Refusal.TheVariants.{Limit as Beyond}
-use Rattle.cg_check.specs.Judged.{IsChecked, Refuses}
+use Rattle.cg_check.specs.Judged.{AreTypesWithin, IsChecked, Refuses}
 use Rattle.cg_core.specs.declared.kernel.KFun.{KFun}
 use Rattle.cg_core.specs.declared.kernel.Kernel.{Kernel}
 use Rattle.cg_core.specs.Kernels.{Function, function_of, kernel_of}
@@ -38,15 +38,16 @@ use Rattle.cg_steps.specs.declared.status.Status.{Status}
 use Rattle.cg_steps.specs.declared.status.Status.TheVariants.{Refused, HeapRefused, TooLarge}
 use Rattle.cg_steps.specs.Steps.{refuses, goes, Settles}
 use Rattle.cg_steps.specs.Parts.{IsLine, Reports, Steps, Judged}
-use Rattle.cg_steps.proofs.Joining.{then_settles}
+use Rattle.cg_steps.proofs.Joining.{then_settles, ends_settles}
 use Rattle.cg_surface.specs.Programs.{Entry, program_depth}
+use Rattle.cg_typing.specs.Accepted.{IsAcceptedKernel}
 use Rattle.cg_typing.specs.declared.checked.Checked.{Checked}
 use Rattle.cg_typing.specs.Holds.{kernel_in, cores_in, trees_in}
 use Rattle.cg_typing.specs.Kept.{AreKept, maybe_core, maybe_tree}
-use Rattle.cg_driver.specs.Accepted.{IsAcceptedSource}
-use Rattle.cg_driver.specs.Commands.{Judgement, RefusesSyntax, Judges, kernel_rules, resolving_rules, program_rules, source_rules, entry_rules, heap_rules, entry_at}
+use Rattle.cg_driver.specs.Accepted.{HasKernel, IsAcceptedSource}
+use Rattle.cg_driver.specs.Commands.{Judgement, RefusesSyntax, Judges, kernel_rules, resolving_rules, reading_rules, source_rules, entry_rules, heap_rules, entry_at}
 use Rattle.cg_driver.specs.Found.{Found, with_program, with_entry, with_argument, functions, source_limit, heap_limit}
-use Rattle.cg_driver.specs.Judged.{functions_in, IsCheckedKernel, IsCheckedProgram, IsCheckedSource, Keeps, RefusesKernel, RefusesProgram, RefusesSource, RefusesEntry, RefusesBytes, IsEntry, IsArgument}
+use Rattle.cg_driver.specs.Judged.{functions_in, IsCheckedKernel, IsCheckedSource, IsKernelOf, IsReadSource, Keeps, RefusesKernel, RefusesProgram, RefusesReading, RefusesSource, RefusesEntry, RefusesBytes, IsEntry, IsArgument}
 use Rattle.cg_driver.specs.Lines.{fault_line, name_rule, rule_line, not_built_line, no_entry_line, no_heap_text_line, out_of_range_line, limit_name, limit_line}
 
 -- a report of a line says what the line says
@@ -134,14 +135,9 @@ resolved file p names within f same =
       ),
     )
 
-pub kernel_refused : (file : List ℕ) (p : List Entry) (fs : List Function) → NamesStand p → WithinLimits p → fs ≡ functions_of p
-    → (s : Status) (text : List ℕ) → RefusesKernel file fs s text → RefusesProgram file p s text
-kernel_refused file p fs names within is s text j ordered growing f same =
-    then_settles Judges (resolving_rules file) (kernel_rules file) f f (refuses s text) (resolved file p names within f same) (j f (ap functions_of same ∙ sym is))
-
-pub kernel_checked : (p : List Entry) (fs : List Function) → NamesStand p → WithinLimits p → fs ≡ functions_of p
-    → (checked : Checked) → IsCheckedKernel fs checked → IsCheckedProgram p checked
-kernel_checked p fs names limits is checked c = record { names = names; limits = limits; kernel = subst (λ f. IsCheckedKernel f checked) is c }
+-- its kernel
+pub kernel_read : (p : List Entry) (kernel : Kernel) → NamesStand p → WithinLimits p → kernel_of kernel ≡ functions_of p → IsLawfulKernel (kernel_of kernel) → IsKernelOf p kernel
+kernel_read p kernel names limits same lawful = record { names = names; limits = limits; same = same; lawful = lawful }
 
 module _ (file : List ℕ) (p : List Entry) where
   -- the first fault N1, N2 or N4
@@ -177,10 +173,10 @@ module _ (file : List ℕ) (p : List Entry) where
       )
 
   -- the first limit that is passed
-  passes : (limit : Limit) → NamesStand p → Passes p limit → (f : Found) → f.program ≡ p → Settles Judges (program_rules file) f (refuses TooLarge (limit_line (limit_name limit)))
+  passes : (limit : Limit) → NamesStand p → Passes p limit → (f : Found) → f.program ≡ p → Settles Judges (resolving_rules file) f (refuses TooLarge (limit_line (limit_name limit)))
   passes limit names found f same = go limit (subst NamesStand (sym same) names) (subst (λ q. Passes q limit) (sym same) found)
     where
-      go : (limit : Limit) → NamesStand f.program → Passes f.program limit → Settles Judges (program_rules file) f (refuses TooLarge (limit_line (limit_name limit)))
+      go : (limit : Limit) → NamesStand f.program → Passes f.program limit → Settles Judges (resolving_rules file) f (refuses TooLarge (limit_line (limit_name limit)))
       go limits.Functions s h = inr (f, (refl, s.names), inr (f, (refl, s.circles), inr (f, (refl, s.fields), inl (tt, (refl, refl, h)))))
       go limits.Fields s h = inr (f, (refl, s.names), inr (f, (refl, s.circles), inr (f, (refl, s.fields), inr (f, (refl, h.0), inl (tt, (refl, refl, h.1))))))
       go limits.Ty s h = inr (f, (refl, s.names), inr (f, (refl, s.circles), inr (f, (refl, s.fields), inr (f, (refl, h.0), inr (f, (refl, h.1), inl (tt, (refl, refl, h.2)))))))
@@ -194,29 +190,24 @@ module _ (file : List ℕ) (p : List Entry) where
 
   pub limited : (limit : Limit) (name : List ℕ) → name ≡ limit_name limit → NamesStand p → Passes p limit → RefusesProgram file p TooLarge (limit_line name)
   limited limit name is names found ordered growing f same =
-      subst (λ n. Settles Judges (program_rules file) f (refuses TooLarge (limit_line n))) (sym is) (passes limit names found f same)
+      subst (λ n. Settles Judges (resolving_rules file) f (refuses TooLarge (limit_line n))) (sym is) (passes limit names found f same)
 
 -- ---- sources
 
--- a source is judged as the one program that it spells within the depth
-pub program_checked : (source : List ℕ) (p : List Entry) → length source ≤ source_limit → Spells source p → program_depth p ≤ depth_limit
-    → (checked : Checked) → IsCheckedProgram p checked → IsCheckedSource source checked
-program_checked source p short spelled deep checked c =
+-- a source is read as the one program that it spells within the depth
+pub source_read : (source : List ℕ) (p : List Entry) → length source ≤ source_limit → Spells source p → program_depth p ≤ depth_limit
+    → (kernel : Kernel) → IsKernelOf p kernel → IsReadSource source kernel
+source_read source p short spelled deep kernel c =
     record {
-      accepted = record {
-        program = p;
-        short = short;
-        resolved = record { spelled = spelled; shallow = deep; names = c.names; limits = c.limits };
-        typed = c.kernel.accepted;
-        within = c.kernel.within;
-        kernel = c.kernel.same;
-      };
-      cores = c.kernel.cores;
-      few = subst (λ fs. length fs ≤ functions_limit) (sym c.kernel.same) c.limits.0;
+      program = p;
+      short = short;
+      resolved = record { spelled = spelled; shallow = deep; names = c.names; limits = c.limits };
+      same = c.same;
+      lawful = c.lawful;
     }
 
 pub program_refused : (file source : List ℕ) (p : List Entry) → length source ≤ source_limit → Spells source p → program_depth p ≤ depth_limit
-    → (s : Status) (text : List ℕ) → RefusesProgram file p s text → RefusesSource file source s text
+    → (s : Status) (text : List ℕ) → RefusesProgram file p s text → RefusesReading file source s text
 program_refused file source p short spelled deep s text j f same =
     let told : length source < most = omega (arith, short) in
     let next = with_program p f in
@@ -234,36 +225,71 @@ program_refused file source p short spelled deep s text j f same =
       ),
     )
 
-pub long_refused : (file source : List ℕ) → source_limit < length source → RefusesSource file source TooLarge (limit_line (codes "source"))
+pub long_refused : (file source : List ℕ) → source_limit < length source → RefusesReading file source TooLarge (limit_line (codes "source"))
 long_refused file source long f same = inl (tt, (refl, refl, subst (λ x. source_limit < length x) (sym same) long))
 
-pub syntax_refused : (file source text : List ℕ) → length source ≤ source_limit → RefusesSyntax file source text → RefusesSource file source Refused text
+pub syntax_refused : (file source text : List ℕ) → length source ≤ source_limit → RefusesSyntax file source text → RefusesReading file source Refused text
 syntax_refused file source text short s f same =
     inr (f, (refl, subst (λ x. length x ≤ source_limit) (sym same) short), inl (tt, (refl, subst (λ x. RefusesSyntax file x text) (sym same) s)))
 
 pub deep_refused : (file source : List ℕ) → length source ≤ source_limit → (p : List Entry) × Spells source p × (depth_limit < program_depth p) × ((q : List Entry) → Spells source q → q ≡ p)
-    → RefusesSource file source TooLarge (limit_line (codes "nesting"))
+    → RefusesReading file source TooLarge (limit_line (codes "nesting"))
 deep_refused file source short beyond f same =
     inr (f, (refl, subst (λ x. length x ≤ source_limit) (sym same) short), inr (with_program beyond.0 f, (beyond.0, refl, subst (λ x. Spells x beyond.0) (sym same) beyond.1), inl (tt, (refl, refl, beyond.2))))
 
--- the rules of a source that is accepted all go
+-- the rules of reading of a source that has a kernel all go
+pub reading_settles : (file source : List ℕ) (p : List Entry) → length source ≤ source_limit → HasKernel source p → (f : Found) → f.source ≡ source
+    → Settles Judges (reading_rules file) f (goes (with_program p f))
+reading_settles file source p short has f same =
+    let next = with_program p f in
+    inr (
+      f,
+      (refl, subst (λ x. length x ≤ source_limit) (sym same) short),
+      inr (
+        next,
+        (p, refl, subst (λ x. Spells x p) (sym same) has.spelled),
+        inr (next, (refl, has.shallow), resolved file p has.names has.limits next refl),
+      ),
+    )
+
+-- and those of a source that is accepted
 pub accepted_settles : (file source : List ℕ) (fs : List Function) (a : IsAcceptedSource source fs) (f : Found) → f.source ≡ source → Settles Judges (source_rules file) f (goes (with_program a.program f))
 accepted_settles file source fs a f same =
     let next = with_program a.program f in
-    inr (
-      f,
-      (refl, subst (λ x. length x ≤ source_limit) (sym same) a.short),
-      inr (
-        next,
-        (a.program, refl, subst (λ x. Spells x a.program) (sym same) a.resolved.spelled),
-        inr (
-          next,
-          (refl, a.resolved.shallow),
-          then_settles Judges (resolving_rules file) (kernel_rules file) next next (goes next) (resolved file a.program a.resolved.names a.resolved.limits next refl)
-              (inr (next, (refl, a.typed, a.within), refl)),
-        ),
-      ),
-    )
+    then_settles Judges (reading_rules file) (kernel_rules file) f next (goes next) (reading_settles file source a.program a.short a.resolved f same) (inr (next, (refl, a.typed, a.within), refl))
+
+-- a source is refused where it isn't read, and where its kernel is refused
+pub reading_refused : (file source : List ℕ) (s : Status) (text : List ℕ) → RefusesReading file source s text → RefusesSource file source s text
+reading_refused file source s text j f same = ends_settles Judges (reading_rules file) (kernel_rules file) f (refuses s text) tt (j f same)
+
+pub kernel_refused : (file source : List ℕ) (kernel : Kernel) → IsReadSource source kernel → (s : Status) (text : List ℕ) → RefusesKernel file (kernel_of kernel) s text → RefusesSource file source s text
+kernel_refused file source kernel r s text j f same =
+    then_settles Judges (reading_rules file) (kernel_rules file) f (with_program r.program f) (refuses s text)
+    (reading_settles file source r.program r.short r.resolved f same) (j (with_program r.program f) (sym r.same))
+
+-- what is said of a source that is read up to its kernel
+pub read_is : (file source : List ℕ) (r : Result (Step Kernel) Memory) (kernel : Kernel) → r ≡ Ok (Goes kernel) → IfOk r (Steps (IsReadSource source) (RefusesReading file source)) → IsReadSource source kernel
+read_is file source r kernel is said = subst (λ x. IfOk x (Steps (IsReadSource source) (RefusesReading file source))) is said
+
+pub unread_is : (file source : List ℕ) (r : Result (Step Kernel) Memory) (report : Report) → r ≡ Ok (Ends report) → IfOk r (Steps (IsReadSource source) (RefusesReading file source))
+    → Reports (RefusesSource file source) report
+unread_is file source r report is said =
+    reading_refused file source report.status (string_bytes report.text) (subst (λ x. IfOk x (Steps (IsReadSource source) (RefusesReading file source))) is said)
+
+pub source_checked : (source : List ℕ) (kernel : Kernel) → IsReadSource source kernel → (checked : Checked) → IsCheckedKernel (kernel_of kernel) checked → IsCheckedSource source checked
+source_checked source kernel r checked c =
+    record {
+      accepted = record {
+        program = r.program;
+        short = r.short;
+        resolved = r.resolved;
+        typed = subst IsAcceptedKernel r.same c.accepted;
+        within = subst AreTypesWithin r.same c.within;
+        kernel = c.same ∙ r.same;
+      };
+      cores = c.cores;
+      few = subst (λ fs. length fs ≤ functions_limit) (sym (c.same ∙ r.same)) r.resolved.limits.0;
+    }
 
 pub source_judged : (file source : List ℕ) (f : Found) → f.source ≡ source → (r : Result (Step Checked) Memory) → IfOk r (Steps (IsCheckedSource source) (RefusesSource file source)) → Judged Judges Keeps (source_rules file) f r
 source_judged file source f same r said =

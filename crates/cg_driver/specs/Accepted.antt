@@ -1,13 +1,20 @@
--- Which sources are accepted.
-use Rattle.std.specs.Prelude.{◌≡◌, ℕ, ◌≤◌, List, length}
-use Rattle.cg_check.specs.Judged.{AreTypesWithin}
-use Rattle.cg_core.specs.Kernels.{Function}
+-- Which sources are accepted, and which certificates.
+use Rattle.std.specs.Prelude.{◌≡◌, ℕ, ◌≤◌, List, length, map}
+use Rattle.cg_cert.specs.Certificates.{certificate}
+use Rattle.cg_cert.specs.declared.cert.Cert.{Cert}
+use Rattle.cg_cert.specs.Texts.{CertText, text as text_of}
+use Rattle.cg_certcheck_laws.specs.Laws.{SpellsDerivation}
+use Rattle.cg_check.specs.Judged.{AreTypesWithin, IsChecked}
+use Rattle.cg_core.specs.Kernels.{Function, kernel_of}
 use Rattle.cg_desugar.specs.Desugar.{functions_of, NamesStand, WithinLimits}
 use Rattle.cg_parser.specs.Grammar.{Spells}
 use Rattle.cg_parser.specs.Answers.{depth_limit}
 use Rattle.cg_surface.specs.Programs.{Entry, program_depth}
 use Rattle.cg_typing.specs.Accepted.{IsAcceptedKernel}
-use Rattle.cg_driver.specs.Found.{source_limit}
+use Rattle.cg_typing.specs.declared.checked.Checked.{Checked}
+use Rattle.cg_typing.specs.Holds.{kernel_in, trees_in}
+use Rattle.cg_typing.specs.Kept.{maybe_tree}
+use Rattle.cg_driver.specs.Found.{certificate_limit, source_limit}
 
 -- the source spells a program within the depth whose names are in order, and in which all that is written is within its limits
 pub record HasKernel (source : List ℕ) (p : List Entry) : Type 0 where
@@ -25,3 +32,25 @@ pub record IsAcceptedSource (source : List ℕ) (functions : List Function) : Ty
   pub typed : IsAcceptedKernel (functions_of program)
   pub within : AreTypesWithin (functions_of program)
   pub kernel : functions ≡ functions_of program
+
+-- the text of a certificate within the limits spells a derivation of the source, which is within its own: its nodes and marks are those of
+-- derivations, with any splits, of the functions of the program that the source spells
+pub record IsCertifiedSource (source text : List ℕ) : Type 0 where
+  pub program : List Entry
+  pub cert : Cert
+  pub short : length source ≤ source_limit
+  pub resolved : HasKernel source program
+  pub brief : length text ≤ certificate_limit
+  pub written : CertText text cert
+  pub spells : SpellsDerivation (functions_of program) cert
+  pub within : AreTypesWithin (functions_of program)
+
+-- the text of the certificate of what is kept of a source
+abbrev pub certificate_text : Checked → List ℕ
+certificate_text checked = text_of (certificate (kernel_of (kernel_in checked)) (map maybe_tree (trees_in checked)))
+
+-- What is printed of a source that the checker keeps is a certificate of it, where it is within the limit.
+abbrev pub PrintedIsCertified : Type 0
+PrintedIsCertified = (source : List ℕ) (program : List Entry) (checked : Checked) → length source ≤ source_limit → HasKernel source program
+    → kernel_of (kernel_in checked) ≡ functions_of program → IsChecked (kernel_in checked) checked
+    → length (certificate_text checked) ≤ certificate_limit → IsCertifiedSource source (certificate_text checked)

@@ -3,8 +3,14 @@
 use Rattle.std.specs.Prelude.{◌≡◌, ◌⊎◌, ℕ, ◌<◌, ◌≤◌, ◌^◌, ◌++◌, true, false, List, [], ◌∷◌, position, Option, Some, None, Err, String, codes, bytes_eq}
 use Rattle.std.specs.declared.alloc.Global.{Global}
 use Rattle.cg_base.specs.declared.limit.Limit.{Limit}
-use Rattle.cg_base.specs.declared.limit.Limit.TheVariants.{Source, Nesting, Functions, Fields, Ty, Depth, Heap}
+use Rattle.cg_base.specs.declared.limit.Limit.TheVariants.{Source, Nesting, Functions, Fields, Ty, Depth, Heap, Certificate}
 use Rattle.cg_base.specs.declared.place.Place.{Place}
+use Rattle.cg_cert.specs.Answers.{Answers as IsReadAs}
+use Rattle.cg_cert.specs.declared.cert.Cert.{Cert}
+use Rattle.cg_cert.specs.declared.fault.CertFault.TheVariants.{C1, C2, C3, Limit as Beyond}
+use Rattle.cg_cert.specs.Texts.{CertText}
+use Rattle.cg_certcheck_laws.specs.Events.{cert_events, first_failing}
+use Rattle.cg_certcheck_laws.specs.Laws.{SpellsDerivation}
 use Rattle.cg_check.specs.Judged.{AreTypesWithin}
 use Rattle.cg_circles.specs.Circles.{NoCircle}
 use Rattle.cg_core.specs.Kernels.{Function}
@@ -23,21 +29,24 @@ use Rattle.cg_parser.specs.Grammar.{Spells}
 use Rattle.cg_parser.specs.Answers.{Answers as Parses}
 use Rattle.cg_parser.specs.declared.fault.ParseFault.TheVariants.{S1, S2, S3, S4}
 use Rattle.cg_resolve.specs.Answers.{IsCircleAt}
-use Rattle.cg_steps.specs.declared.status.Status.TheVariants.{Refused, Usage, StepLimit, HeapRefused, TooLarge}
+use Rattle.cg_steps.specs.declared.status.Status.TheVariants.{Refused, Usage, StepLimit, HeapRefused, CertRefused, TooLarge}
+use Rattle.cg_steps.specs.declared.status.Status.{Status}
 use Rattle.cg_steps.specs.Steps.{Outcome, refuses, goes, Step, reads, judged_first}
 use Rattle.cg_steps.specs.Scripts.{Script}
 use Rattle.cg_surface.specs.Programs.{Entry}
 use Rattle.cg_takes.specs.Says as takes
 use Rattle.cg_typing.specs.Accepted.{IsAcceptedKernel}
-use Rattle.cg_words.specs.Words.{Command, check, run, texts, command_of}
-use Rattle.cg_driver.specs.Found.{Found, nothing, with_source, with_program, with_entry, with_heap, with_argument, with_value, functions, source_limit, heap_limit, bound, quantity}
-use Rattle.cg_driver.specs.Lines.{usage_text, ok_line, fault_line, name_rule, rule_line, not_built_line, no_entry_line, no_heap_text_line, out_of_range_line, limit_name, limit_line, step_limit_line}
+use Rattle.cg_words.specs.Words.{Command, check, recheck, run, texts, command_of}
+use Rattle.cg_driver.specs.Found.{Found, nothing, with_source, with_program, with_certificate, with_cert, with_entry, with_heap, with_argument, with_value, functions, source_limit, certificate_limit, heap_limit, bound, quantity}
+use Rattle.cg_driver.specs.Lines.{usage_text, ok_line, fault_line, name_rule, rule_line, rechecked_line as accepted_text, byte_line, node_line, not_built_line, no_entry_line, no_heap_text_line, out_of_range_line, limit_name, limit_line, step_limit_line}
 use Rattle.cg_driver.specs.Run.{Evaluates, RunsOut, IsReport}
 
 -- The judgements, in the order of the steps; each has the names that it prints. The words are no command; a quantity is within its limit; the
 -- source spells a program (S1 to S4); its names are known, apart and have their arguments (N1, N2, N4), nothing mentions itself (N3), and
 -- what is taken is there (N5); the typing rules derive each function of its kernel, and no type of a node passes the limit: else the first
 -- condition that fails in the order of reading is told, which is a rule (K1 to K7, T1 to T14) with its place, or that limit (`type`); the
+-- certificate file holds the text of a certificate (C1), and that spells a derivation of the kernel, and no type of a node passes the
+-- limit: else the first condition that fails in the order of nodes is told, which is C2 or C3 with its node, or that limit (`type`); the
 -- source is one of those that can be run so far (F1), and has the entry (E1); the heap file holds a number (H1), which is a word (H5);
 -- evaluation ends within the steps.
 pub data Judgement : Type 0 where
@@ -48,6 +57,8 @@ pub data Judgement : Type 0 where
   acyclic : List ℕ → Judgement
   with_fields : List ℕ → Judgement
   typed : List ℕ → Judgement
+  written : List ℕ → Judgement
+  certified : List ℕ → Judgement
   plain : List ℕ → Judgement
   has_entry : List ℕ → List ℕ → Judgement
   heap_spelled : List ℕ → Judgement
@@ -98,6 +109,16 @@ pub record RefusesType (fs : List Function) (text : List ℕ) : Type 0 where
   pub fails : Fails fs type_limit place
   pub line : text ≡ limit_line (codes "type")
 
+-- the fault of a certificate: the first condition that fails in the order of nodes is a node's row (C2), that a node or a name is missing or
+-- surplus (C3), or the limit on types
+pub data RefusesNode (file : List ℕ) (fs : List Function) (cert : Cert) (status : Status) (text : List ℕ) : Type 0 where
+  broken_row : (node : ℕ) → first_failing (cert_events fs cert) ≡ Some (C2 node) → status ≡ CertRefused → text ≡ node_line file (codes "C2") node
+      → RefusesNode file fs cert status text
+  out_of_place : (node : ℕ) → first_failing (cert_events fs cert) ≡ Some (C3 node) → status ≡ CertRefused → text ≡ node_line file (codes "C3") node
+      → RefusesNode file fs cert status text
+  too_large : first_failing (cert_events fs cert) ≡ Some (Beyond Ty) → status ≡ TooLarge → text ≡ limit_line (codes "type")
+      → RefusesNode file fs cert status text
+
 -- the position of the first function of a name
 abbrev pub entry_at : List ℕ → List Function → Option ℕ
 entry_at name functions = position (λ f. bytes_eq f.at.name name) functions
@@ -119,6 +140,10 @@ Judges (with_fields file) found (goes next) = (next ≡ found) × (missing_field
 Judges (typed file) found (refuses status text) =
     ((status ≡ Refused) × RefusesTyping file (functions found) text) ⊎ ((status ≡ TooLarge) × RefusesType (functions found) text)
 Judges (typed file) found (goes next) = (next ≡ found) × IsAcceptedKernel (functions found) × AreTypesWithin (functions found)
+Judges (written file) found (refuses status text) = (byte : ℕ) × (status ≡ CertRefused) × (text ≡ byte_line file byte) × IsReadAs found.certificate (Err (C1 byte))
+Judges (written file) found (goes next) = (cert : Cert) × (next ≡ with_cert cert found) × CertText found.certificate cert
+Judges (certified file) found (refuses status text) = IsLawfulKernel (functions found) × RefusesNode file (functions found) found.cert status text
+Judges (certified file) found (goes next) = (next ≡ found) × SpellsDerivation (functions found) found.cert × AreTypesWithin (functions found)
 Judges (plain file) found (refuses status text) = (status ≡ Refused) × (text ≡ not_built_line file) × (plain_kernel (functions found) ≡ false)
 Judges (plain file) found (goes next) = (next ≡ found) × (plain_kernel (functions found) ≡ true)
 Judges (has_entry file name) found (refuses status text) = (status ≡ Refused) × (text ≡ no_entry_line file) × (entry_at name (functions found) ≡ None)
@@ -139,11 +164,18 @@ kernel_rules file = typed file ∷ []
 abbrev pub resolving_rules : List ℕ → List Judgement
 resolving_rules file = named file ∷ acyclic file ∷ with_fields file ∷ within Functions ∷ within Fields ∷ within Ty ∷ within Depth ∷ []
 
-abbrev pub program_rules : List ℕ → List Judgement
-program_rules file = resolving_rules file ++ kernel_rules file
+abbrev pub reading_rules : List ℕ → List Judgement
+reading_rules file = within Source ∷ spelled file ∷ within Nesting ∷ resolving_rules file
 
 abbrev pub source_rules : List ℕ → List Judgement
-source_rules file = within Source ∷ spelled file ∷ within Nesting ∷ program_rules file
+source_rules file = reading_rules file ++ kernel_rules file
+
+-- those of `recheck`, once the certificate file was read
+abbrev pub text_rules : List ℕ → List Judgement
+text_rules certificate = within Certificate ∷ written certificate ∷ []
+
+abbrev pub certificate_rules : List ℕ → List Judgement
+certificate_rules certificate = text_rules certificate ++ certified certificate ∷ []
 
 -- those of `run` before the heap file is read, and then
 abbrev pub entry_rules : List ℕ → List ℕ → List Judgement
@@ -159,15 +191,28 @@ run_rules heap steps = heap_rules heap ++ evaluated steps ∷ []
 abbrev pub reads_source : List ℕ → Step Judgement Found
 reads_source file = reads file source_limit with_source
 
+abbrev pub reads_certificate : List ℕ → Step Judgement Found
+reads_certificate certificate = reads certificate certificate_limit with_certificate
+
 abbrev pub reads_heap : List ℕ → Step Judgement Found
 reads_heap heap = reads heap heap_limit with_heap
 
--- what is printed at status 0: how many functions there are; the seven lines of a run
+-- what is printed at status 0: how many functions there are; that the certificate is in order; the seven lines of a run
 abbrev pub checked_line : Found → List ℕ → Type 0
 checked_line found text = text ≡ ok_line (functions found)
 
+abbrev pub rechecked_line : Found → List ℕ → Type 0
+rechecked_line found text = text ≡ accepted_text
+
 abbrev pub ran_lines : Found → List ℕ → Type 0
 ran_lines found text = IsReport (functions found) found.at found.argument found.value found.cost text
+
+-- the steps of `recheck` from the certificate file on, and all behind the read of the source
+abbrev pub certificate_steps : List ℕ → List (Step Judgement Found)
+certificate_steps certificate = reads_certificate certificate ∷ judged_first (certificate_rules certificate) []
+
+abbrev pub recheck_steps : List ℕ → List ℕ → List (Step Judgement Found)
+recheck_steps file certificate = judged_first (reading_rules file) (certificate_steps certificate)
 
 -- the steps of `run` from the heap file on, and all behind the read of the source
 abbrev pub heap_steps : List ℕ → ℕ → List (Step Judgement Found)
@@ -180,6 +225,7 @@ run_steps file entry heap steps = judged_first (source_rules file ++ entry_rules
 abbrev pub script_of : Option Command → Script Judgement Found
 script_of None = record { steps = judged_first (no_command ∷ []) []; start = nothing; line = λ found text. ⊥ }
 script_of (Some (check file)) = record { steps = reads_source file ∷ judged_first (source_rules file) []; start = nothing; line = checked_line }
+script_of (Some (recheck file certificate)) = record { steps = reads_source file ∷ recheck_steps file certificate; start = nothing; line = rechecked_line }
 script_of (Some (run file entry heap steps)) = record { steps = reads_source file ∷ run_steps file entry heap steps; start = nothing; line = ran_lines }
 
 -- the command that the words ask for

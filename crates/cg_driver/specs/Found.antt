@@ -2,17 +2,21 @@
 use Rattle.std.specs.Prelude.{ℕ, List, [], length}
 use Rattle.cg_base.specs.declared.limit.Limit.{Limit}
 use Rattle.cg_base.specs.declared.limit.Limit.TheVariants.{Source, Nesting, Functions, Fields, Ty, Depth, Instances, Core, Heap, Certificate}
+use Rattle.cg_cert.specs.declared.cert.Cert.{Cert}
 use Rattle.cg_core.specs.Kernels.{Function}
 use Rattle.cg_desugar.specs.Desugar.{functions_of, functions_limit, parts_limit, type_limit, term_limit, deepest_body}
 use Rattle.cg_desugar.specs.Takes.{widest_part, largest_type}
 use Rattle.cg_parser.specs.Answers.{depth_limit}
 use Rattle.cg_surface.specs.Programs.{Entry, program_depth}
 
--- the bytes of the source, the program that they spell, the position of the entry among its functions, the bytes of the heap file, the
--- argument that they hold, and the value and the cost that evaluation gives
+-- the bytes of the source, the program that they spell, the bytes of the certificate file, the certificate whose text they are, the position
+-- of the entry among the program's functions, the bytes of the heap file, the argument that they hold, and the value and the cost that
+-- evaluation gives
 pub record Found : Type 0 where
   pub source : List ℕ
   pub program : List Entry
+  pub certificate : List ℕ
+  pub cert : Cert
   pub at : ℕ
   pub heap : List ℕ
   pub argument : ℕ
@@ -21,38 +25,47 @@ pub record Found : Type 0 where
 
 -- before the first step
 abbrev pub nothing : Found
-nothing = record { source = []; program = []; at = 0; heap = []; argument = 0; value = 0; cost = 0 }
+nothing = record { source = []; program = []; certificate = []; cert = record { funs = [] }; at = 0; heap = []; argument = 0; value = 0; cost = 0 }
 
 abbrev pub with_source : List ℕ → Found → Found
-with_source bytes f = record { source = bytes; program = f.program; at = f.at; heap = f.heap; argument = f.argument; value = f.value; cost = f.cost }
+with_source bytes f = record f { source = bytes }
 
 abbrev pub with_program : List Entry → Found → Found
-with_program p f = record { source = f.source; program = p; at = f.at; heap = f.heap; argument = f.argument; value = f.value; cost = f.cost }
+with_program p f = record f { program = p }
+
+abbrev pub with_certificate : List ℕ → Found → Found
+with_certificate bytes f = record f { certificate = bytes }
+
+abbrev pub with_cert : Cert → Found → Found
+with_cert cert f = record f { cert = cert }
 
 abbrev pub with_entry : ℕ → Found → Found
-with_entry at f = record { source = f.source; program = f.program; at = at; heap = f.heap; argument = f.argument; value = f.value; cost = f.cost }
+with_entry at f = record f { at = at }
 
 abbrev pub with_heap : List ℕ → Found → Found
-with_heap bytes f = record { source = f.source; program = f.program; at = f.at; heap = bytes; argument = f.argument; value = f.value; cost = f.cost }
+with_heap bytes f = record f { heap = bytes }
 
 abbrev pub with_argument : ℕ → Found → Found
-with_argument n f = record { source = f.source; program = f.program; at = f.at; heap = f.heap; argument = n; value = f.value; cost = f.cost }
+with_argument n f = record f { argument = n }
 
 abbrev pub with_value : ℕ → ℕ → Found → Found
-with_value value cost f = record { source = f.source; program = f.program; at = f.at; heap = f.heap; argument = f.argument; value = value; cost = cost }
+with_value value cost f = record f { value = value; cost = cost }
 
 -- the kernel of the program
 abbrev pub functions : Found → List Function
 functions f = functions_of f.program
 
--- no source has more bytes, and no heap file
+-- no source has more bytes, no certificate, and no heap file
 abbrev pub source_limit : ℕ
 source_limit = 1048576
+
+abbrev pub certificate_limit : ℕ
+certificate_limit = 67108864
 
 abbrev pub heap_limit : ℕ
 heap_limit = 16777216
 
--- the limits, and what each bounds; those of instances, cores and certificates join with the steps that make them
+-- the limits, and what each bounds; those of instances and cores join with the steps that make them
 abbrev pub bound : Limit → ℕ
 bound Source = source_limit
 bound Nesting = depth_limit
@@ -63,7 +76,7 @@ bound Depth = term_limit
 bound Instances = 4096
 bound Core = 1048576
 bound Heap = heap_limit
-bound Certificate = 67108864
+bound Certificate = certificate_limit
 
 abbrev pub quantity : Limit → Found → ℕ
 quantity Source f = length f.source
@@ -75,4 +88,4 @@ quantity Depth f = deepest_body (functions f)
 quantity Instances f = 0
 quantity Core f = 0
 quantity Heap f = length f.heap
-quantity Certificate f = 0
+quantity Certificate f = length f.certificate

@@ -1,6 +1,9 @@
 -- What the checker's answer and the parts of a run say, as the code has them.
-use Rattle.std.specs.Prelude.{◌≡◌, ℕ, ◌<◌, ◌≤◌, ◌^◌, true, List, length, map, Some}
+use Rattle.std.specs.Prelude.{◌≡◌, ℕ, ◌<◌, ◌≤◌, ◌^◌, true, List, [], ◌∷◌, length, map, Some}
+use Rattle.cg_cert.specs.declared.cert.Cert.{Cert}
+use Rattle.cg_cert.specs.Texts.{CertText}
 use Rattle.cg_check.specs.Judged.{AreTypesWithin}
+use Rattle.cg_core.specs.declared.kernel.Kernel.{Kernel}
 use Rattle.cg_core.specs.Kernels.{Function, kernel_of}
 use Rattle.cg_desugar.specs.Desugar.{functions_of, functions_limit, NamesStand, WithinLimits}
 use Rattle.cg_desugar.specs.Faults.{program_faults}
@@ -8,6 +11,7 @@ use Rattle.cg_desugar.specs.Order.{AreOrdered, AreGrowing}
 use Rattle.cg_desugar.specs.Takes.{missing_fields}
 use Rattle.cg_eval.specs.Plain.{plain_kernel}
 use Rattle.cg_heaptext.specs.HeapText.{HeapText}
+use Rattle.cg_lawful.specs.Lawful.{IsLawfulKernel}
 use Rattle.cg_steps.specs.declared.status.Status.{Status}
 use Rattle.cg_steps.specs.Steps.{refuses, Settles}
 use Rattle.cg_surface.specs.Programs.{Entry}
@@ -15,9 +19,9 @@ use Rattle.cg_typing.specs.Accepted.{IsAcceptedKernel}
 use Rattle.cg_typing.specs.declared.checked.Checked.{Checked}
 use Rattle.cg_typing.specs.Holds.{kernel_in, cores_in}
 use Rattle.cg_typing.specs.Kept.{maybe_core}
-use Rattle.cg_driver.specs.Accepted.{IsAcceptedSource}
-use Rattle.cg_driver.specs.Commands.{Judges, kernel_rules, program_rules, source_rules, entry_rules, heap_rules, entry_at}
-use Rattle.cg_driver.specs.Found.{Found, functions, heap_limit}
+use Rattle.cg_driver.specs.Accepted.{HasKernel, IsAcceptedSource}
+use Rattle.cg_driver.specs.Commands.{Judges, certified, kernel_rules, resolving_rules, reading_rules, source_rules, text_rules, entry_rules, heap_rules, entry_at}
+use Rattle.cg_driver.specs.Found.{Found, functions, source_limit, certificate_limit, heap_limit}
 use Rattle.cg_driver.specs.Run.{AreCores}
 
 -- the functions of a checked source
@@ -35,11 +39,20 @@ pub record IsCheckedKernel (functions : List Function) (checked : Checked) : Typ
   pub same : functions_in checked ≡ functions
   pub cores : HoldsCores checked
 
--- a program has a kernel, which is accepted within the limits, and kept so
-pub record IsCheckedProgram (p : List Entry) (checked : Checked) : Type 0 where
+-- a program has its names in order and is within the limits, and this is its kernel
+pub record IsKernelOf (p : List Entry) (kernel : Kernel) : Type 0 where
   pub names : NamesStand p
   pub limits : WithinLimits p
-  pub kernel : IsCheckedKernel (functions_of p) checked
+  pub same : kernel_of kernel ≡ functions_of p
+  pub lawful : IsLawfulKernel (kernel_of kernel)
+
+-- a source within the limits has this kernel
+pub record IsReadSource (source : List ℕ) (kernel : Kernel) : Type 0 where
+  pub program : List Entry
+  pub short : length source ≤ source_limit
+  pub resolved : HasKernel source program
+  pub same : kernel_of kernel ≡ functions_of program
+  pub lawful : IsLawfulKernel (kernel_of kernel)
 
 -- a source is accepted, and its kernel is kept so, which has few functions
 pub record IsCheckedSource (source : List ℕ) (checked : Checked) : Type 0 where
@@ -53,6 +66,11 @@ pub record Keeps (checked : Checked) (found : Found) : Type 0 where
   pub cores : HoldsCores checked
   pub few : length (functions_in checked) ≤ functions_limit
 
+-- a state's functions are those of this kernel
+pub record KeepsKernel (kernel : Kernel) (found : Found) : Type 0 where
+  pub same : functions found ≡ kernel_of kernel
+  pub lawful : IsLawfulKernel (kernel_of kernel)
+
 -- the same, and the entry stands at this position in plain functions
 pub record KeepsEntry (checked : Checked) (at : ℕ) (found : Found) : Type 0 where
   pub kept : Keeps checked found
@@ -60,22 +78,38 @@ pub record KeepsEntry (checked : Checked) (at : ℕ) (found : Found) : Type 0 wh
   pub plain : plain_kernel (functions_in checked) ≡ true
   pub there : at < length (functions_in checked)
 
--- what the rules say of a kernel, a program, a source, an entry and the bytes of a heap file that they refuse
+-- what the rules say of a kernel, a program, a source, the bytes of a certificate file, a certificate, an entry and the bytes of a heap file
+-- that they refuse
 abbrev pub RefusesKernel : List ℕ → List Function → Status → List ℕ → Type 0
 RefusesKernel file fs status text = (found : Found) → functions found ≡ fs → Settles Judges (kernel_rules file) found (refuses status text)
 
 abbrev pub RefusesProgram : List ℕ → List Entry → Status → List ℕ → Type 0
 RefusesProgram file p status text =
-    AreOrdered (program_faults p) → AreGrowing (missing_fields p) → (found : Found) → found.program ≡ p → Settles Judges (program_rules file) found (refuses status text)
+    AreOrdered (program_faults p) → AreGrowing (missing_fields p) → (found : Found) → found.program ≡ p → Settles Judges (resolving_rules file) found (refuses status text)
+
+abbrev pub RefusesReading : List ℕ → List ℕ → Status → List ℕ → Type 0
+RefusesReading file source status text = (found : Found) → found.source ≡ source → Settles Judges (reading_rules file) found (refuses status text)
 
 abbrev pub RefusesSource : List ℕ → List ℕ → Status → List ℕ → Type 0
 RefusesSource file source status text = (found : Found) → found.source ≡ source → Settles Judges (source_rules file) found (refuses status text)
+
+abbrev pub RefusesText : List ℕ → List ℕ → Status → List ℕ → Type 0
+RefusesText certificate bytes status text = (found : Found) → found.certificate ≡ bytes → Settles Judges (text_rules certificate) found (refuses status text)
+
+abbrev pub RefusesCert : List ℕ → List Function → Cert → Status → List ℕ → Type 0
+RefusesCert certificate fs cert status text =
+    (found : Found) → functions found ≡ fs → found.cert ≡ cert → Settles Judges (certified certificate ∷ []) found (refuses status text)
 
 abbrev pub RefusesEntry : List ℕ → List ℕ → List Function → Status → List ℕ → Type 0
 RefusesEntry file entry fs status text = (found : Found) → functions found ≡ fs → Settles Judges (entry_rules file entry) found (refuses status text)
 
 abbrev pub RefusesBytes : List ℕ → List ℕ → Status → List ℕ → Type 0
 RefusesBytes heap bytes status text = (found : Found) → found.heap ≡ bytes → Settles Judges (heap_rules heap) found (refuses status text)
+
+-- a certificate file within its limit holds the text of this certificate
+pub record IsCertificate (bytes : List ℕ) (cert : Cert) : Type 0 where
+  pub brief : length bytes ≤ certificate_limit
+  pub written : CertText bytes cert
 
 -- the entry of a plain source
 pub record IsEntry (entry : List ℕ) (functions : List Function) (at : ℕ) : Type 0 where

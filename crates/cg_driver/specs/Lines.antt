@@ -13,7 +13,7 @@ use Rattle.cg_value.specs.Values.{Val}
 
 -- the usage text
 abbrev pub usage_text : List ℕ
-usage_text = codes "usage: cogent check FILE\n       cogent run FILE ENTRY HEAPFILE [--steps N]\n"
+usage_text = codes "usage: cogent check FILE\n       cogent recheck FILE CERTFILE\n       cogent run FILE ENTRY HEAPFILE [--steps N]\n"
 
 -- what `check` prints of an accepted source: how many functions have a definition
 abbrev pub ok_line : List Function → List ℕ
@@ -55,6 +55,17 @@ rule_name T14 = codes "T14"
 
 abbrev pub rule_line : Rule → List ℕ
 rule_line r = rule_name r ++ codes " " ++ text_of r
+
+-- what `recheck` prints of a certificate that spells a derivation
+abbrev pub rechecked_line : List ℕ
+rechecked_line = codes "ok\n"
+
+-- the refusals of a certificate: at a byte of its text, and at a node by a rule
+abbrev pub byte_line : List ℕ → ℕ → List ℕ
+byte_line certificate byte = certificate ++ codes ": C1 at byte " ++ decimal byte ++ codes "\n"
+
+abbrev pub node_line : List ℕ → List ℕ → ℕ → List ℕ
+node_line certificate rule node = certificate ++ codes ": " ++ rule ++ codes " at node " ++ decimal node ++ codes "\n"
 
 -- the refusals, with the name of the file
 abbrev pub not_built_line : List ℕ → List ℕ

@@ -8,7 +8,7 @@ ghost use Rattle.cg_resolve.specs.Answers.{Answers as Resolves};
 ghost use Rattle.cg_parser.specs.Answers.{Answers as Parses};
 ghost use Rattle.cg_steps.specs.Parts.{Reports, Steps};
 ghost use Rattle.cg_driver.specs.Found.{source_limit};
-ghost use Rattle.cg_driver.specs.Judged.{IsCheckedKernel, IsCheckedProgram, IsCheckedSource, RefusesKernel, RefusesProgram, RefusesSource};
+ghost use Rattle.cg_driver.specs.Judged.{IsCheckedKernel, IsCheckedSource, IsKernelOf, IsReadSource, RefusesKernel, RefusesProgram, RefusesReading, RefusesSource};
 
 use crate::lines::{beyond, broken, fault, limit_name};
 use cg_base::Memory;
@@ -52,20 +52,20 @@ fn not_resolved(alloc: Global, file: &str, found: Fault) -> Result<Report, Memor
     }
 }
 
-/// Judges a program: its names, what is written in it, and then its kernel.
-fn judge_program(alloc: Global, file: &str, program: &Program) -> Result<Step<Checked>, Memory>
+/// Judges a program's names and what is written in it: its kernel.
+fn read_program(alloc: Global, file: &str, program: &Program) -> Result<Step<Kernel>, Memory>
     requires { IsShaped (program_of program.now) }
-    ensures { IfOk result (Steps (IsCheckedProgram (program_of program.now)) (RefusesProgram file.now (program_of program.now))) }
+    ensures { IfOk result (Steps (IsKernelOf (program_of program.now)) (RefusesProgram file.now (program_of program.now))) }
 {
     match resolve(alloc, program) {
-        Ok(kernel) => judge_kernel(alloc, file, kernel),
+        Ok(kernel) => Ok(Step::Goes(kernel)),
         Err(found) => Ok(Step::Ends(not_resolved(alloc, file, found)?)),
     }
 }
 
 /// What is said where parsing finds no program within the depth.
 fn not_read(alloc: Global, file: &str, found: ParseFault) -> Result<Report, Memory>
-    ensures { (source : List ℕ) → length source ≤ source_limit → Parses source (Err found) → IfOk result (Reports (RefusesSource file.now source)) }
+    ensures { (source : List ℕ) → length source ≤ source_limit → Parses source (Err found) → IfOk result (Reports (RefusesReading file.now source)) }
 {
     match found {
         ParseFault::S1(place) => fault(alloc, file, place, "S1 unknown byte"),
@@ -77,15 +77,27 @@ fn not_read(alloc: Global, file: &str, found: ParseFault) -> Result<Report, Memo
     }
 }
 
-/// Judges a source: its size, the program that it spells, its depth, and then that program.
-pub(crate) fn judge(alloc: Global, file: &str, source: &[u8]) -> Result<Step<Checked>, Memory>
-    ensures { IfOk result (Steps (IsCheckedSource source.now) (RefusesSource file.now source.now)) }
+/// Reads a source up to its kernel: its size, the program that it spells, its depth, and then that program's names and what is written
+/// in it.
+pub(crate) fn read_source(alloc: Global, file: &str, source: &[u8]) -> Result<Step<Kernel>, Memory>
+    ensures { IfOk result (Steps (IsReadSource source.now) (RefusesReading file.now source.now)) }
 {
     if source.len() > SOURCE_LIMIT {
         return Ok(Step::Ends(beyond(alloc, "source")?));
     }
     match parse(alloc, source) {
-        Ok(program) => judge_program(alloc, file, &program),
+        Ok(program) => read_program(alloc, file, &program),
         Err(fault) => Ok(Step::Ends(not_read(alloc, file, fault)?)),
+    }
+}
+
+/// Judges a source: reads its kernel, and judges that by the typing rules.
+pub(crate) fn judge(alloc: Global, file: &str, source: &[u8]) -> Result<Step<Checked>, Memory>
+    ensures { IfOk result (Steps (IsCheckedSource source.now) (RefusesSource file.now source.now)) }
+{
+    match read_source(alloc, file, source) {
+        Err(_) => Err(Memory),
+        Ok(Step::Ends(report)) => Ok(Step::Ends(report)),
+        Ok(Step::Goes(kernel)) => judge_kernel(alloc, file, kernel),
     }
 }

@@ -8,9 +8,9 @@ ghost use Rattle.cg_outside.specs.Memory.{honest_held, honest_taken};
 ghost use Rattle.cg_steps.specs.World.{world};
 ghost use Rattle.cg_steps.specs.Steps.{Outcome, WritesNone};
 ghost use Rattle.cg_steps.specs.Scripts.{Answers, ComesTo, Decides};
-ghost use Rattle.cg_words.specs.Words.{Command, check};
-ghost use Rattle.cg_driver.specs.Accepted.{IsAcceptedSource};
-ghost use Rattle.cg_driver.specs.Commands.{Judgement, typed, Judges, script_of, asked};
+ghost use Rattle.cg_words.specs.Words.{Command, check, recheck};
+ghost use Rattle.cg_driver.specs.Accepted.{IsAcceptedSource, IsCertifiedSource, PrintedIsCertified};
+ghost use Rattle.cg_driver.specs.Commands.{Judgement, certified, typed, Judges, script_of, asked};
 ghost use Rattle.cg_driver.specs.Found.{Found, functions as functions_found};
 
 use crate::{Status, cogent};
@@ -53,6 +53,11 @@ pub fn typing_decides()
     ensures { (file : List ℕ) (found : Found) → IsLawfulKernel (functions_found found) → (outcome : Outcome Found) × Judges (typed file) found outcome }
 {}
 
+/// The judgement of a certificate comes to an outcome of each state whose kernel is lawful.
+pub fn certificates_decide()
+    ensures { (certificate : List ℕ) (found : Found) → IsLawfulKernel (functions_found found) → (outcome : Outcome Found) × Judges (certified certificate) found outcome }
+{}
+
 /// What a command prints at status 0 of what its steps found is one text.
 pub fn one_text()
     ensures { (command : Option Command) (found : Found) (a b : List ℕ) → (script_of command).line found a → (script_of command).line found b → a ≡ b }
@@ -68,4 +73,16 @@ pub fn no_command_writes()
 pub fn status_0_is_acceptance()
     ensures { (held : Held) (file : List ℕ) → ComesTo Judges (script_of (Some (check file))) held Status.Done
         ↔ ((functions : List Function) × IsAcceptedSource (bytes_at held file) functions) }
+{}
+
+/// The steps of `recheck` come to status 0 over exactly the files whose certificate spells a derivation of the source, with any splits,
+/// and where all is within the limits.
+pub fn status_0_is_a_derivation()
+    ensures { (held : Held) (file certificate : List ℕ) → ComesTo Judges (script_of (Some (recheck file certificate))) held Status.Done
+        ↔ IsCertifiedSource (bytes_at held file) (bytes_at held certificate) }
+{}
+
+/// What `cg_cert`'s `print_cert` prints of a source that `check` keeps is such a certificate of it, where it is within the limit.
+pub fn printed_is_certified()
+    ensures { PrintedIsCertified }
 {}

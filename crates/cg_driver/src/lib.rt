@@ -9,10 +9,12 @@ mod judge;
 mod law;
 mod lines;
 mod plan;
+mod recheck;
 mod run;
 
 pub use call::cogent;
 pub use cg_steps::Status;
 pub use law::{
-    honest_cogent, no_command_writes, one_outcome, one_text, status_0_is_acceptance, typing_decides,
+    certificates_decide, honest_cogent, no_command_writes, one_outcome, one_text,
+    printed_is_certified, status_0_is_a_derivation, status_0_is_acceptance, typing_decides,
 };

@@ -19,7 +19,7 @@ pub(crate) fn usage(alloc: Global) -> Result<Report, Memory>
         status: Status::Usage,
         text: String::from_str(
             alloc,
-            "usage: cogent check FILE\n       cogent run FILE ENTRY HEAPFILE [--steps N]\n",
+            "usage: cogent check FILE\n       cogent recheck FILE CERTFILE\n       cogent run FILE ENTRY HEAPFILE [--steps N]\n",
         )?,
     })
 }
@@ -174,6 +174,41 @@ pub(crate) fn accepted(alloc: Global, functions: &[KFun]) -> Result<Report, Memo
     Ok(Report {
         status: Status::Done,
         text: format!(in alloc; "ok: {count} functions\n")?,
+    })
+}
+
+/// The line of a certificate that spells a derivation.
+pub(crate) fn rechecked(alloc: Global) -> Result<Report, Memory>
+    ensures { IfOk result (λ r. IsLine Status.Done lines.rechecked_line r) }
+{
+    Ok(Report {
+        status: Status::Done,
+        text: String::from_str(alloc, "ok\n")?,
+    })
+}
+
+/// The refusal of a certificate at a byte of its text.
+pub(crate) fn wrong_byte(alloc: Global, certificate: &str, byte: usize) -> Result<Report, Memory>
+    ensures { IfOk result (λ r. IsLine Status.CertRefused (lines.byte_line certificate.now byte) r) }
+{
+    Ok(Report {
+        status: Status::CertRefused,
+        text: format!(in alloc; "{certificate}: C1 at byte {byte}\n")?,
+    })
+}
+
+/// The refusal of a certificate at a node, by a rule.
+pub(crate) fn wrong_node(
+    alloc: Global,
+    certificate: &str,
+    rule: &str,
+    node: u64,
+) -> Result<Report, Memory>
+    ensures { IfOk result (λ r. IsLine Status.CertRefused (lines.node_line certificate.now rule.now node) r) }
+{
+    Ok(Report {
+        status: Status::CertRefused,
+        text: format!(in alloc; "{certificate}: {rule} at node {node}\n")?,
     })
 }
 

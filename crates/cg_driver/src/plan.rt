@@ -5,6 +5,7 @@ ghost use Rattle.cg_driver.specs.Commands.{Judges, asked as script_asked};
 
 use crate::check::check_file;
 use crate::lines::usage;
+use crate::recheck::recheck_file;
 use crate::run::{Asked, run_file};
 use cg_base::Memory;
 use cg_outside::Files;
@@ -26,6 +27,9 @@ pub(crate) fn plan<F: Files>(
         Err(_) => Err(Memory),
         Ok(None) => usage(alloc),
         Ok(Some(Command::Check { file })) => check_file(alloc, file, files),
+        Ok(Some(Command::Recheck { file, certificate })) => {
+            recheck_file(alloc, file, certificate, files)
+        }
         Ok(
             Some(
                 Command::Run {

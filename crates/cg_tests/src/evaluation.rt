@@ -2,57 +2,22 @@
 ghost use Rattle.std.specs.Prelude.{IfOk, IsTrue};
 ghost use Rattle.cg_core.specs.Kernels.{kernel_of};
 ghost use Rattle.cg_ctree.specs.Trees.{program_of as c_program_of};
-ghost use Rattle.cg_lawful.specs.Lawful.{IsLawfulKernel};
-ghost use Rattle.cg_lawful_laws.specs.Shaped.{IsShaped};
-ghost use Rattle.cg_surface.specs.Programs.{program_of};
 ghost use Rattle.cg_eval.specs.Plain.{plain_kernel};
 ghost use Rattle.cg_lower.specs.Printables.{CanBePrinted};
 ghost use Rattle.cg_typing.specs.Holds.{kernel_in};
 
+use crate::sources::checked_source;
 use cg_base::{Items, Name, Ty, Word};
-use cg_check::check;
 use cg_cmachine::{RunFault, run_words};
-use cg_core::Kernel;
 use cg_ctext::print_c;
 use cg_ctree::CProgram;
 use cg_eval::{EvalFault, eval, is_plain};
 use cg_lower::{lower, lower_function};
-use cg_parser::parse;
-use cg_resolve::resolve;
-use cg_surface::Program;
 use cg_typing::Checked;
 use cg_value::{Value, print_value};
 use std::alloc::Global;
 use std::process::Abort;
 use std::test::Fail;
-
-/// A kernel, checked.
-fn checked_kernel(rt: &impl Abort, alloc: Global, kernel: Kernel) -> Result<Checked, Fail>
-    requires { IsLawfulKernel (kernel_of kernel) }
-{
-    match check(alloc, kernel) {
-        Ok(checked) => Ok(checked),
-        Err(_) => panic!(rt; "not accepted"),
-    }
-}
-
-/// A program, resolved and checked.
-fn checked_program(rt: &impl Abort, alloc: Global, program: &Program) -> Result<Checked, Fail>
-    requires { IsShaped (program_of program.now) }
-{
-    match resolve(alloc, program) {
-        Ok(kernel) => checked_kernel(rt, alloc, kernel),
-        Err(_) => panic!(rt; "a name is at fault, or a limit is passed"),
-    }
-}
-
-// A source, read, resolved and checked.
-fn checked_source(rt: &impl Abort, alloc: Global, source: &str) -> Result<Checked, Fail> {
-    match parse(alloc, source.as_bytes()) {
-        Ok(program) => checked_program(rt, alloc, &program),
-        Err(_) => panic!(rt; "not spelled"),
-    }
-}
 
 /// Evaluates a function of a plain source on a word, and compares the value and its cost, or that there is none within
 /// these steps.

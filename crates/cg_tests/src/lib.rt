@@ -5,6 +5,8 @@
 #[cfg(test)]
 mod calls;
 #[cfg(test)]
+mod certificates;
+#[cfg(test)]
 mod evaluation;
 #[cfg(test)]
 mod orders;
@@ -12,3 +14,5 @@ mod orders;
 mod outside;
 #[cfg(test)]
 mod reading;
+#[cfg(test)]
+mod sources;

@@ -2,9 +2,9 @@
 use Rattle.std.proofs.Common.{◌≡◌, ◌∙◌, true, false, true≢false, refl, sym, ap, ap₂, List, [], ◌∷◌, Option, Some, None, option_map, codes}
 use Rattle.clap.specs.Words.{Row, Rule, Text, first_of}
 use Rattle.clap.specs.Simple.{built_leaf, inherited}
-use Rattle.cg_words.specs.Apps.{bare_app, check_app, run_app}
-use Rattle.cg_words.specs.Matches.{check_in, run_by, run_in}
-use Rattle.cg_words.specs.Words.{check, check_names, run_names}
+use Rattle.cg_words.specs.Apps.{bare_app, check_app, recheck_app, run_app}
+use Rattle.cg_words.specs.Matches.{check_in, recheck_by, recheck_in, run_by, run_in}
+use Rattle.cg_words.specs.Words.{check, check_names, recheck_names, run_names}
 use Rattle.cg_words.proofs.Rows.{Slot, value_in}
 use Rattle.cg_words.proofs.Rules.{Allowed, Expects, Given, IsLeaf, as_many, listed}
 
@@ -44,6 +44,48 @@ check_expects = record {
   reads = λ rows vs n a k g e. check_reads rows vs n a g;
   wrong = check_wrong;
   twice = check_twice;
+}
+
+-- ---- `recheck FILE CERTFILE`
+
+abbrev pub recheck_rules : List Rule
+recheck_rules = (built_leaf (inherited bare_app.top recheck_app.top)).rules
+
+pub recheck_is_leaf : IsLeaf false recheck_rules
+recheck_is_leaf = record { steps_long = λ e. no_steps e; steps_id = λ e. no_steps e; other = λ name e. refl; short = λ x. refl; bare = refl }
+
+abbrev recheck_ids : List Text
+recheck_ids = codes "file" ∷ codes "certificate" ∷ []
+
+recheck_reads : (rows : List Row) (vs : List Text) (n : Option Text) → Allowed false n → Given rows recheck_ids vs → recheck_in rows ≡ recheck_names vs (listed n)
+recheck_reads rows [] n a g = absurd g
+recheck_reads rows (file ∷ []) n a g = absurd g.1
+recheck_reads rows (file ∷ certificate ∷ []) None a g =
+    ap₂ recheck_by (value_in (codes "file") (Some file) rows g.0) (value_in (codes "certificate") (Some certificate) rows g.1.0)
+recheck_reads rows (file ∷ certificate ∷ []) (Some s) a g = no_steps a
+recheck_reads rows (file ∷ certificate ∷ v ∷ vs) n a g = absurd g.1.1
+
+recheck_wrong : (names values : List Text) → as_many recheck_ids names ≡ false → recheck_names names values ≡ None
+recheck_wrong [] values e = refl
+recheck_wrong (file ∷ []) values e = refl
+recheck_wrong (file ∷ certificate ∷ []) values e = absurd (true≢false e)
+recheck_wrong (file ∷ certificate ∷ v ∷ names) values e = refl
+
+recheck_twice : (names : List Text) (a b : Text) (values : List Text) → recheck_names names (a ∷ b ∷ values) ≡ None
+recheck_twice [] a b values = refl
+recheck_twice (file ∷ []) a b values = refl
+recheck_twice (file ∷ certificate ∷ []) a b values = refl
+recheck_twice (file ∷ certificate ∷ v ∷ names) a b values = refl
+
+pub recheck_expects : Expects false recheck_rules recheck_in recheck_ids 1 recheck_names []
+recheck_expects = record {
+  numbered = (refl, refl, (refl, refl, refl));
+  apart = refl;
+  no_steps = refl;
+  lacks = λ rows k. refl;
+  reads = λ rows vs n a k g e. recheck_reads rows vs n a g;
+  wrong = recheck_wrong;
+  twice = recheck_twice;
 }
 
 -- ---- `run FILE ENTRY HEAPFILE [--steps N]`

@@ -17,6 +17,9 @@ named word ids = record (new_app word) { top = record (new_app word).top { rules
 abbrev pub check_app : App
 check_app = named (codes "check") (codes "file" ∷ [])
 
+abbrev pub recheck_app : App
+recheck_app = named (codes "recheck") (codes "file" ∷ codes "certificate" ∷ [])
+
 abbrev pub run_app : App
 run_app = with_rule (named (codes "run") (codes "file" ∷ codes "entry" ∷ codes "heap" ∷ [])) steps_rule
 
@@ -33,4 +36,4 @@ bare_app = record (new_app (codes "cogent")) {
 }
 
 abbrev pub cogent_app : App
-cogent_app = with_subcommand (with_subcommand bare_app check_app.top) run_app.top
+cogent_app = with_subcommand (with_subcommand (with_subcommand bare_app check_app.top) recheck_app.top) run_app.top

@@ -10,9 +10,11 @@ use Rattle.cg_base.specs.Numbers.{literal_of}
 abbrev pub texts : List (String Global) → List (List ℕ)
 texts words = map string_bytes words
 
--- a command: `check` of a file; `run` of a file, an entry and a heap file, with the number of steps at most
+-- a command: `check` of a file; `recheck` of a file and a certificate; `run` of a file, an entry and a heap file, with the number of steps at
+-- most
 pub data Command : Type 0 where
   check : List ℕ → Command
+  recheck : List ℕ → List ℕ → Command
   run : List ℕ → List ℕ → List ℕ → ℕ → Command
 
 -- the steps where none are asked for
@@ -79,6 +81,11 @@ abbrev pub check_names : List (List ℕ) → List (List ℕ) → Option Command
 check_names (file ∷ []) [] = Some (check file)
 check_names _ _ = None
 
+-- `recheck FILE CERTFILE`
+abbrev pub recheck_names : List (List ℕ) → List (List ℕ) → Option Command
+recheck_names (file ∷ certificate ∷ []) [] = Some (recheck file certificate)
+recheck_names _ _ = None
+
 -- `run FILE ENTRY HEAPFILE [--steps N]`
 abbrev pub run_names : List (List ℕ) → List (List ℕ) → Option Command
 run_names (file ∷ entry ∷ heap ∷ []) [] = Some (run file entry heap default_steps)
@@ -95,6 +102,7 @@ abbrev pub command_of : List (List ℕ) → Option Command
 command_of [] = None
 command_of (word ∷ rest) =
     if bytes_eq (codes "check") word then called check_names (sorted false false rest)
+    else if bytes_eq (codes "recheck") word then called recheck_names (sorted false false rest)
     else if bytes_eq (codes "run") word then called run_names (sorted true false rest)
     else None
 
@@ -102,4 +110,5 @@ command_of (word ∷ rest) =
 abbrev pub HasFewSteps : Option Command → Type 0
 HasFewSteps None = ⊤
 HasFewSteps (Some (check file)) = ⊤
+HasFewSteps (Some (recheck file certificate)) = ⊤
 HasFewSteps (Some (run file entry heap steps)) = steps ≤ 2 ^ 40

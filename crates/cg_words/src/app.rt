@@ -55,5 +55,6 @@ pub(crate) fn cogent<'a>(alloc: Global) -> Result<Command<'a>, AllocError>
 {
     bare(alloc)
         .subcommand(command(alloc, "check", &["file"])?)?
+        .subcommand(command(alloc, "recheck", &["file", "certificate"])?)?
         .subcommand(run(alloc)?)
 }

@@ -3,7 +3,7 @@ ghost use Rattle.std.specs.Prelude.{◌≡◌, IfOk};
 ghost use Rattle.std.specs.Option.{option_map};
 ghost use Rattle.clap.specs.Words.{fault_of, first_of, found_of, rows_of, subcommand_of};
 ghost use Rattle.cg_words.specs.Apps.{cogent_app};
-ghost use Rattle.cg_words.specs.Matches.{check_in, command_from, command_in, run_in};
+ghost use Rattle.cg_words.specs.Matches.{check_in, command_from, command_in, recheck_in, run_in};
 ghost use Rattle.cg_words.specs.Views.{command_view};
 ghost use Rattle.cg_words.specs.Words.{command_of, texts, HasFewSteps};
 
@@ -17,11 +17,15 @@ use std::alloc::Global;
 /// The number of steps where none is asked for.
 const DEFAULT_STEPS: u64 = 10_000_000;
 
-/// A command: `check FILE`, or `run FILE ENTRY HEAPFILE [--steps N]` (docs/LANGUAGE.md, "Commands").
+/// A command: `check FILE`, `recheck FILE CERTFILE`, or `run FILE ENTRY HEAPFILE [--steps N]` (docs/LANGUAGE.md, "Commands").
 #[derive(Clone, Copy)]
 pub enum Command<'a> {
     Check {
         file: &'a str,
+    },
+    Recheck {
+        file: &'a str,
+        certificate: &'a str,
     },
     Run {
         file: &'a str,
@@ -46,6 +50,17 @@ fn read_check<'a>(matches: &ArgMatches<'a>) -> Option<Command<'a>>
         Some(file) => Some(Command::Check { file }),
         None => None,
     }
+}
+
+/// `recheck`, by what clap found.
+fn read_recheck<'a>(matches: &ArgMatches<'a>) -> Option<Command<'a>>
+    ensures { option_map command_view result ≡ recheck_in (rows_of (found_of matches.now)) }
+{
+    let names = (text_of(matches, "file"), text_of(matches, "certificate"));
+    let (Some(file), Some(certificate)) = names else {
+        return None;
+    };
+    Some(Command::Recheck { file, certificate })
 }
 
 /// `run`, by what clap found.
@@ -78,6 +93,8 @@ fn read<'a>(name: &str, matches: &ArgMatches<'a>) -> Option<Command<'a>>
 {
     if name == "check" {
         read_check(matches)
+    } else if name == "recheck" {
+        read_recheck(matches)
     } else {
         read_run(matches)
     }
