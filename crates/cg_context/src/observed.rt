@@ -1,5 +1,5 @@
 // What a `let!` observes.
-#![tactic(auto, using(crate::proofs::TestSteps::test_steps))]
+#![tactic(auto)]
 
 ghost use Rattle.std.specs.Prelude.{◌≡◌, ◌||◌, IfOk, map};
 ghost use Rattle.cg_context.specs.Observed.{see, with_flags};
@@ -28,6 +28,7 @@ fn or_before(seen: &Vec<Option<Place>>, at: usize, observed: bool) -> bool
 }
 
 // A flag; none past the end is raised.
+#[tactic(auto, using(crate::proofs::TestSteps::test_steps))]
 fn flag_at(flags: &Vec<bool>, at: usize) -> bool
     ensures { result ≡ tables.flag_at flags.now.items at }
 {

@@ -1,10 +1,12 @@
 // The part of a type that a node names, with the tests on it in their order.
 #![tactic(auto)]
 
+ghost use Rattle.std.specs.Option.{option_copied};
 ghost use Rattle.std.specs.Prelude.{◌≡◌, Ok, not};
 ghost use Rattle.cg_base.specs.Types.{type_of};
 ghost use Rattle.cg_check_laws.specs.Pass.{need as need_of};
 ghost use Rattle.cg_context.specs.View.{Agrees, itself};
+ghost use Rattle.cg_parts.specs.Views.{piece_at};
 ghost use Rattle.cg_pieces.specs.View.{bounds_of};
 ghost use Rattle.cg_faults.specs.declared.rule.Rule.TheVariants.{K6, K7, T1, T5, T6, T7, T8, T9, T10};
 ghost use Rattle.cg_typing.specs.Contexts.{shares};
@@ -12,7 +14,7 @@ ghost use Rattle.cg_typing.specs.Parts as parts;
 
 use crate::source::Source;
 use crate::stop::Stop;
-use cg_base::{Name, Place, Ty};
+use cg_base::{Name, Part, Place, Ty};
 use cg_core::At;
 use cg_faults::Rule;
 use cg_kinds::kinds_of;
@@ -32,6 +34,16 @@ pub fn need(rule: Rule, place: Place, holds: bool) -> Result<(), Stop>
     }
 }
 
+// The type of a part, or unit where there is none; want of memory stops the pass.
+fn type_held(source: &Source, part: Option<&Part>) -> Result<Ty, Stop>
+    ensures { Agrees type_of result (Ok (parts.held (piece_at (option_copied part.entry)))) }
+{
+    match held(source.alloc, part) {
+        Ok(ty) => Ok(ty),
+        Err(memory) => Err(memory.into()),
+    }
+}
+
 /// What an alternative holds, which is there (T8) and not handled yet (T10).
 pub fn alternative_type(source: &Source, at: &At, ty: &Ty) -> Result<Ty, Stop>
     ensures { Agrees type_of result (need_of T8 at.now.place (parts.is_there (parts.alternative_in at.now.name (type_of ty.now)))
@@ -39,9 +51,13 @@ pub fn alternative_type(source: &Source, at: &At, ty: &Ty) -> Result<Ty, Stop>
         (Ok (parts.held (parts.alternative_in at.now.name (type_of ty.now)))))) }
 {
     let part = alternative_in(&at.name, ty);
-    need(Rule::T8, at.place, is_there(part))?;
-    need(Rule::T10, at.place, is_left(part))?;
-    Ok(held(source.alloc, part)?)
+    if !is_there(part) {
+        return Err(Stop::Rule(Rule::T8, at.place));
+    }
+    if !is_left(part) {
+        return Err(Stop::Rule(Rule::T10, at.place));
+    }
+    type_held(source, part)
 }
 
 /// What the last alternative holds, which is there (T8), not handled yet (T10), and the only one left (T9).
@@ -52,10 +68,16 @@ pub fn last_type(source: &Source, at: &At, ty: &Ty) -> Result<Ty, Stop>
         (Ok (parts.held (parts.alternative_in at.now.name (type_of ty.now))))))) }
 {
     let part = alternative_in(&at.name, ty);
-    need(Rule::T8, at.place, is_there(part))?;
-    need(Rule::T10, at.place, is_left(part))?;
-    need(Rule::T9, at.place, is_last(&at.name, ty))?;
-    Ok(held(source.alloc, part)?)
+    if !is_there(part) {
+        return Err(Stop::Rule(Rule::T8, at.place));
+    }
+    if !is_left(part) {
+        return Err(Stop::Rule(Rule::T10, at.place));
+    }
+    if !is_last(&at.name, ty) {
+        return Err(Stop::Rule(Rule::T9, at.place));
+    }
+    type_held(source, part)
 }
 
 /// What a field holds that is read as a member: it is there (T5) and left (T6), and the record may be shared (K6).
@@ -66,10 +88,16 @@ pub fn member_type(source: &Source, at: &At, ty: &Ty) -> Result<Ty, Stop>
         (Ok (parts.held (parts.field_in at.now.name (type_of ty.now))))))) }
 {
     let part = field_in(&at.name, ty);
-    need(Rule::T5, at.place, is_there(part))?;
-    need(Rule::T6, at.place, is_left(part))?;
-    need(Rule::K6, at.place, kinds_of(ty, source.vars).share)?;
-    Ok(held(source.alloc, part)?)
+    if !is_there(part) {
+        return Err(Stop::Rule(Rule::T5, at.place));
+    }
+    if !is_left(part) {
+        return Err(Stop::Rule(Rule::T6, at.place));
+    }
+    if !kinds_of(ty, source.vars).share {
+        return Err(Stop::Rule(Rule::K6, at.place));
+    }
+    type_held(source, part)
 }
 
 /// What a field holds that is taken: it is there (T5) in a record that isn't read-only (T7), and left (T6).
@@ -80,10 +108,16 @@ pub fn taken_type(source: &Source, at: &At, ty: &Ty) -> Result<Ty, Stop>
         (Ok (parts.held (parts.field_in at.now.name (type_of ty.now))))))) }
 {
     let part = field_in(&at.name, ty);
-    need(Rule::T5, at.place, is_there(part))?;
-    need(Rule::T7, at.place, !is_read_only(ty))?;
-    need(Rule::T6, at.place, is_left(part))?;
-    Ok(held(source.alloc, part)?)
+    if !is_there(part) {
+        return Err(Stop::Rule(Rule::T5, at.place));
+    }
+    if is_read_only(ty) {
+        return Err(Stop::Rule(Rule::T7, at.place));
+    }
+    if !is_left(part) {
+        return Err(Stop::Rule(Rule::T6, at.place));
+    }
+    type_held(source, part)
 }
 
 /// What a field holds that is put: it is there (T5) in a record that isn't read-only (T7), and taken or may be dropped (K7).
@@ -94,10 +128,16 @@ pub fn put_type(source: &Source, at: &At, ty: &Ty) -> Result<Ty, Stop>
         (Ok (parts.held (parts.field_in at.now.name (type_of ty.now))))))) }
 {
     let part = field_in(&at.name, ty);
-    need(Rule::T5, at.place, is_there(part))?;
-    need(Rule::T7, at.place, !is_read_only(ty))?;
-    need(Rule::K7, at.place, may_be_put_over(source.vars, part))?;
-    Ok(held(source.alloc, part)?)
+    if !is_there(part) {
+        return Err(Stop::Rule(Rule::T5, at.place));
+    }
+    if is_read_only(ty) {
+        return Err(Stop::Rule(Rule::T7, at.place));
+    }
+    if !may_be_put_over(source.vars, part) {
+        return Err(Stop::Rule(Rule::K7, at.place));
+    }
+    type_held(source, part)
 }
 
 /// What an alternative holds into which a value goes: the type is a variant type (T1) that has it, not handled (T8).
@@ -106,8 +146,12 @@ pub fn injected_type(source: &Source, place: Place, name: &Name, ty: &Ty) -> Res
         (need_of T8 place (parts.is_left (parts.alternative_in name.now (type_of ty.now)))
         (Ok (parts.held (parts.alternative_in name.now (type_of ty.now)))))) }
 {
-    need(Rule::T1, place, is_variant(ty))?;
+    if !is_variant(ty) {
+        return Err(Stop::Rule(Rule::T1, place));
+    }
     let part = alternative_in(name, ty);
-    need(Rule::T8, place, is_left(part))?;
-    Ok(held(source.alloc, part)?)
+    if !is_left(part) {
+        return Err(Stop::Rule(Rule::T8, place));
+    }
+    type_held(source, part)
 }

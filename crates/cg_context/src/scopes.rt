@@ -1,5 +1,5 @@
 // Where scopes begin and end.
-#![tactic(auto, using(crate::proofs::ScopeSteps::scope_steps))]
+#![tactic(auto)]
 
 ghost use Rattle.std.specs.Prelude.{◌≡◌, IfOk, Ok, map, false};
 ghost use Rattle.cg_base.specs.Types.{type_of};
@@ -14,7 +14,7 @@ ghost use Rattle.cg_uses.specs.Uses as tables;
 
 use crate::source::Source;
 use crate::stop::Stop;
-use crate::tests::{end_scope, inner};
+use crate::tests::{end_scope, inner, with_new};
 use cg_base::{Memory, Place, Ty};
 use cg_faults::{Rule, Use};
 use cg_kinds::kinds_of;
@@ -22,6 +22,7 @@ use cg_uses::{NO_USE, mark_but};
 use std::alloc::Global;
 
 /// What is done with the last variable; nothing, where there is none.
+#[tactic(auto, using(crate::proofs::ScopeSteps::scope_steps))]
 pub fn last_use(uses: &[Use]) -> Use
     ensures { result ≡ tables.last uses.now }
 {
@@ -33,6 +34,7 @@ pub fn last_use(uses: &[Use]) -> Use
 }
 
 /// What is done with the one before the last; nothing, where there is none.
+#[tactic(auto, using(crate::proofs::ScopeSteps::scope_steps))]
 pub fn use_before_last(uses: &[Use]) -> Use
     ensures { result ≡ tables.last (tables.front uses.now) }
 {
@@ -70,21 +72,18 @@ pub fn inner_seen(
 ) -> Result<Vec<bool>, Memory>
     ensures { IfOk result (λ flags. flags.items ≡ push_of (tables.mark_but seen.now before.now uses.now) false) }
 {
-    let mut flags = mark_but(alloc, seen, before, uses)?;
-    flags.push(false)?;
-    Ok(flags)
+    with_new(mark_but(alloc, seen, before, uses))
 }
 
 /// What was touched before the last part of a take, whose variables are new. Want of memory is its one refusal.
 pub fn inner_two(alloc: Global, before: &[bool], uses: &[Use]) -> Result<Vec<bool>, Memory>
     ensures { IfOk result (λ flags. flags.items ≡ push_of (push_of (tables.mark before.now uses.now) false) false) }
 {
-    let mut flags = inner(alloc, before, uses)?;
-    flags.push(false)?;
-    Ok(flags)
+    with_new(inner(alloc, before, uses))
 }
 
 /// All but the last.
+#[tactic(auto, using(crate::proofs::ScopeSteps::scope_steps))]
 pub fn but_last(uses: &[Use]) -> &[Use]
     ensures { result.now ≡ tables.front uses.now }
 {

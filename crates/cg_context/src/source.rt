@@ -42,5 +42,5 @@ pub fn enter(context: &mut Vec<Known>, ty: Ty) -> Result<(), Memory>
 pub fn leave(context: &mut Vec<Known>)
     ensures { (p : List Entry) (e : Entry) → entries_of context.old.items ≡ push_of p e → entries_of context.new.items ≡ p }
 {
-    let _ = context.pop();
+    drop(context.pop());
 }

@@ -4,7 +4,7 @@ use cg_faults::Rule;
 use std::alloc::{AllocError, AllocFailed};
 
 /// Where the pass stops: at a rule that fails, at a type that passes the limit, or for want of memory.
-#[derive(Clone, Copy, Debug, PartialEq, Eq)]
+#[derive(Clone, Copy)]
 pub enum Stop {
     Rule(Rule, Place),
     Size(Place),

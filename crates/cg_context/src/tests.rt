@@ -1,7 +1,7 @@
 // What is tested at a node, between its parts.
-#![tactic(auto, using(crate::proofs::TestSteps::test_steps, crate::proofs::SourceSteps::source_steps))]
+#![tactic(auto)]
 
-ghost use Rattle.std.specs.Prelude.{◌≡◌, ◌||◌, cond, not, IfOk, Ok, List, map, false};
+ghost use Rattle.std.specs.Prelude.{◌≡◌, ◌||◌, Bool, cond, not, IfOk, Ok, List, map, false};
 ghost use Rattle.std.specs.Option.{option_copied};
 ghost use Rattle.cg_base.specs.Types.{type_of};
 ghost use Rattle.cg_check_laws.specs.Pass as pass;
@@ -23,6 +23,7 @@ use cg_uses::mark;
 use std::alloc::Global;
 
 /// T1 where a synthesised type is checked.
+#[tactic(auto, using(crate::proofs::TestSteps::test_steps))]
 pub fn meet(direction: Option<&Ty>, place: Place, ty: &Ty) -> Result<(), Stop>
     ensures { Agrees itself result (pass.meet (way_of (option_copied direction.entry)) place (type_of ty.now) (Ok tt)) }
 {
@@ -39,6 +40,7 @@ pub fn meet(direction: Option<&Ty>, place: Place, ty: &Ty) -> Result<(), Stop>
 }
 
 /// The type of a variable where it stands; unit, where there is none. Want of memory is its one refusal.
+#[tactic(auto, using(crate::proofs::TestSteps::test_steps, crate::proofs::SourceSteps::source_steps))]
 pub fn type_at(alloc: Global, context: &Vec<Known>, at: usize) -> Result<Ty, Memory>
     ensures { IfOk result (λ ty. type_of ty ≡ plain_at (types_in (entries_of context.now.items)) at) }
 {
@@ -54,6 +56,7 @@ pub fn type_at(alloc: Global, context: &Vec<Known>, at: usize) -> Result<Ty, Mem
 }
 
 // Whether a variable may be shared where it stands.
+#[tactic(auto, using(crate::proofs::TestSteps::test_steps, crate::proofs::SourceSteps::source_steps))]
 fn shares(source: &Source, context: &Vec<Known>, at: usize) -> bool
     ensures { result ≡ shares_of (bounds_of source.now.vars.now) (plain_at (types_in (entries_of context.now.items)) at) }
 {
@@ -64,6 +67,7 @@ fn shares(source: &Source, context: &Vec<Known>, at: usize) -> bool
 }
 
 // Whether a variable was touched before.
+#[tactic(auto, using(crate::proofs::TestSteps::test_steps))]
 fn flag_at(before: &Vec<bool>, at: usize) -> bool
     ensures { result ≡ tables.flag_at before.now.items at }
 {
@@ -95,13 +99,31 @@ pub fn observe_all(
     Ok(())
 }
 
+// The flag of a new variable behind those of the others.
+#[tactic(auto, using(crate::proofs::TestSteps::test_steps))]
+fn push_flag(flags: Vec<bool>) -> Result<Vec<bool>, Memory>
+    ensures { IfOk result (λ all. all.items ≡ push_of flags.items false) }
+{
+    let mut flags = flags;
+    flags.push(false)?;
+    Ok(flags)
+}
+
+// The same of what was made, where there was memory for it.
+pub fn with_new(flags: Result<Vec<bool>, Memory>) -> Result<Vec<bool>, Memory>
+    ensures { (bs : List Bool) → IfOk flags (λ old. old.items ≡ bs) → IfOk result (λ all. all.items ≡ push_of bs false) }
+{
+    match flags {
+        Ok(flags) => push_flag(flags),
+        Err(memory) => Err(memory),
+    }
+}
+
 /// What was touched before the last part of a binder, whose variable is new. Want of memory is its one refusal.
 pub fn inner(alloc: Global, before: &[bool], uses: &[Use]) -> Result<Vec<bool>, Memory>
     ensures { IfOk result (λ flags. flags.items ≡ push_of (tables.mark before.now uses.now) false) }
 {
-    let mut flags = mark(alloc, before, uses)?;
-    flags.push(false)?;
-    Ok(flags)
+    with_new(mark(alloc, before, uses))
 }
 
 /// K3 where a scope ends of a variable that may be dropped or not.
@@ -121,17 +143,19 @@ pub fn end_scope(droppable: bool, binder: Place, given: Use) -> Result<(), Stop>
 }
 
 // Whether a variable may be dropped where it stands.
+#[tactic(auto, using(crate::proofs::TestSteps::test_steps))]
 fn drops(source: &Source, known: &Known) -> bool
     ensures { result ≡ drops_of (bounds_of source.now.vars.now) (type_of_known known.now) }
 {
     known.observed || kinds_of(&known.ty, source.vars).drop
 }
 
-// Whether a variable may be treated so by two branches: both use it, or neither does, or it may be dropped.
+// Whether a variable may be treated so by two branches: both use it, or neither does, or it may be dropped. Kinds, which cost the size of
+// the type, are asked for last.
 fn may_differ(source: &Source, known: &Known, u: Use, v: Use) -> bool
     ensures { result ≡ (drops_of (bounds_of source.now.vars.now) (type_of_known known.now) || cond u.used v.used (not v.used)) }
 {
-    drops(source, known) || u.used == v.used
+    u.used == v.used || drops(source, known)
 }
 
 // Which of two branches doesn't use a variable that the first does this with.

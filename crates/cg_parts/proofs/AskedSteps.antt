@@ -82,4 +82,10 @@ module _ (vars : List Kinds) (asked : List Asked) (args : List TyArg) (i : ℕ) 
   pub fault_past : length args ≤ i → arguments_fault vars (drop i asked) (map arg_of (drop i args)) ≡ None
   fault_past h = at_drop_all (λ l. arguments_fault vars (drop i asked) (map arg_of l)) args i h
 
-pub ruleset asked_steps = (library_asks, user_asks, user_asks_no_more, fault_here, fault_later, fault_past, slice_get-map)
+pub ruleset library_steps = (library_asks)
+
+pub ruleset user_steps = (user_asks, user_asks_no_more)
+
+pub ruleset type_steps = (slice_get-map)
+
+pub ruleset fault_steps = (fault_here, fault_later, fault_past)

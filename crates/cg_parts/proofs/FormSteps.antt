@@ -109,18 +109,12 @@ part_nodes_rest ps i d h = at_drop_more (λ l. nodes_parts (to_parts (map part_o
 pub part_nodes_past : (ps : List Part) (i : ℕ) → length ps ≤ i → nodes_parts (to_parts (map part_of (drop i ps))) ≡ 0
 part_nodes_past ps i h = at_drop_all (λ l. nodes_parts (to_parts (map part_of l))) ps i h ∙ part_nodes-none
 
-pub ruleset form_steps = (
-  words_later,
-  words_other,
-  words_past,
-  arrays_later,
-  arrays_other,
-  arrays_past,
-  part_arrays_later,
-  part_arrays_other,
-  part_arrays_past,
-  nodes_rest,
-  nodes_past,
-  part_nodes_rest,
-  part_nodes_past,
-)
+pub ruleset words_steps = (words_later, words_other, words_past)
+
+pub ruleset arrays_steps = (arrays_later, arrays_other, arrays_past)
+
+pub ruleset part_arrays_steps = (part_arrays_later, part_arrays_other, part_arrays_past)
+
+pub ruleset nodes_steps = (nodes_rest, nodes_past)
+
+pub ruleset part_nodes_steps = (part_nodes_rest, part_nodes_past)

@@ -1,7 +1,7 @@
 -- Parts that are marked, at what is left of a list.
 use Rattle.std.proofs.Common.{◌≡◌, ℕ, ◌<◌, ◌≤◌, List, [], ◌∷◌, ◌++◌, map, length, drop, get_or, ◌+◌, append_assoc, Bool, true, false, not, ◌&&◌, ◌||◌, refl, ap, sym, ◌∙◌, if◌then◌else◌}
 use Rattle.std.specs.Str.{bytes_eq}
-use Rattle.std.proofs.lemmas.List.{at_drop_more, at_drop_all, map-append}
+use Rattle.std.proofs.lemmas.List.{at_drop_more, at_drop_all}
 use Rattle.cg_base.proofs.Views.{piece_of}
 use Rattle.cg_base.specs.declared.ty.Part.{Part}
 use Rattle.cg_base.specs.Types.{Piece, part, to_parts, part_of}
@@ -53,16 +53,14 @@ mark_rest found n now ps i d here h e =
     ∙ ap (λ q. marked (if here then now else q.taken) (part_of (get_or ps i d)) ∷ left_to_mark (found || here) n now (map part_of (drop (i + 1) ps)))
     (piece_of (get_or ps i d))
 
-pub marked_more : (copies : List Part) (found : Bool) (n : List ℕ) (now : Bool) (ps : List Part) (i : ℕ) (d : Part) (here : Bool) (copied : Part) → i < length ps
-    → d ≡ get_or ps i d → here ≡ (not found && bytes_eq n d.name) → part_of copied ≡ marked (if here then now else d.taken) (part_of d)
-    → map part_of (copies ++ copied ∷ []) ++ left_to_mark (found || here) n now (map part_of (drop (i + 1) ps))
-    ≡ map part_of copies ++ left_to_mark found n now (map part_of (drop i ps))
-marked_more copies found n now ps i d here copied h at e m =
-    ap (λ l. l ++ left_to_mark (found || here) n now (map part_of (drop (i + 1) ps))) (map-append part_of copies (copied ∷ []))
-    ∙ append_assoc (map part_of copies) (part_of copied ∷ []) _
-    ∙ ap (λ p. map part_of copies ++ p ∷ left_to_mark (found || here) n now (map part_of (drop (i + 1) ps)))
-    (m ∙ ap (λ q. marked (if here then now else q.taken) (part_of q)) at)
-    ∙ ap (λ l. map part_of copies ++ l) (sym (mark_rest found n now ps i d here h (e ∙ ap (λ q. not found && bytes_eq n q.name) at)))
+pub marked_more : (olds news : List Piece) (found : Bool) (n : List ℕ) (now : Bool) (ps : List Part) (i : ℕ) (d : Part) (here : Bool) → i < length ps
+    → d ≡ get_or ps i d → here ≡ (not found && bytes_eq n d.name) → news ≡ olds ++ marked (if here then now else d.taken) (part_of d) ∷ []
+    → news ++ left_to_mark (found || here) n now (map part_of (drop (i + 1) ps)) ≡ olds ++ left_to_mark found n now (map part_of (drop i ps))
+marked_more olds news found n now ps i d here h at e m =
+    ap (λ l. l ++ left_to_mark (found || here) n now (map part_of (drop (i + 1) ps))) m
+    ∙ append_assoc olds (marked (if here then now else d.taken) (part_of d) ∷ []) _
+    ∙ ap (λ q. olds ++ marked (if here then now else q.taken) (part_of q) ∷ left_to_mark (found || here) n now (map part_of (drop (i + 1) ps))) at
+    ∙ ap (λ l. olds ++ l) (sym (mark_rest found n now ps i d here h (e ∙ ap (λ q. not found && bytes_eq n q.name) at)))
 
 pub mark_past : (found : Bool) (n : List ℕ) (now : Bool) (ps : List Part) (i : ℕ) → length ps ≤ i → left_to_mark found n now (map part_of (drop i ps)) ≡ []
 unfolding left_to_mark
@@ -71,5 +69,3 @@ mark_past found n now ps i h = at_drop_all (λ l. left_to_mark found n now (map 
     none : (b : Bool) → left_to_mark b n now [] ≡ []
     none true = refl
     none false = refl
-
-pub ruleset mark_steps = (marked_pieces, taken_pieces)

@@ -102,4 +102,8 @@ whole_taken ps i d h e = whole_rest ps i d h ∙ ap (λ b. not b && is_whole (to
 pub whole_past : (ps : List Part) (i : ℕ) → length ps ≤ i → is_whole (to_parts (map part_of (drop i ps))) ≡ true
 whole_past ps i h = at_drop_all (λ l. is_whole (to_parts (map part_of l))) ps i h ∙ whole-none
 
-pub ruleset named_steps = (named_here, named_later, named_past, others_named, others_later, others_left, others_past, whole_later, whole_taken, whole_past)
+pub ruleset named_steps = (named_here, named_later, named_past)
+
+pub ruleset others_steps = (others_named, others_later, others_left, others_past)
+
+pub ruleset whole_steps = (whole_later, whole_taken, whole_past)

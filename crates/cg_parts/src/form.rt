@@ -1,7 +1,7 @@
 // Forms and sizes of types.
-#![tactic(auto, using(crate::proofs::FormSteps::form_steps))]
+#![tactic(auto)]
 
-ghost use Rattle.std.specs.Prelude.{◌≡◌, ◌+◌, ◌<◌, ◌^◌, ◌||◌, not, nat_le, nat_lt, map, codes, IfSome, IsNone};
+ghost use Rattle.std.specs.Prelude.{◌≡◌, ◌-◌, ◌^◌, ◌||◌, not, nat_lt, map, codes};
 ghost use Rattle.std.specs.Str.{bytes_eq};
 ghost use Rattle.cg_base.specs.Types.{type_of, part_of, to_taus, to_parts};
 ghost use Rattle.cg_base.specs.Words.{bits as bits_of};
@@ -96,6 +96,7 @@ pub fn in_range(value: Option<u64>, ty: &Ty) -> bool
 }
 
 // Whether all of these types are words.
+#[tactic(auto, using(crate::proofs::FormSteps::words_steps))]
 fn words(types: &Items<Ty>) -> bool
     ensures { result ≡ are_words (to_taus (map type_of types.now)) }
 {
@@ -129,6 +130,7 @@ pub fn has_word_arrays(ty: &Ty) -> bool
 }
 
 // Whether each of these types has arrays of words alone.
+#[tactic(auto, using(crate::proofs::FormSteps::arrays_steps))]
 #[cycle(arrays)]
 fn all_have_word_arrays(types: &Items<Ty>) -> bool
     ensures { result ≡ have_word_arrays (to_taus (map type_of types.now)) }
@@ -142,6 +144,7 @@ fn all_have_word_arrays(types: &Items<Ty>) -> bool
 }
 
 // Whether each of these parts has arrays of words alone.
+#[tactic(auto, using(crate::proofs::FormSteps::part_arrays_steps))]
 #[cycle(arrays)]
 fn all_parts_have_word_arrays(parts: &Items<Part>) -> bool
     ensures { result ≡ parts_have_word_arrays (to_parts (map part_of parts.now)) }
@@ -158,55 +161,59 @@ fn all_parts_have_word_arrays(parts: &Items<Part>) -> bool
 const LIMIT: usize = 1024;
 
 /// Whether a type has no more than 1,024 nodes (docs/LANGUAGE.md, "Limits"). It takes no memory, and looks at no more nodes than
-/// that.
+/// that and one.
 pub fn is_small_enough(ty: &Ty) -> bool
     ensures { result ≡ is_small_enough_of (type_of ty.now) }
 {
-    left_after(ty, LIMIT).is_some()
+    left_after(ty, LIMIT + 1) > 0
 }
 
-// What is left of a number when each node of a type takes one; None where there are more nodes. It stops at the first node that has
-// none left.
+// What is left of a number when each node of a type takes one, and 0 where there are more nodes. It stops where nothing is left.
 #[cycle(left)]
-fn left_after(ty: &Ty, left: usize) -> Option<usize>
-    ensures within { IfSome result (λ rest. rest + nodes (type_of ty.now) ≡ left) }
-    ensures past { IsNone result → left < nodes (type_of ty.now) }
+fn left_after(ty: &Ty, left: usize) -> usize
+    ensures { result ≡ left - nodes (type_of ty.now) }
 {
     if left == 0 {
-        return None;
+        return 0;
     }
     let left = left - 1;
     match ty {
-        Ty::Arrow(from, to) => left_after(to, left_after(from, left)?),
+        Ty::Arrow(from, to) => left_after(to, left_after(from, left)),
         Ty::Abs(_, args, _) => left_after_types(args, left),
         Ty::Variant(parts) => left_after_parts(parts, left),
         Ty::Fields(parts, _) => left_after_parts(parts, left),
-        _ => Some(left),
+        _ => left,
     }
 }
 
 // What these types leave.
+#[tactic(auto, using(crate::proofs::FormSteps::nodes_steps))]
 #[cycle(left)]
-fn left_after_types(types: &Items<Ty>, left: usize) -> Option<usize>
-    ensures within { IfSome result (λ rest. rest + nodes_all (to_taus (map type_of types.now)) ≡ left) }
-    ensures past { IsNone result → left < nodes_all (to_taus (map type_of types.now)) }
+fn left_after_types(types: &Items<Ty>, left: usize) -> usize
+    ensures { result ≡ left - nodes_all (to_taus (map type_of types.now)) }
 {
     let mut rest = left;
     for ty in types.as_slice() {
-        rest = left_after(ty, rest)?;
+        if rest == 0 {
+            return 0;
+        }
+        rest = left_after(ty, rest);
     }
-    Some(rest)
+    rest
 }
 
 // What these parts leave.
+#[tactic(auto, using(crate::proofs::FormSteps::part_nodes_steps))]
 #[cycle(left)]
-fn left_after_parts(parts: &Items<Part>, left: usize) -> Option<usize>
-    ensures within { IfSome result (λ rest. rest + nodes_parts (to_parts (map part_of parts.now)) ≡ left) }
-    ensures past { IsNone result → left < nodes_parts (to_parts (map part_of parts.now)) }
+fn left_after_parts(parts: &Items<Part>, left: usize) -> usize
+    ensures { result ≡ left - nodes_parts (to_parts (map part_of parts.now)) }
 {
     let mut rest = left;
     for part in parts.as_slice() {
-        rest = left_after(&part.ty, rest)?;
+        if rest == 0 {
+            return 0;
+        }
+        rest = left_after(&part.ty, rest);
     }
-    Some(rest)
+    rest
 }

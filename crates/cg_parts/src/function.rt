@@ -1,5 +1,5 @@
 // Functions that a term mentions: their types at their type arguments, and what fails of these.
-#![tactic(auto, using(crate::proofs::AskedSteps::asked_steps))]
+#![tactic(auto)]
 
 ghost use Rattle.std.specs.Prelude.{◌≡◌, map, IfOk, None, Some, slice_get, slice_index_or as get_or, if◌then◌else◌};
 ghost use Rattle.std.specs.Option.{option_map};
@@ -12,7 +12,7 @@ ghost use Rattle.cg_parts.specs.Asked.{the_asked, unmet as unmet_rule, asked_fau
 ghost use Rattle.cg_typing.specs.Functions.{arg_types as arg_types_of, asked_by, asked_by_library, has_kinds as has_kinds_of, nothing, these};
 
 use crate::form::{has_word_arrays, is_word};
-use crate::library::library_type;
+use crate::library::{library_type, push_type};
 use crate::named::is_cell;
 use cg_base::{Bound, Fun, Items, Kinds, Lib, Memory, Place, Ty};
 use cg_core::{KFun, TyArg};
@@ -28,12 +28,13 @@ fn arg_types(alloc: Global, args: &Items<TyArg>) -> Result<Items<Ty>, Memory>
 {
     let mut types = Items::new(alloc);
     for arg in args.as_slice() {
-        types.push(arg.ty.copy(alloc)?)?;
+        push_type(&mut types, arg.ty.copy(alloc))?;
     }
     Ok(types)
 }
 
 // The type of a function of the source at these type arguments, or unit where there is no such function.
+#[tactic(auto, using(crate::proofs::AskedSteps::type_steps))]
 fn user_type(
     alloc: Global,
     functions: &Items<KFun>,
@@ -77,6 +78,7 @@ enum Demand {
 }
 
 // What a function of the library asks of its type argument at a position.
+#[tactic(auto, using(crate::proofs::AskedSteps::library_steps))]
 fn wanted_by_library(lib: Lib, at: usize) -> Demand
     ensures { the_asked result ≡ get_or (asked_by_library lib) at nothing }
 {
@@ -92,6 +94,7 @@ fn wanted_by_library(lib: Lib, at: usize) -> Demand
 }
 
 // What a function of the source asks of its type argument at a position.
+#[tactic(auto, using(crate::proofs::AskedSteps::user_steps))]
 fn wanted_by_user(function: &KFun, at: usize) -> Demand
     ensures { the_asked result ≡ get_or (map (λ b. these b.kinds) function.now.vars) at nothing }
 {
@@ -155,6 +158,7 @@ fn asked_fault(vars: &Items<Bound>, wanted: Demand, ty: &Ty) -> Option<Rule>
 
 /// The first type argument of a function that fails, by which rule and at which place; None where none does. Each is judged first by
 /// its arrays (T14), and then by what the function asks of it (K1, T13, T14; docs/LANGUAGE.md, "Typing"). It takes no memory.
+#[tactic(auto, using(crate::proofs::AskedSteps::fault_steps))]
 pub fn arguments_fault(
     functions: &Items<KFun>,
     vars: &Items<Bound>,

@@ -1,6 +1,6 @@
 // The types of the library's functions. Each of these functions takes what its parts gave, so that a row of the table is one
 // expression; want of memory in a part is that of the whole.
-#![tactic(auto, using(crate::proofs::LibrarySteps::library_steps), unfolding(cg_base::specs::Types::to_parts, cg_base::specs::Types::to_taus))]
+#![tactic(auto)]
 
 ghost use Rattle.std.specs.Prelude.{◌≡◌, ◌++◌, [], ◌∷◌, List, map, Ok, IfOk};
 ghost use Rattle.cg_base.specs.Types.{type_of, Tau, Piece, part_of, to_parts, word as word_type, arrow as arrow_type, fields as fields_type, variant as variant_type};
@@ -52,27 +52,21 @@ fn both<T: Drop, U: Drop>(
 // ---- forms of types
 
 // A type in a box.
-fn boxed(alloc: Global, ty: Ty) -> Result<Box<Ty>, Memory>
-    ensures { IfOk result (λ b. type_of b.value ≡ type_of ty) }
+fn boxed(alloc: Global, ty: Made) -> Result<Box<Ty>, Memory>
+    ensures { (t : Tau) → Makes ty t → IfOk result (λ b. type_of b.value ≡ t) }
 {
-    Ok(Box::new(alloc, ty)?)
+    match ty {
+        Ok(ty) => Ok(Box::new(alloc, ty)?),
+        Err(error) => Err(error),
+    }
 }
 
 // A type of functions.
-fn arrow_of(alloc: Global, from: Ty, to: Ty) -> Made
-    ensures { Makes result (arrow_type (type_of from) (type_of to)) }
-{
-    let (to, from) = kept(to, boxed(alloc, from))?;
-    let (from, to) = kept(from, boxed(alloc, to))?;
-    Ok(Ty::Arrow(from, to))
-}
-
-// The same of what they gave.
 fn arrow(alloc: Global, from: Made, to: Made) -> Made
     ensures { (a b : Tau) → Makes from a → Makes to b → Makes result (arrow_type a b) }
 {
-    match both(from, to) {
-        Ok((from, to)) => arrow_of(alloc, from, to),
+    match both(boxed(alloc, from), boxed(alloc, to)) {
+        Ok((from, to)) => Ok(Ty::Arrow(from, to)),
         Err(error) => Err(error),
     }
 }
@@ -85,6 +79,7 @@ fn of_word(word: Word) -> Made
 }
 
 // The state of the allocator.
+#[tactic(auto, unfolding(cg_base::specs::Types::to_taus))]
 fn state(alloc: Global) -> Made
     ensures { Makes result state_type }
 {
@@ -92,22 +87,25 @@ fn state(alloc: Global) -> Made
     Ok(Ty::Abs(name, Items::new(alloc), Sigil::W))
 }
 
-// An array of elements of this type.
-fn array_of(alloc: Global, element: Ty) -> Made
-    ensures { Makes result (array_type (type_of element)) }
+// One type more, where there was memory for it.
+pub fn push_type(types: &mut Items<Ty>, ty: Made) -> Result<(), Memory>
+    ensures { (t : Tau) → Makes ty t → IfOk result (λ _. map type_of types.new ≡ map type_of types.old ++ t ∷ []) }
 {
-    let mut args = Items::new(alloc);
-    args.push(element)?;
-    let (args, name) = kept(args, Name::new(alloc, b"WordArray"))?;
-    Ok(Ty::Abs(name, args, Sigil::W))
+    match ty {
+        Ok(ty) => types.push(ty),
+        Err(error) => Err(error),
+    }
 }
 
-// The same of what it gave.
+// An array of elements of this type.
+#[tactic(auto, unfolding(cg_base::specs::Types::to_taus))]
 fn array(alloc: Global, element: Made) -> Made
     ensures { (t : Tau) → Makes element t → Makes result (array_type t) }
 {
-    match element {
-        Ok(element) => array_of(alloc, element),
+    let mut args = Items::new(alloc);
+    push_type(&mut args, element)?;
+    match kept(args, Name::new(alloc, b"WordArray")) {
+        Ok((args, name)) => Ok(Ty::Abs(name, args, Sigil::W)),
         Err(error) => Err(error),
     }
 }
@@ -125,23 +123,25 @@ fn observed(ty: Made) -> Made
 // ---- parts
 
 // A part that isn't taken.
-fn part(alloc: Global, name: &[u8], ty: Ty) -> Result<Part, Memory>
-    ensures { IfOk result (λ p. part_of p ≡ untaken name.now (type_of ty)) }
+fn part(alloc: Global, name: &[u8], ty: Made) -> Result<Part, Memory>
+    ensures { (t : Tau) → Makes ty t → IfOk result (λ p. part_of p ≡ untaken name.now t) }
 {
-    let (ty, name) = kept(ty, Name::new(alloc, name))?;
-    Ok(Part {
-        name,
-        ty,
-        taken: false,
-    })
+    match both(Name::new(alloc, name), ty) {
+        Ok((name, ty)) => Ok(Part {
+            name,
+            ty,
+            taken: false,
+        }),
+        Err(error) => Err(error),
+    }
 }
 
 // These parts, and one more behind them.
-fn push(alloc: Global, parts: Items<Part>, name: &[u8], ty: Ty) -> Parts
-    ensures { HasPieces result (map part_of parts ++ untaken name.now (type_of ty) ∷ []) }
+fn push(parts: Items<Part>, part: Part) -> Parts
+    ensures { HasPieces result (map part_of parts ++ part_of part ∷ []) }
 {
     let mut parts = parts;
-    parts.push(part(alloc, name, ty)?)?;
+    parts.push(part)?;
     Ok(parts)
 }
 
@@ -149,8 +149,8 @@ fn push(alloc: Global, parts: Items<Part>, name: &[u8], ty: Ty) -> Parts
 fn add(alloc: Global, parts: Parts, name: &[u8], ty: Made) -> Parts
     ensures { (ps : List Piece) (t : Tau) → HasPieces parts ps → Makes ty t → HasPieces result (ps ++ untaken name.now t ∷ []) }
 {
-    match both(parts, ty) {
-        Ok((parts, ty)) => push(alloc, parts, name, ty),
+    match both(parts, part(alloc, name, ty)) {
+        Ok((parts, part)) => push(parts, part),
         Err(error) => Err(error),
     }
 }
@@ -159,24 +159,27 @@ fn add(alloc: Global, parts: Parts, name: &[u8], ty: Made) -> Parts
 fn one(alloc: Global, name: &[u8], ty: Made) -> Parts
     ensures { (t : Tau) → Makes ty t → HasPieces result (untaken name.now t ∷ []) }
 {
-    match ty {
-        Ok(ty) => push(alloc, Items::new(alloc), name, ty),
-        Err(error) => Err(error),
-    }
+    add(alloc, Ok(Items::new(alloc)), name, ty)
 }
 
 // An unboxed record of these fields.
 fn unboxed(fields: Parts) -> Made
     ensures { (ps : List Piece) → HasPieces fields ps → Makes result (fields_type (to_parts ps) U) }
 {
-    Ok(Ty::Fields(fields?, Sigil::U))
+    match fields {
+        Ok(fields) => Ok(Ty::Fields(fields, Sigil::U)),
+        Err(error) => Err(error),
+    }
 }
 
 // A variant of these alternatives.
 fn variant(alternatives: Parts) -> Made
     ensures { (ps : List Piece) → HasPieces alternatives ps → Makes result (variant_type (to_parts ps)) }
 {
-    Ok(Ty::Variant(alternatives?))
+    match alternatives {
+        Ok(alternatives) => Ok(Ty::Variant(alternatives)),
+        Err(error) => Err(error),
+    }
 }
 
 // A tuple of two.
@@ -210,6 +213,7 @@ fn stopped(alloc: Global, ty: Made) -> Made
 // ---- type arguments
 
 // A type argument by its position, or unit where there is none.
+#[tactic(auto, using(crate::proofs::LibrarySteps::library_steps))]
 fn given(alloc: Global, args: &Items<Ty>, at: usize) -> Made
     ensures { Makes result (given_type (map type_of args.now) at) }
 {
@@ -220,6 +224,7 @@ fn given(alloc: Global, args: &Items<Ty>, at: usize) -> Made
 }
 
 // The first type argument with all its fields taken.
+#[tactic(auto, using(crate::proofs::LibrarySteps::library_steps))]
 fn given_taken(alloc: Global, args: &Items<Ty>) -> Made
     ensures { Makes result (all_taken_of (given_type (map type_of args.now) 0)) }
 {

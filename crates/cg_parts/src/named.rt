@@ -1,7 +1,7 @@
 // Parts of types by name.
-#![tactic(auto, using(crate::proofs::NamedSteps::named_steps, crate::proofs::MarkSteps::mark_steps))]
+#![tactic(auto)]
 
-ghost use Rattle.std.specs.Prelude.{◌≡◌, ◌&&◌, not, map, IfOk, if◌then◌else◌};
+ghost use Rattle.std.specs.Prelude.{◌≡◌, ◌&&◌, ◌++◌, [], ◌∷◌, not, map, IfOk};
 ghost use Rattle.std.specs.Option.{option_copied};
 ghost use Rattle.std.specs.Str.{bytes_eq};
 ghost use Rattle.cg_base.specs.Types.{type_of, part_of, to_parts};
@@ -20,6 +20,7 @@ fn is_named(part: &Part, name: &Name) -> bool
 }
 
 // The first part of this name.
+#[tactic(auto, using(crate::proofs::NamedSteps::named_steps))]
 fn part_in<'a>(name: &Name, parts: &'a Items<Part>) -> Option<&'a Part>
     ensures { piece_at (option_copied result) ≡ part_named name.now (to_parts (map part_of parts.now)) }
 {
@@ -63,6 +64,7 @@ pub fn held(alloc: Global, part: Option<&Part>) -> Result<Ty, Memory>
 }
 
 // Whether every part of another name is taken.
+#[tactic(auto, using(crate::proofs::NamedSteps::others_steps))]
 fn others_taken(name: &Name, parts: &Items<Part>) -> bool
     ensures { result ≡ are_others_taken name.now (to_parts (map part_of parts.now)) }
 {
@@ -85,6 +87,7 @@ pub fn is_last(name: &Name, ty: &Ty) -> bool
 }
 
 // Whether no part is taken.
+#[tactic(auto, using(crate::proofs::NamedSteps::whole_steps))]
 fn whole(parts: &Items<Part>) -> bool
     ensures { result ≡ is_whole (to_parts (map part_of parts.now)) }
 {
@@ -116,26 +119,19 @@ pub fn may_be_put_over(vars: &Items<Bound>, part: Option<&Part>) -> bool
     }
 }
 
-// A copy of a part that is taken, or not.
-fn copy_marked(alloc: Global, part: &Part, taken: bool) -> Result<Part, Memory>
-    ensures { IfOk result (λ p. part_of p ≡ marked taken (part_of part.now)) }
+// Adds a copy of a part, which is taken or not.
+fn push_copy(
+    alloc: Global,
+    part: &Part,
+    taken: bool,
+    copies: &mut Items<Part>,
+) -> Result<(), Memory>
+    ensures { IfOk result (λ _. map part_of copies.new ≡ map part_of copies.old ++ marked taken (part_of part.now) ∷ []) }
 {
     let name = part.name.copy(alloc)?;
-    Ok(Part {
-        name,
-        ty: part.ty.copy(alloc)?,
-        taken,
-    })
-}
-
-// A copy of a part, which is taken or not where it is the one to mark.
-fn copy_with(alloc: Global, part: &Part, here: bool, taken: bool) -> Result<Part, Memory>
-    ensures { IfOk result (λ p. part_of p ≡ marked (if here then taken else part.now.taken) (part_of part.now)) }
-{
-    if here {
-        copy_marked(alloc, part, taken)
-    } else {
-        copy_marked(alloc, part, part.taken)
+    match part.ty.copy(alloc) {
+        Ok(ty) => copies.push(Part { name, ty, taken }),
+        Err(memory) => Err(memory),
     }
 }
 
@@ -159,7 +155,8 @@ fn copies_with(
     let mut found = false;
     for part in parts.as_slice() {
         let here = is_first(found, part, name);
-        copies.push(copy_with(alloc, part, here, taken)?)?;
+        let marked = if here { taken } else { part.taken };
+        push_copy(alloc, part, marked, &mut copies)?;
         found |= here;
     }
     Ok(copies)
@@ -183,7 +180,7 @@ fn copies_taken(alloc: Global, parts: &Items<Part>) -> Result<Items<Part>, Memor
 {
     let mut copies = Items::new(alloc);
     for part in parts.as_slice() {
-        copies.push(copy_marked(alloc, part, true)?)?;
+        push_copy(alloc, part, true, &mut copies)?;
     }
     Ok(copies)
 }

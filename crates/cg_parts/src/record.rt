@@ -1,5 +1,5 @@
 // Records of the fields that a term gives.
-#![tactic(auto, using(crate::proofs::RecordSteps::record_steps))]
+#![tactic(auto)]
 
 ghost use Rattle.std.specs.Prelude.{◌≡◌, ◌&&◌, not, map};
 ghost use Rattle.std.specs.Str.{bytes_eq};
@@ -19,6 +19,7 @@ fn is_field(part: &Part, field: &FieldTerm<Place>) -> bool
 }
 
 // Whether these parts have the names of these fields, in their order, and none is taken.
+#[tactic(auto, using(crate::proofs::RecordSteps::record_steps))]
 fn are_fields(parts: &Items<Part>, fields: &Items<FieldTerm<Place>>) -> bool
     ensures { result ≡ are_fields_of (to_parts (map part_of parts.now)) (to_named (map the_field fields.now)) }
 {

@@ -1,10 +1,11 @@
 // What is kept of the bodies of a kernel.
-#![tactic(auto, using(crate::proofs::BodySteps::body_steps))]
+#![tactic(auto)]
 
 ghost use Rattle.std.specs.Prelude.{◌≡◌, IfOk};
 ghost use Rattle.cg_typing.specs.Kept.{maybe_core, maybe_tree};
 ghost use Rattle.cg_pieces.specs.Bodies.{core_in, lists_of, maybe_both, no_lists, one_more, tree_in};
 
+use crate::operands::kept_while;
 use cg_base::{Items, Memory};
 use cg_core::{Deriv, Term, Typed};
 use std::alloc::Global;
@@ -46,12 +47,12 @@ impl KeptBodies {
     }
 
     /// One function more, with a body or none. Want of memory is its one refusal.
+    #[tactic(auto, using(crate::proofs::BodySteps::body_steps))]
     pub fn push(&mut self, body: Option<KeptBody>) -> Result<(), Memory>
         ensures { IfOk result (λ _. lists_of self.new ≡ one_more (lists_of self.old) (maybe_both body)) }
     {
         let (core, tree) = apart(body);
-        self.cores.push(core)?;
-        self.trees.push(tree)?;
-        Ok(())
+        let (tree, ()) = kept_while(tree, self.cores.push(core))?;
+        self.trees.push(tree)
     }
 }

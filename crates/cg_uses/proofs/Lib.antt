@@ -1,5 +1,5 @@
-pub mod MarkSteps
 pub mod Numbers
+pub mod PairSteps
 pub mod PartSteps
 pub mod SeenSteps
 pub mod SettleSteps

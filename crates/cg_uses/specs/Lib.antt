@@ -1,3 +1,4 @@
+pub mod Added
 pub mod Marks
 pub mod Noted
 pub mod Parted

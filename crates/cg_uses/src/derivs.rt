@@ -1,6 +1,7 @@
 // Derivations that are made of those of their parts.
 ghost use Rattle.std.specs.Prelude.{◌≡◌, IfOk, [], ◌∷◌, map};
-ghost use Rattle.cg_core.specs.Derivations.{derivation, derivation_of, to_derivations, done, part};
+ghost use Rattle.cg_core.specs.Derivations.{Derivation, derivation, derivation_of, to_derivations, done};
+ghost use Rattle.cg_uses.specs.Added.{Derives, with_last};
 ghost use Rattle.cg_uses.specs.Marks as splits;
 
 use cg_base::{Items, Memory};
@@ -19,15 +20,6 @@ pub fn leaf(alloc: Global, node: Node) -> Deriv
     }
 }
 
-// One mark string.
-fn one_string(alloc: Global, marks: Items<Mark>) -> Result<Items<Items<Mark>>, Memory>
-    ensures { IfOk result (λ strings. strings ≡ marks ∷ []) }
-{
-    let mut strings = Items::new(alloc);
-    strings.push(marks)?;
-    Ok(strings)
-}
-
 // No part.
 #[tactic(auto, using(crate::proofs::PartSteps::part_steps))]
 fn none(alloc: Global) -> Items<Deriv>
@@ -36,52 +28,54 @@ fn none(alloc: Global) -> Items<Deriv>
     Items::new(alloc)
 }
 
-// One part, two, and three.
+// The derivation of a node with these marks, whose parts are still to come.
 #[tactic(auto, using(crate::proofs::PartSteps::part_steps))]
-fn one(alloc: Global, first: Deriv) -> Result<Items<Deriv>, Memory>
-    ensures list { IfOk result (λ parts. parts ≡ first ∷ []) }
-    ensures tree { IfOk result (λ parts. to_derivations (map derivation_of parts) ≡ part (derivation_of first) done) }
+fn marked(alloc: Global, node: Node, marks: Items<Mark>) -> Result<Deriv, Memory>
+    ensures { IfOk result (λ tree. derivation_of tree ≡ derivation node (marks ∷ []) done) }
 {
-    let mut parts = Items::new(alloc);
-    parts.push(first)?;
-    Ok(parts)
-}
-
-#[tactic(auto, using(crate::proofs::PartSteps::part_steps))]
-fn two(alloc: Global, first: Deriv, second: Deriv) -> Result<Items<Deriv>, Memory>
-    ensures list { IfOk result (λ parts. parts ≡ first ∷ second ∷ []) }
-    ensures tree { IfOk result (λ parts. to_derivations (map derivation_of parts) ≡ part (derivation_of first) (part (derivation_of second) done)) }
-{
-    let mut parts = one(alloc, first)?;
-    parts.push(second)?;
-    Ok(parts)
-}
-
-#[tactic(auto, using(crate::proofs::PartSteps::part_steps))]
-fn three(alloc: Global, first: Deriv, second: Deriv, third: Deriv) -> Result<Items<Deriv>, Memory>
-    ensures list { IfOk result (λ parts. parts ≡ first ∷ second ∷ third ∷ []) }
-    ensures tree { IfOk result (λ parts. to_derivations (map derivation_of parts) ≡ part (derivation_of first) (part (derivation_of second) (part (derivation_of third) done))) }
-{
-    let mut parts = two(alloc, first, second)?;
-    parts.push(third)?;
-    Ok(parts)
-}
-
-/// The derivation of a node with one part. Want of memory is its one refusal.
-#[tactic(auto, using(crate::proofs::PartSteps::part_steps))]
-pub fn one_part(alloc: Global, node: Node, first: Deriv) -> Result<Deriv, Memory>
-    ensures { IfOk result (λ tree. derivation_of tree ≡ splits.one_part node (derivation_of first)) }
-{
-    let parts = one(alloc, first)?;
+    let mut strings = Items::new(alloc);
+    strings.push(marks)?;
     Ok(Deriv {
         node,
-        marks: Items::new(alloc),
-        parts,
+        marks: strings,
+        parts: none(alloc),
     })
 }
 
-/// The derivation of a node with two parts. Want of memory is its one refusal.
+// A derivation with one part more behind its others.
 #[tactic(auto, using(crate::proofs::PartSteps::part_steps))]
+fn push(tree: Deriv, last: Deriv) -> Result<Deriv, Memory>
+    ensures { IfOk result (λ whole. derivation_of whole ≡ with_last (derivation_of tree) (derivation_of last)) }
+{
+    let mut tree = tree;
+    tree.parts.push(last)?;
+    Ok(tree)
+}
+
+// The same of what was made, where there was memory for it.
+#[tactic(auto)]
+fn with_part(tree: Result<Deriv, Memory>, last: Deriv) -> Result<Deriv, Memory>
+    ensures { (d : Derivation) → Derives tree d → Derives result (with_last d (derivation_of last)) }
+{
+    match tree {
+        Ok(tree) => push(tree, last),
+        Err(memory) => {
+            drop(last);
+            Err(memory)
+        }
+    }
+}
+
+/// The derivation of a node with one part. Want of memory is its one refusal.
+#[tactic(auto)]
+pub fn one_part(alloc: Global, node: Node, first: Deriv) -> Result<Deriv, Memory>
+    ensures { IfOk result (λ tree. derivation_of tree ≡ splits.one_part node (derivation_of first)) }
+{
+    push(leaf(alloc, node), first)
+}
+
+/// The derivation of a node with two parts. Want of memory is its one refusal.
+#[tactic(auto)]
 pub fn two_parts(
     alloc: Global,
     node: Node,
@@ -91,13 +85,11 @@ pub fn two_parts(
 ) -> Result<Deriv, Memory>
     ensures { IfOk result (λ tree. derivation_of tree ≡ splits.two_parts node marks (derivation_of first) (derivation_of second)) }
 {
-    let parts = two(alloc, first, second)?;
-    let marks = one_string(alloc, marks)?;
-    Ok(Deriv { node, marks, parts })
+    with_part(with_part(marked(alloc, node, marks), first), second)
 }
 
 /// The derivation of a node with three parts. Want of memory is its one refusal.
-#[tactic(auto, using(crate::proofs::PartSteps::part_steps))]
+#[tactic(auto)]
 pub fn three_parts(
     alloc: Global,
     node: Node,
@@ -108,7 +100,6 @@ pub fn three_parts(
 ) -> Result<Deriv, Memory>
     ensures { IfOk result (λ tree. derivation_of tree ≡ splits.three_parts node marks (derivation_of first) (derivation_of second) (derivation_of third)) }
 {
-    let parts = three(alloc, first, second, third)?;
-    let marks = one_string(alloc, marks)?;
-    Ok(Deriv { node, marks, parts })
+    let two = with_part(with_part(marked(alloc, node, marks), first), second);
+    with_part(two, third)
 }

@@ -1,9 +1,9 @@
 // The marks of a split, and what is present in a part that doesn't touch it.
-#![tactic(auto, using(crate::proofs::MarkSteps::mark_steps))]
+#![tactic(auto)]
 
-ghost use Rattle.std.specs.Prelude.{◌≡◌, ◌&&◌, ◌++◌, not, IfOk, map};
+ghost use Rattle.std.specs.Prelude.{◌≡◌, ◌&&◌, ◌++◌, not, IfOk};
 ghost use Rattle.cg_uses.specs.Marks as splits;
-ghost use Rattle.cg_uses.specs.Uses.{is_seen, pairs};
+ghost use Rattle.cg_uses.specs.Uses.{is_seen};
 
 use cg_base::{Items, Memory, Place};
 use cg_core::Mark;
@@ -32,44 +32,15 @@ fn mark_seen(seen: Option<Place>, first: Use, second: Use) -> Mark
     }
 }
 
-// Marks as a list of the tree's kind.
-fn listed(alloc: Global, marks: &Vec<Mark>) -> Result<Items<Mark>, Memory>
-    ensures { IfOk result (λ list. list ≡ marks.now.items) }
-{
-    let mut list = Items::new(alloc);
-    for mark in marks.as_slice() {
-        list.push(*mark)?;
-    }
-    Ok(list)
-}
-
-fn marks_between(alloc: Global, first: &[Use], second: &[Use]) -> Result<Vec<Mark>, Memory>
-    ensures { IfOk result (λ marks. marks.items ≡ splits.marks_of_uses first.now second.now) }
-{
-    let all = first.iter().zip(second);
-    let marks = all.map(|(a, b)| mark_of(a.touched, b.touched));
-    Ok(marks.collect(alloc)?)
-}
-
 /// The marks between two parts, by what they touch. Want of memory is its one refusal.
 pub fn marks_of_uses(alloc: Global, first: &[Use], second: &[Use]) -> Result<Items<Mark>, Memory>
     ensures { IfOk result (λ marks. marks ≡ splits.marks_of_uses first.now second.now) }
 {
-    let marks = marks_between(alloc, first, second)?;
-    listed(alloc, &marks)
-}
-
-fn marks_observed(
-    alloc: Global,
-    seen: &[Option<Place>],
-    first: &[Use],
-    second: &[Use],
-) -> Result<Vec<Mark>, Memory>
-    ensures { IfOk result (λ marks. marks.items ≡ splits.marks_seen seen.now first.now second.now) }
-{
-    let all = seen.iter().zip(first).zip(second);
-    let marks = all.map(|((s, a), b)| mark_seen(*s, *a, *b));
-    Ok(marks.collect(alloc)?)
+    let mut marks = Items::new(alloc);
+    for i in 0..first.len().min(second.len()) {
+        marks.push(mark_of(first[i].touched, second[i].touched))?;
+    }
+    Ok(marks)
 }
 
 /// The marks of a `let!`, which observes some variables. Want of memory is its one refusal.
@@ -81,55 +52,51 @@ pub fn marks_seen(
 ) -> Result<Items<Mark>, Memory>
     ensures { IfOk result (λ marks. marks ≡ splits.marks_seen seen.now first.now second.now) }
 {
-    let marks = marks_observed(alloc, seen, first, second)?;
-    listed(alloc, &marks)
-}
-
-// The positions of raised flags.
-fn raised(alloc: Global, flags: &Vec<bool>) -> Result<Vec<usize>, Memory>
-    ensures { IfOk result (λ kept. kept.items ≡ splits.raised 0 flags.now.items) }
-{
-    let mut kept = Vec::new(alloc);
-    for at in 0..flags.len() {
-        if flags[at] {
-            kept.push(at)?;
-        }
+    let mut marks = Items::new(alloc);
+    for i in 0..seen.len().min(first.len()).min(second.len()) {
+        marks.push(mark_seen(seen[i], first[i], second[i]))?;
     }
-    Ok(kept)
+    Ok(marks)
 }
 
-// Of each variable, whether one branch doesn't touch it, and the other does.
-fn beside(alloc: Global, branch: &[Use], other: &[Use]) -> Result<Vec<bool>, Memory>
-    ensures { IfOk result (λ flags. flags.items ≡ pairs (λ u v. not u.touched && v.touched) branch.now other.now) }
+// Whether one branch doesn't touch a variable, and the other does.
+fn is_beside(branch: Use, other: Use) -> bool
+    ensures { result ≡ (not branch.touched && other.touched) }
 {
-    let all = branch.iter().zip(other);
-    let flags = all.map(|(a, b)| !a.touched && b.touched);
-    Ok(flags.collect(alloc)?)
+    !branch.touched && other.touched
 }
 
 /// The variables that one branch doesn't touch, and the other does. Want of memory is its one refusal.
 pub fn kept_beside(alloc: Global, branch: &[Use], other: &[Use]) -> Result<Vec<usize>, Memory>
     ensures { IfOk result (λ kept. kept.items ≡ splits.kept_beside branch.now other.now) }
 {
-    let flags = beside(alloc, branch, other)?;
-    raised(alloc, &flags)
+    let mut kept = Vec::new(alloc);
+    for i in 0..branch.len().min(other.len()) {
+        if is_beside(branch[i], other[i]) {
+            kept.push(i)?;
+        }
+    }
+    Ok(kept)
 }
 
-// Of each variable, whether a `let!` observes it, and this part of it doesn't touch it.
-fn unseen(alloc: Global, seen: &[Option<Place>], part: &[Use]) -> Result<Vec<bool>, Memory>
-    ensures { IfOk result (λ flags. flags.items ≡ pairs (λ s u. is_seen s && not u.touched) seen.now part.now) }
+// Whether a `let!` observes a variable, and this part of it doesn't touch it.
+fn is_unseen(seen: Option<Place>, part: Use) -> bool
+    ensures { result ≡ (is_seen seen && not part.touched) }
 {
-    let all = seen.iter().zip(part);
-    let flags = all.map(|(s, u)| s.is_some() && !u.touched);
-    Ok(flags.collect(alloc)?)
+    seen.is_some() && !part.touched
 }
 
 /// The variables that a `let!` observes, and this part of it doesn't touch. Want of memory is its one refusal.
 pub fn kept_seen(alloc: Global, seen: &[Option<Place>], part: &[Use]) -> Result<Vec<usize>, Memory>
     ensures { IfOk result (λ kept. kept.items ≡ splits.kept_seen seen.now part.now) }
 {
-    let flags = unseen(alloc, seen, part)?;
-    raised(alloc, &flags)
+    let mut kept = Vec::new(alloc);
+    for i in 0..seen.len().min(part.len()) {
+        if is_unseen(seen[i], part[i]) {
+            kept.push(i)?;
+        }
+    }
+    Ok(kept)
 }
 
 /// A new variable joins them where it isn't touched. Want of memory is its one refusal.

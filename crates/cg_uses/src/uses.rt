@@ -1,5 +1,5 @@
 // Tables of uses: what a part does with each variable of its context.
-#![tactic(auto, using(crate::proofs::TableSteps::table_steps))]
+#![tactic(auto)]
 
 ghost use Rattle.std.specs.Prelude.{◌≡◌, IfOk, ◌&&◌, ◌||◌, not, replicate, slice_set, None};
 ghost use Rattle.cg_uses.specs.Uses as tables;
@@ -25,6 +25,7 @@ const USED: Use = Use {
 };
 
 /// Nothing, of each of so many variables. Want of memory is its one refusal.
+#[tactic(auto, using(crate::proofs::TableSteps::table_steps))]
 pub fn no_uses(alloc: Global, count: usize) -> Result<Vec<Use>, Memory>
     ensures { IfOk result (λ uses. uses.items ≡ tables.no_uses count) }
 {
@@ -32,6 +33,7 @@ pub fn no_uses(alloc: Global, count: usize) -> Result<Vec<Use>, Memory>
 }
 
 // One item of a list in another's place, where there is one.
+#[tactic(auto, using(crate::proofs::TableSteps::table_steps))]
 fn put<T: Copy>(items: &mut Vec<T>, at: usize, item: T)
     ensures { items.new.items ≡ slice_set items.old.items at item }
 {
@@ -41,6 +43,7 @@ fn put<T: Copy>(items: &mut Vec<T>, at: usize, item: T)
 }
 
 /// One use of a variable, of so many. Want of memory is its one refusal.
+#[tactic(auto, using(crate::proofs::TableSteps::table_steps))]
 pub fn one_use(alloc: Global, count: usize, at: usize) -> Result<Vec<Use>, Memory>
     ensures { IfOk result (λ uses. uses.items ≡ tables.var_uses count at) }
 {
@@ -74,27 +77,36 @@ fn both(first: Use, second: Use) -> Use
 pub fn join(alloc: Global, first: &[Use], second: &[Use]) -> Result<Vec<Use>, Memory>
     ensures { IfOk result (λ uses. uses.items ≡ tables.join first.now second.now) }
 {
-    let uses = first.iter().zip(second).map(|(a, b)| both(*a, *b));
-    Ok(uses.collect(alloc)?)
+    let mut uses = Vec::new(alloc);
+    for i in 0..first.len().min(second.len()) {
+        uses.push(both(first[i], second[i]))?;
+    }
+    Ok(uses)
+}
+
+// Whether a variable was touched before, or is by one more part.
+fn touched(before: bool, part: Use) -> bool
+    ensures { result ≡ (before || part.touched) }
+{
+    before || part.touched
 }
 
 /// What was touched before, and by one more part. Want of memory is its one refusal.
 pub fn mark(alloc: Global, before: &[bool], uses: &[Use]) -> Result<Vec<bool>, Memory>
     ensures { IfOk result (λ flags. flags.items ≡ tables.mark before.now uses.now) }
 {
-    let flags = before.iter().zip(uses).map(|(b, u)| *b || u.touched);
-    Ok(flags.collect(alloc)?)
+    let mut flags = Vec::new(alloc);
+    for i in 0..before.len().min(uses.len()) {
+        flags.push(touched(before[i], uses[i]))?;
+    }
+    Ok(flags)
 }
 
 // No observer of any of so many variables.
 fn unseen(alloc: Global, count: usize) -> Result<Vec<Option<Place>>, Memory>
     ensures { IfOk result (λ seen. seen.items ≡ replicate count None) }
 {
-    let mut seen = Vec::new(alloc);
-    for _at in 0..count {
-        seen.push(None)?;
-    }
-    Ok(seen)
+    Ok(vec![in alloc; None; count]?)
 }
 
 /// The first observer of each of so many variables. Want of memory is its one refusal.
@@ -138,9 +150,11 @@ pub fn mark_but(
 ) -> Result<Vec<bool>, Memory>
     ensures { IfOk result (λ flags. flags.items ≡ tables.mark_but seen.now before.now uses.now) }
 {
-    let all = seen.iter().zip(before).zip(uses);
-    let flags = all.map(|((s, b), u)| touched_but(*s, *b, *u));
-    Ok(flags.collect(alloc)?)
+    let mut flags = Vec::new(alloc);
+    for i in 0..seen.len().min(before.len()).min(uses.len()) {
+        flags.push(touched_but(seen[i], before[i], uses[i]))?;
+    }
+    Ok(flags)
 }
 
 // What a `let!` does with a variable that it observes or not.
@@ -166,12 +180,15 @@ pub fn join_seen(
 ) -> Result<Vec<Use>, Memory>
     ensures { IfOk result (λ uses. uses.items ≡ tables.join_seen seen.now first.now second.now) }
 {
-    let all = seen.iter().zip(first).zip(second);
-    let uses = all.map(|((s, a), b)| both_seen(*s, *a, *b));
-    Ok(uses.collect(alloc)?)
+    let mut uses = Vec::new(alloc);
+    for i in 0..seen.len().min(first.len()).min(second.len()) {
+        uses.push(both_seen(seen[i], first[i], second[i]))?;
+    }
+    Ok(uses)
 }
 
 /// What is done with the last variable, which goes out of scope; nothing, where there is none.
+#[tactic(auto, using(crate::proofs::TableSteps::table_steps))]
 pub fn leave(uses: &mut Vec<Use>) -> Use
     ensures last { result ≡ tables.last uses.old.items }
     ensures front { uses.new.items ≡ tables.front uses.old.items }
