@@ -1,14 +1,15 @@
 -- What a term stands for, by its form.
-use Rattle.std.proofs.Common.{◌≡◌, ap, ◌∙◌, List, Box}
+use Rattle.std.proofs.Common.{◌≡◌, ap, ◌∙◌, List, map, Box}
 use Rattle.std.specs.declared.alloc.Global.{Global}
 use Rattle.cg_base.specs.declared.place.Place.{Place}
 use Rattle.cg_core.specs.declared.at.At.{At}
+use Rattle.cg_core.specs.declared.term.FieldTerm.{FieldTerm}
 use Rattle.cg_core.specs.declared.term.Form.TheVariants as form
 use Rattle.cg_core.specs.declared.term.Form.{Form, the_lemmas}
 use Rattle.cg_core.specs.declared.term.Seen.{Seen}
 use Rattle.cg_core.specs.declared.term.Term.{Term, fold_out-Term}
-use Rattle.cg_core.specs.Kernels.{the_term, the_form}
-use Rattle.cg_core.specs.Terms.{Tree, term, Shape, OneField, shape_layer, field_layer, term_layer, lets, let_bang, if_else, case_of, member, take_field, put}
+use Rattle.cg_core.specs.Kernels.{the_term, the_form, the_field}
+use Rattle.cg_core.specs.Terms.{Tree, term, Shape, OneField, shape_layer, field_layer, term_layer, lets, let_bang, if_else, case_of, esac, struct, to_named, member, take_field, put}
 
 by_form : (t : Term Place) (f : Form Place) → t.form ≡ f → the_term t ≡ term t.note (the_form f)
 by_form t f h =
@@ -26,6 +27,12 @@ if_form c x y = search the_lemmas
 
 case_form : (e : Box (Term Place) Global) (at : At) (b : Place) (x y : Box (Term Place) Global) → the_form (form.Case e at b x y) ≡ case_of (the_term e.value) at b (the_term x.value) (the_term y.value)
 case_form e at b x y = search the_lemmas
+
+esac_form : (at : At) (e : Box (Term Place) Global) → the_form (form.Esac at e) ≡ esac at (the_term e.value)
+esac_form at e = search the_lemmas
+
+struct_form : (fs : List (FieldTerm Place)) → the_form (form.Struct fs) ≡ struct (to_named (map the_field fs))
+struct_form fs = search the_lemmas
 
 member_form : (e : Box (Term Place) Global) (at : At) → the_form (form.Member e at) ≡ member (the_term e.value) at
 member_form e at = search the_lemmas
@@ -49,6 +56,12 @@ module _ (t : Term Place) where
 
   pub case_arm : (e : Box (Term Place) Global) (at : At) (b : Place) (x y : Box (Term Place) Global) → t.form ≡ form.Case e at b x y → the_term t ≡ term t.note (case_of (the_term e.value) at b (the_term x.value) (the_term y.value))
   case_arm e at b x y h = by_form t (form.Case e at b x y) h ∙ ap (term t.note) (case_form e at b x y)
+
+  pub esac_arm : (at : At) (e : Box (Term Place) Global) → t.form ≡ form.Esac at e → the_term t ≡ term t.note (esac at (the_term e.value))
+  esac_arm at e h = by_form t (form.Esac at e) h ∙ ap (term t.note) (esac_form at e)
+
+  pub struct_arm : (fs : List (FieldTerm Place)) → t.form ≡ form.Struct fs → the_term t ≡ term t.note (struct (to_named (map the_field fs)))
+  struct_arm fs h = by_form t (form.Struct fs) h ∙ ap (term t.note) (struct_form fs)
 
   pub member_arm : (e : Box (Term Place) Global) (at : At) → t.form ≡ form.Member e at → the_term t ≡ term t.note (member (the_term e.value) at)
   member_arm e at h = by_form t (form.Member e at) h ∙ ap (term t.note) (member_form e at)

@@ -1,31 +1,35 @@
 -- Forms of nodes as one step of the pass after another, where tests stand between their parts.
 use Rattle.std.specs.Prelude.{Bool, false, true, not, Option, Some, None, List, length, Ok}
 use Rattle.cg_base.specs.declared.kind.Kinds.{Kinds}
+use Rattle.cg_base.specs.declared.kind.Sigil.TheVariants.{U}
 use Rattle.cg_base.specs.declared.place.Place.{Place}
 use Rattle.cg_base.specs.Types as types
-use Rattle.cg_base.specs.Types.{Tau}
+use Rattle.cg_base.specs.Types.{Tau, fields}
 use Rattle.cg_nodes.specs.Nodes as forms
-use Rattle.cg_check_laws.specs.Pass.{Out, Got, bind, need, meet, check, leave, observers_test, branches_test}
+use Rattle.cg_nodes.specs.Scopes.{fine, scope_end, taken_end}
+use Rattle.cg_check_laws.specs.Pass.{Out, Got, bind, need, meet, check, check_fields, observers_test, branches_test}
 use Rattle.cg_core.specs.declared.at.At.{At}
 use Rattle.cg_core.specs.declared.term.Seen.{Seen}
 use Rattle.cg_core.specs.Kernels.{Function}
-use Rattle.cg_core.specs.Terms.{Tree}
-use Rattle.cg_faults.specs.declared.rule.Rule.TheVariants.{K2, K6, K7, T5, T6, T7, T8, T10}
-use Rattle.cg_faults.specs.Plain.{observed}
+use Rattle.cg_core.specs.Terms.{Tree, Named}
+use Rattle.cg_faults.specs.declared.rule.Rule.TheVariants.{K2, K6, K7, T1, T5, T6, T7, T8, T9, T10}
+use Rattle.cg_faults.specs.Events.{field_directions}
+use Rattle.cg_faults.specs.Plain.{is_made_of, observed}
 use Rattle.cg_kinds.specs.Kinds.{kinds}
 use Rattle.cg_typing.specs.Contexts.{push, shares}
-use Rattle.cg_typing.specs.Parts.{field_in, alternative_in, held, is_there, is_left, is_read_only, may_be_put_over, with_part}
+use Rattle.cg_typing.specs.Parts.{field_in, alternative_in, held, is_there, is_last, is_left, is_read_only, may_be_put_over, with_part}
 use Rattle.cg_typing.specs.Rules.{note_at, second_branch}
-use Rattle.cg_uses.specs.Uses.{mark, mark_but, seen_places, last, front}
-
--- a test that holds
-abbrev pub fine : Out (Unit {0})
-fine = Ok tt
+use Rattle.cg_uses.specs.Uses.{mark, mark_but, seen_places, front}
 
 -- what a part holds that is named, after the tests on it
 abbrev pub alternative_held : At → Tau → Out Tau
 alternative_held at t =
     need T8 at.place (is_there (alternative_in at.name t)) (need T10 at.place (is_left (alternative_in at.name t)) (Ok (held (alternative_in at.name t))))
+
+abbrev pub last_held : At → Tau → Out Tau
+last_held at t =
+    need T8 at.place (is_there (alternative_in at.name t)) (need T10 at.place (is_left (alternative_in at.name t))
+    (need T9 at.place (is_last at.name t) (Ok (held (alternative_in at.name t)))))
 
 abbrev pub member_held : List Kinds → At → Tau → Out Tau
 member_held vars at t =
@@ -42,11 +46,31 @@ put_held vars at t =
     need T5 at.place (is_there (field_in at.name t)) (need T7 at.place (not (is_read_only t))
     (need K7 at.place (may_be_put_over vars (field_in at.name t)) (Ok (held (field_in at.name t)))))
 
+-- the end of a match on the last alternative, of a member and of a put, behind their parts
+abbrev pub esac_end : Option Tau → Place → At → Got → Out Got
+esac_end direction place at u = bind (last_held at u.ty) (λ h. bind (meet direction place h fine) (λ _. Ok (forms.esac_node place h at u)))
+
+abbrev pub member_end : List Kinds → Option Tau → Place → At → Got → Out Got
+member_end vars direction place at u = bind (member_held vars at u.ty) (λ h. bind (meet direction place h fine) (λ _. Ok (forms.member_node place h at u)))
+
+abbrev pub put_end : Option Tau → Place → At → Got → Got → Out Got
+put_end direction place at u v =
+    bind (meet direction place (with_part at.name false u.ty) fine) (λ _. Ok (forms.put_node place (with_part at.name false u.ty) at u v))
+
+-- the type of a record: the one that is checked against, or the one that its fields make
+abbrev pub record_type : Option Tau → types.Parts → Tau
+record_type None ps = fields ps U
+record_type (Some t) ps = t
+
+-- fields are those of the type that is checked against, if any
+abbrev pub may_be_made_of : Option Tau → Named Place → Bool
+may_be_made_of None fs = true
+may_be_made_of (Some t) fs = is_made_of t fs
+
 module _ (functions : List Function) (vars : List Kinds) where
   -- a term in the scope of a new variable, with K3 at its end
   abbrev pub scoped : List Tau → List Bool → Option Tau → Place → Tau → Tree Place → Out Got
-  scoped p before direction binder t e =
-      bind (check functions vars (push p t) before direction e) (λ v. bind (leave functions vars binder t (last v.uses) fine) (λ _. Ok v))
+  scoped p before direction binder t e = bind (check functions vars (push p t) before direction e) (λ v. scope_end functions vars binder t v)
 
   abbrev pub let_by : List Tau → List Bool → Option Tau → Place → Place → Tree Place → Tree Place → Out Got
   let_by p before direction place binder e k =
@@ -57,16 +81,19 @@ module _ (functions : List Function) (vars : List Kinds) where
   let_bang_by p before direction place observers binder e k =
       let seen = seen_places (length p) observers in
       bind (observers_test functions vars p before observers fine) (λ _. bind (check functions vars (observed observers p) before None e) (λ u.
-      bind (need K2 (note_at e) (kinds vars u.ty).escape fine) (λ _.
-      bind (scoped p (push (mark_but seen before u.uses) false) direction binder u.ty k) (λ v.
-      Ok (forms.let_bang_node (length p) seen place observers binder u v)))))
+      bind (need K2 (note_at e) (kinds vars u.ty).escape (Ok (push (mark_but seen before u.uses) false))) (λ flags.
+      bind (scoped p flags direction binder u.ty k) (λ v. Ok (forms.let_bang_node (length p) seen place observers binder u v)))))
+
+  -- the end of a conditional, whose branches have these notes
+  abbrev pub if_end : List Tau → Place → Place → Place → Got → Got → Got → Out Got
+  if_end p place first second u v w = bind (branches_test functions vars first second p v.uses w.uses fine) (λ _. Ok (forms.if_node place u v w))
 
   -- a second branch, after the first
   abbrev pub if_by : List Tau → List Bool → Option Tau → Place → Tree Place → Tree Place → Tree Place → Out Got
   if_by p before direction place c x y =
       bind (check functions vars p before (Some types.bool) c) (λ u. bind (check functions vars p (mark before u.uses) direction x) (λ v.
       bind (check functions vars p (mark before u.uses) (second_branch direction v.ty) y) (λ w.
-      bind (branches_test functions vars (note_at x) (note_at y) p v.uses w.uses fine) (λ _. Ok (forms.if_node place u v w)))))
+      if_end p place (note_at x) (note_at y) u v w)))
 
   -- the end of a match, whose branches have these notes
   abbrev pub case_end : List Tau → Place → At → Place → Place → Place → Got → Got → Got → Out Got
@@ -89,15 +116,19 @@ module _ (functions : List Function) (vars : List Kinds) where
       bind (check functions vars p before None e) (λ u. bind (alternative_held at u.ty) (λ h. matched_by p before direction place at binder x y u h))
 
   abbrev pub member_by : List Tau → List Bool → Option Tau → Place → Tree Place → At → Out Got
-  member_by p before direction place e at =
-      bind (check functions vars p before None e) (λ u. bind (member_held vars at u.ty) (λ h. bind (meet direction place h fine) (λ _.
-      Ok (forms.member_node place h at u))))
+  member_by p before direction place e at = bind (check functions vars p before None e) (λ u. member_end vars direction place at u)
+
+  abbrev pub esac_by : List Tau → List Bool → Option Tau → Place → Tree Place → At → Out Got
+  esac_by p before direction place e at = bind (check functions vars p before None e) (λ u. esac_end direction place at u)
+
+  abbrev pub struct_by : List Tau → List Bool → Option Tau → Place → Named Place → Out Got
+  struct_by p before direction place fs =
+      need T1 place (may_be_made_of direction fs) (bind (check_fields functions vars p before (field_directions direction) fs) (λ u.
+      Ok (forms.struct_node place (record_type direction u.parts) u)))
 
   -- what a take's last part comes to, with K3 at both ends
   abbrev pub taken_by : List Tau → List Bool → Option Tau → Place → Place → Tau → Tau → Tree Place → Out Got
-  taken_by p before direction rest binder t h k =
-      bind (check functions vars (push (push p t) h) before direction k) (λ v. bind (leave functions vars rest t (last (front v.uses)) fine) (λ _.
-      bind (leave functions vars binder h (last v.uses) fine) (λ _. Ok v)))
+  taken_by p before direction rest binder t h k = bind (check functions vars (push (push p t) h) before direction k) (λ v. taken_end functions vars rest t binder h v)
 
   abbrev pub take_by : List Tau → List Bool → Option Tau → Place → Tree Place → At → Place → Place → Tree Place → Out Got
   take_by p before direction place e at rest binder k =
@@ -108,5 +139,4 @@ module _ (functions : List Function) (vars : List Kinds) where
   abbrev pub put_by : List Tau → List Bool → Option Tau → Place → Tree Place → At → Tree Place → Out Got
   put_by p before direction place e at x =
       bind (check functions vars p before None e) (λ u. bind (put_held vars at u.ty) (λ h.
-      bind (check functions vars p (mark before u.uses) (Some h) x) (λ v. bind (meet direction place (with_part at.name false u.ty) fine) (λ _.
-      Ok (forms.put_node place (with_part at.name false u.ty) at u v)))))
+      bind (check functions vars p (mark before u.uses) (Some h) x) (λ v. put_end direction place at u v)))

@@ -1,5 +1,4 @@
 pub mod Bodies
-pub mod Boxed
 pub mod Forms
 pub mod Judged
 pub mod Operators

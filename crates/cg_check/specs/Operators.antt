@@ -1,24 +1,63 @@
--- What an operator comes to that compares: words for their order, or words and truth values for equality.
-use Rattle.std.specs.Prelude.{Bool, true, false, List, Option, Some, None, Ok}
+-- Operators as one step of the pass after another: an operand, the other one, and the type of both.
+use Rattle.std.specs.Prelude.{Bool, false, cond, List, Option, Some, None, Ok}
 use Rattle.cg_base.specs.declared.place.Place.{Place}
 use Rattle.cg_base.specs.Types as types
 use Rattle.cg_base.specs.Types.{Tau}
 use Rattle.cg_check_laws.specs.Pass.{Got, Out, Way, bind, meet, need, operated, operated_both}
 use Rattle.cg_core.specs.declared.op.Op.{Op}
 use Rattle.cg_faults.specs.declared.rule.Rule.TheVariants.{T12}
-use Rattle.cg_typing.specs.Operators.{Sort, takes}
+use Rattle.cg_kinds.specs.Kinds.{is_word}
+use Rattle.cg_typing.specs.Operators.{Sort, arithmetic, logic, takes}
 use Rattle.cg_uses.specs.Uses.{mark}
 
--- with one operand
-abbrev pub compared : Sort → Op → Option Tau → Place → List Bool → Way → Out Got
-compared sort o direction place before x =
-    bind (x before None) (λ u. need T12 place (takes sort u.ty) (meet direction place types.bool (Ok (operated o place types.bool u))))
+-- the operand that is checked first: as the node says, or as the guide of the other one
+abbrev pub first_operand : Sort → Option Tau → Place → (Option Tau → Out Got) → Out Got
+first_operand logic direction place x = x (Some types.bool)
+first_operand arithmetic (Some t) place x = need T12 place (is_word t) (x (Some t))
+first_operand sort direction place x = bind (x None) (λ u. need T12 place (takes sort u.ty) (Ok u))
 
--- with two, of which the left one is a literal or not
-abbrev pub comparison : Sort → Op → Option Tau → Place → Bool → List Bool → Way → Way → Out Got
-comparison sort o direction place true before l r =
-    bind (r before None) (λ y. need T12 place (takes sort y.ty) (bind (l before (Some y.ty)) (λ x.
-    meet direction place types.bool (Ok (operated_both o place types.bool x y)))))
-comparison sort o direction place false before l r =
-    bind (l before None) (λ x. need T12 place (takes sort x.ty) (bind (r (mark before x.uses) (Some x.ty)) (λ y.
-    meet direction place types.bool (Ok (operated_both o place types.bool x y)))))
+-- the direction of the other one, whose guide has this type, or of an operand of arithmetic that is checked
+abbrev pub guided_direction : Sort → Option Tau → Tau → Option Tau
+guided_direction arithmetic (Some wanted) t = Some wanted
+guided_direction sort direction t = Some t
+
+-- the direction of an operand behind a left one of this type
+abbrev pub right_direction : Sort → Option Tau → Tau → Option Tau
+right_direction logic direction t = Some types.bool
+right_direction sort direction t = guided_direction sort direction t
+
+-- the type of the operator
+abbrev pub operator_type : Sort → Option Tau → Place → Tau → Out Tau
+operator_type arithmetic (Some wanted) place t = Ok wanted
+operator_type arithmetic None place t = Ok t
+operator_type sort direction place t = meet direction place types.bool (Ok types.bool)
+
+abbrev pub one_end : Op → Sort → Option Tau → Place → Got → Out Got
+one_end o sort direction place u = bind (operator_type sort direction place u.ty) (λ t. Ok (operated o place t u))
+
+-- of two, of which the first one that was checked has this type
+abbrev pub both_end : Op → Sort → Option Tau → Place → Tau → Got → Got → Out Got
+both_end o sort direction place first x y = bind (operator_type sort direction place first) (λ t. Ok (operated_both o place t x y))
+
+abbrev pub unary_by : Sort → Op → Option Tau → Place → List Bool → Way → Out Got
+unary_by sort o direction place before x = bind (first_operand sort direction place (λ way. x before way)) (λ u. one_end o sort direction place u)
+
+abbrev pub by_left : Sort → Op → Option Tau → Place → List Bool → Way → Way → Out Got
+by_left sort o direction place before l r =
+    bind (first_operand sort direction place (λ way. l before way)) (λ x. bind (r (mark before x.uses) (right_direction sort direction x.ty)) (λ y.
+    both_end o sort direction place x.ty x y))
+
+abbrev pub by_right : Sort → Op → Option Tau → Place → List Bool → Way → Way → Out Got
+by_right sort o direction place before l r =
+    bind (first_operand sort direction place (λ way. r before way)) (λ y. bind (l before (guided_direction sort direction y.ty)) (λ x.
+    both_end o sort direction place y.ty x y))
+
+-- whether the right operand is checked first: it guides a left one that is a literal
+abbrev pub is_by_right : Sort → Option Tau → Bool → Bool
+is_by_right logic direction literal = false
+is_by_right arithmetic (Some t) literal = false
+is_by_right sort direction literal = literal
+
+abbrev pub binary_by : Sort → Op → Option Tau → Place → Bool → List Bool → Way → Way → Out Got
+binary_by sort o direction place literal before l r =
+    cond (is_by_right sort direction literal) (by_right sort o direction place before l r) (by_left sort o direction place before l r)

@@ -3,7 +3,7 @@
 
 ghost use Rattle.std.specs.Prelude.{◌≡◌, IfOk, length, map, None};
 ghost use Rattle.std.specs.Option.{option_copied};
-ghost use Rattle.cg_base.specs.Types.{unit as unit_type};
+ghost use Rattle.cg_base.specs.Types.{type_of, unit as unit_type};
 ghost use Rattle.cg_check_laws.specs.Pass.{check_shape, leaf as leaf_by};
 ghost use Rattle.cg_context.specs.View.{Agrees, entries_of, types_in};
 ghost use Rattle.cg_core.specs.declared.derivation.Node.TheVariants as nodes;
@@ -13,18 +13,42 @@ ghost use Rattle.cg_core.specs.Terms.{arg_of};
 ghost use Rattle.cg_faults.specs.Plain.{mentioned as mentioned_type};
 ghost use Rattle.cg_nodes.specs.Gots.{got_of};
 ghost use Rattle.cg_pieces.specs.View.{bounds_of, way_of};
-ghost use Rattle.cg_uses.specs.Uses as tables;
 
-use crate::boxed::boxed;
-use cg_base::{Fun, Items, Memory, Place, Ty};
+use cg_base::{Fun, Items, Place, Ty};
 use cg_context::{Known, Source, Stop, may_touch, meet, need, type_at};
-use cg_core::{Form, Node, Op, TyArg, Typed};
-use cg_faults::{Rule, Use};
-use cg_nodes::{Got, leaf_of};
+use cg_core::{Form, Node, Op, Term, TyArg, Typed};
+use cg_faults::Rule;
+use cg_nodes::{Got, boxed, copied, leaf_of};
 use cg_parts::{arguments_fault, in_range, is_word, mentioned};
 use cg_pieces::copied_arguments;
 use cg_uses::{no_uses, one_use};
 use std::alloc::Global;
+
+// A core of this type and form.
+fn plain(place: Place, ty: Ty, form: Form<Typed>) -> Term<Typed>
+    ensures place { result.note.place ≡ place }
+    ensures ty { result.note.ty ≡ ty }
+    ensures form { result.form ≡ form }
+{
+    let note = Typed { place, ty };
+    Term { note, form }
+}
+
+// A leaf that uses no variable.
+#[tactic(auto, using(cg_context::proofs::SourceSteps::types_long, crate::proofs::PassSteps::pass_steps))]
+fn check_leaf(
+    source: &Source,
+    context: &Vec<Known>,
+    direction: Option<&Ty>,
+    core: Term<Typed>,
+    node: Node,
+) -> Result<Got, Stop>
+    ensures { Agrees got_of result (leaf_by (length (types_in (entries_of context.now.items))) (way_of (option_copied direction.entry)) core.note.place (type_of core.note.ty) (the_core_form core.form) node) }
+{
+    meet(direction, core.note.place, &core.note.ty)?;
+    let uses = no_uses(source.alloc, context.len())?;
+    leaf_of(source.alloc, core, node, uses)
+}
 
 /// A variable.
 pub(crate) fn check_var(
@@ -43,16 +67,10 @@ pub(crate) fn check_var(
         return Err(Stop::Rule(Rule::K4, place));
     }
     let ty = boxed(source.alloc, type_at(source.alloc, context, var))?;
-    meet(direction, place, &ty)?;
+    let core = plain(place, Box::into_inner(ty), Form::Var(at));
+    meet(direction, place, &core.note.ty)?;
     let uses = one_use(source.alloc, context.len(), var)?;
-    Ok(leaf_of(
-        source.alloc,
-        place,
-        Box::into_inner(ty),
-        Form::Var(at),
-        Node::Var,
-        uses,
-    )?)
+    leaf_of(source.alloc, core, Node::Var, uses)
 }
 
 /// A truth value.
@@ -67,16 +85,8 @@ pub(crate) fn check_bool(
     ensures answer { Agrees got_of result (check_shape (map function_of source.now.functions.now) (bounds_of source.now.vars.now) (types_in (entries_of context.old.items)) before.now.items (way_of (option_copied direction.entry)) place (terms.bool value)) }
     ensures same { IfOk result (λ _. entries_of context.new.items ≡ entries_of context.old.items) }
 {
-    let uses = no_uses(source.alloc, context.len())?;
-    meet(direction, place, &Ty::Bool)?;
-    Ok(leaf_of(
-        source.alloc,
-        place,
-        Ty::Bool,
-        Form::Bool(value),
-        Node::Bool,
-        uses,
-    )?)
+    let core = plain(place, Ty::Bool, Form::Bool(value));
+    check_leaf(source, context, direction, core, Node::Bool)
 }
 
 /// Unit.
@@ -90,9 +100,8 @@ pub(crate) fn check_unit(
     ensures answer { Agrees got_of result (check_shape (map function_of source.now.functions.now) (bounds_of source.now.vars.now) (types_in (entries_of context.old.items)) before.now.items (way_of (option_copied direction.entry)) place (terms.unit)) }
     ensures same { IfOk result (λ _. entries_of context.new.items ≡ entries_of context.old.items) }
 {
-    let uses = no_uses(source.alloc, context.len())?;
-    meet(direction, place, &Ty::Unit)?;
-    Ok(leaf_of(source.alloc, place, Ty::Unit, Form::Unit, Node::Unit, uses)?)
+    let core = plain(place, Ty::Unit, Form::Unit);
+    check_leaf(source, context, direction, core, Node::Unit)
 }
 
 /// A literal.
@@ -112,9 +121,9 @@ pub(crate) fn check_literal(
     };
     need(Rule::T1, place, is_word(ty))?;
     need(Rule::T3, place, in_range(value, ty))?;
-    let uses = no_uses(source.alloc, context.len())?;
-    let ty = ty.copy(source.alloc)?;
-    Ok(leaf_of(source.alloc, place, ty, Form::Lit(value), Node::Lit, uses)?)
+    let ty = copied(source.alloc, ty)?;
+    let core = plain(place, Box::into_inner(ty), Form::Lit(value));
+    check_leaf(source, context, None, core, Node::Lit)
 }
 
 /// A function that is mentioned.
@@ -152,25 +161,9 @@ fn check_instance(
         source.alloc,
         mentioned(source.alloc, source.functions, fun, args),
     )?;
-    meet(direction, place, &ty)?;
-    let uses = no_uses(source.alloc, context.len())?;
     let args = copied_arguments(source.alloc, args)?;
-    Ok(leaf_of(
-        source.alloc,
-        place,
-        Box::into_inner(ty),
-        Form::Fun(fun, args),
-        Node::Fun,
-        uses,
-    )?)
-}
-
-// No use of any variable of a context.
-#[tactic(auto, using(crate::proofs::OperandSteps::bare_steps))]
-fn unused(alloc: Global, context: &Vec<Known>) -> Result<Vec<Use>, Memory>
-    ensures { IfOk result (λ uses. uses.items ≡ tables.no_uses (length (types_in (entries_of context.now.items)))) }
-{
-    no_uses(alloc, context.len())
+    let core = plain(place, Box::into_inner(ty), Form::Fun(fun, args));
+    check_leaf(source, context, direction, core, Node::Fun)
 }
 
 // The form of an operator without operands.
@@ -190,7 +183,6 @@ pub(crate) fn check_bare(
 ) -> Result<Got, Stop>
     ensures { Agrees got_of result (leaf_by (length (types_in (entries_of context.now.items))) None place unit_type (terms.op op terms.none) nodes.Op) }
 {
-    let uses = unused(source.alloc, context)?;
-    let form = bare(source.alloc, op);
-    Ok(leaf_of(source.alloc, place, Ty::Unit, form, Node::Op, uses)?)
+    let core = plain(place, Ty::Unit, bare(source.alloc, op));
+    check_leaf(source, context, None, core, Node::Op)
 }

@@ -2,7 +2,7 @@
 //! docs/LANGUAGE.md, "Typing", says the rules.
 #![tactic(auto)]
 
-mod boxed;
+mod ends;
 mod functions;
 mod leaves;
 mod pass;

@@ -1,46 +1,48 @@
 // The pass over a term.
 #![tactic(auto, unfolding(cg_check_laws::specs::Pass::check, crate::proofs::PassSteps::size), using(crate::proofs::PassSteps::pass_steps))]
 
-ghost use Rattle.std.specs.Prelude.{◌≡◌, IfOk, map, None, Some, false, true};
+ghost use Rattle.std.specs.Prelude.{◌≡◌, IfOk, Ok, map, None, false, true};
 ghost use Rattle.std.specs.Option.{option_copied};
 ghost use Rattle.cg_base.specs.Types.{type_of, part_of, to_parts};
 ghost use Rattle.cg_core.specs.Kernels.{function_of, the_field, the_term};
 ghost use Rattle.cg_core.specs.Terms as terms;
 ghost use Rattle.cg_core.specs.Terms.{arg_of, to_named, to_trees};
-ghost use Rattle.cg_check_laws.specs.Pass.{binary, check as check_of, check_shape, check_fields as fields_by, unary};
+ghost use Rattle.cg_check_laws.specs.Pass.{bind, check as check_of, check_shape, check_fields as fields_by, need as need_by};
 ghost use Rattle.cg_context.specs.View.{Agrees, entries_of, types_in};
 ghost use Rattle.cg_pieces.specs.View.{bounds_of, shape_at, way_of};
 ghost use Rattle.cg_nodes.specs.Gots.{got_of};
 ghost use Rattle.cg_typing.specs.Contexts.{push as push_of};
 ghost use Rattle.cg_typing.specs.Rules.{is_literal as literal_of, note_at as note_of};
 ghost use Rattle.cg_nodes.specs.Fields.{fields_of};
-ghost use Rattle.cg_check.specs.Forms.{case_by, case_end, if_by, let_bang_by, let_by, matched_by, member_by, other_by, put_by, scoped, take_by, taken_by};
+ghost use Rattle.cg_check.specs.Forms.{case_by, esac_by, if_by, let_bang_by, let_by, member_by, other_by, put_by, scoped, struct_by, take_by, taken_by};
 ghost use Rattle.cg_context.specs.Observed.{see};
-ghost use Rattle.cg_check.specs.Operators.{compared, comparison};
+ghost use Rattle.cg_check.specs.Operators.{binary_by, by_left, by_right, first_operand, right_direction, unary_by};
 ghost use Rattle.cg_faults.specs.Events.{part_directions};
 ghost use Rattle.cg_faults.specs.Plain.{observed};
 ghost use Rattle.cg_parts.specs.Views.{the_sort};
-ghost use Rattle.cg_typing.specs.Operators.{arithmetic, logic, sort_of as sort_by};
+ghost use Rattle.cg_faults.specs.declared.rule.Rule.TheVariants.{T12};
+ghost use Rattle.cg_typing.specs.Operators.{sort_of as sort_by, takes as takes_by};
+ghost use Rattle.cg_uses.specs.Uses as tables;
 ghost use Rattle.cg_typing.specs.Parts.{with_part as with_part_of};
 
-use crate::boxed::{boxed, boxed_tested};
+use crate::ends::{
+    end_annot, end_app, end_by_left, end_by_right, end_case, end_cast, end_esac, end_if,
+    end_member, end_put, end_struct, end_unary, guided_direction, is_by_right, may_be_made_of,
+    small, taken_by_sort,
+};
 use crate::leaves::{check_bare, check_bool, check_literal, check_mention, check_unit, check_var};
 use cg_base::{Items, Name, Part, Place, Ty};
 use cg_context::{
-    Known, Source, Stop, alternative_type, branches, but_last, end, enter, escape, flags_of,
-    injected_type, inner, inner_seen, inner_two, last_type, last_use, leave, meet, member_type,
-    need, observe, observe_all, put_type, restore, taken_type, use_before_last,
+    Known, Source, Stop, alternative_type, flags_of, injected_type, inner, inner_two, leave, need,
+    observe, observe_all, put_type, restore, taken_type,
 };
 use cg_core::{At, FieldTerm, Form, Op, Seen, Term, TyArg};
 use cg_faults::Rule;
 use cg_nodes::{
-    Fields, Got, annot_node, app_node, are_none, case_node, cast_node, con_node, esac_node,
-    if_node, let_bang_node, let_node, member_node, no_fields, operated, operated_both,
-    put_in_front, put_node, record_node, struct_node, take_node,
+    Fields, Got, are_none, behind_observed, boxed, boxed_tested, con_node, end_scoped, end_taken,
+    enter_both, enter_copy, in_front, let_bang_node, let_node, no_fields, take_node,
 };
-use cg_parts::{
-    Sort, has_word_arrays, is_made_of, is_small_enough, is_word, sort_of, takes, widens, with_part,
-};
+use cg_parts::{Sort, has_word_arrays, is_word, sort_of, with_part};
 use cg_pieces::{is_literal, later_wanted, next_wanted, other_way, parts_of};
 use cg_uses::{mark, seen_places};
 
@@ -57,11 +59,7 @@ pub(crate) fn check_term(
     ensures same { IfOk result (λ _. entries_of context.new.items ≡ entries_of context.old.items) }
 {
     let got = check_form(source, context, before, direction, term)?;
-    if is_small_enough(got.ty()) {
-        Ok(got)
-    } else {
-        Err(Stop::Size(term.note))
-    }
+    small(term.note, got)
 }
 
 // The same, whatever the size of its type.
@@ -142,7 +140,6 @@ fn check_op(
         _ => check_bare(source, context, place, op),
     }
 }
-
 // An operator with one operand.
 #[cycle(check)]
 fn check_unary(
@@ -154,107 +151,12 @@ fn check_unary(
     op: Op,
     part: &Term<Place>,
 ) -> Result<Got, Stop>
-    ensures answer { Agrees got_of result (unary (sort_by op) op (way_of (option_copied direction.entry)) place before.now.items (λ flags way. check_of (map function_of source.now.functions.now) (bounds_of source.now.vars.now) (types_in (entries_of context.old.items)) flags way (the_term part.now))) }
+    ensures answer { Agrees got_of result (unary_by (sort_by op) op (way_of (option_copied direction.entry)) place before.now.items (λ flags way. check_of (map function_of source.now.functions.now) (bounds_of source.now.vars.now) (types_in (entries_of context.old.items)) flags way (the_term part.now))) }
     ensures same { IfOk result (λ _. entries_of context.new.items ≡ entries_of context.old.items) }
 {
     let sort = sort_of(op);
-    match sort {
-        Sort::Logic => check_logic(source, context, before, direction, place, op, part),
-        Sort::Arithmetic => match direction {
-            Some(wanted) => check_arithmetic_against(
-                source, context, before, wanted, place, op, part,
-            ),
-            None => check_arithmetic(source, context, before, place, op, part),
-        },
-        Sort::Equality | Sort::Order => check_compared(
-            source, context, before, direction, place, op, sort, part,
-        ),
-    }
-}
-
-// A truth value of one.
-#[cycle(check)]
-fn check_logic(
-    source: &Source,
-    context: &mut Vec<Known>,
-    before: &Vec<bool>,
-    direction: Option<&Ty>,
-    place: Place,
-    op: Op,
-    part: &Term<Place>,
-) -> Result<Got, Stop>
-    ensures answer { Agrees got_of result (unary logic op (way_of (option_copied direction.entry)) place before.now.items (λ flags way. check_of (map function_of source.now.functions.now) (bounds_of source.now.vars.now) (types_in (entries_of context.old.items)) flags way (the_term part.now))) }
-    ensures same { IfOk result (λ _. entries_of context.new.items ≡ entries_of context.old.items) }
-{
-    let got = check_term(source, context, before, Some(&Ty::Bool), part)?;
-    meet(direction, place, &Ty::Bool)?;
-    Ok(operated(source.alloc, op, place, Ty::Bool, got)?)
-}
-
-// A word of one that is checked against its type.
-#[cycle(check)]
-fn check_arithmetic_against(
-    source: &Source,
-    context: &mut Vec<Known>,
-    before: &Vec<bool>,
-    wanted: &Ty,
-    place: Place,
-    op: Op,
-    part: &Term<Place>,
-) -> Result<Got, Stop>
-    ensures answer { Agrees got_of result (unary arithmetic op (Some (type_of wanted.now)) place before.now.items (λ flags way. check_of (map function_of source.now.functions.now) (bounds_of source.now.vars.now) (types_in (entries_of context.old.items)) flags way (the_term part.now))) }
-    ensures same { IfOk result (λ _. entries_of context.new.items ≡ entries_of context.old.items) }
-{
-    if !is_word(wanted) {
-        return Err(Stop::Rule(Rule::T12, place));
-    }
-    let got = check_term(source, context, before, Some(wanted), part)?;
-    let ty = wanted.copy(source.alloc)?;
-    Ok(operated(source.alloc, op, place, ty, got)?)
-}
-
-// A word of one that is synthesised.
-#[cycle(check)]
-fn check_arithmetic(
-    source: &Source,
-    context: &mut Vec<Known>,
-    before: &Vec<bool>,
-    place: Place,
-    op: Op,
-    part: &Term<Place>,
-) -> Result<Got, Stop>
-    ensures answer { Agrees got_of result (unary arithmetic op None place before.now.items (λ flags way. check_of (map function_of source.now.functions.now) (bounds_of source.now.vars.now) (types_in (entries_of context.old.items)) flags way (the_term part.now))) }
-    ensures same { IfOk result (λ _. entries_of context.new.items ≡ entries_of context.old.items) }
-{
-    let got = check_term(source, context, before, None, part)?;
-    if !is_word(got.ty()) {
-        return Err(Stop::Rule(Rule::T12, place));
-    }
-    let ty = got.ty().copy(source.alloc)?;
-    Ok(operated(source.alloc, op, place, ty, got)?)
-}
-
-// A comparison with one operand.
-#[cycle(check)]
-fn check_compared(
-    source: &Source,
-    context: &mut Vec<Known>,
-    before: &Vec<bool>,
-    direction: Option<&Ty>,
-    place: Place,
-    op: Op,
-    sort: Sort,
-    part: &Term<Place>,
-) -> Result<Got, Stop>
-    ensures answer { Agrees got_of result (compared (the_sort sort) op (way_of (option_copied direction.entry)) place before.now.items (λ flags way. check_of (map function_of source.now.functions.now) (bounds_of source.now.vars.now) (types_in (entries_of context.old.items)) flags way (the_term part.now))) }
-    ensures same { IfOk result (λ _. entries_of context.new.items ≡ entries_of context.old.items) }
-{
-    let got = check_term(source, context, before, None, part)?;
-    if !takes(sort, got.ty()) {
-        return Err(Stop::Rule(Rule::T12, place));
-    }
-    meet(direction, place, &Ty::Bool)?;
-    Ok(operated(source.alloc, op, place, Ty::Bool, got)?)
+    let got = check_first(source, context, before, direction, place, sort, part)?;
+    end_unary(source.alloc, direction, place, op, sort, got)
 }
 
 // An operator with two operands.
@@ -269,217 +171,146 @@ fn check_binary(
     left: &Term<Place>,
     right: &Term<Place>,
 ) -> Result<Got, Stop>
-    ensures answer { Agrees got_of result (binary (sort_by op) op (way_of (option_copied direction.entry)) place (literal_of (the_term left.now)) before.now.items (λ flags way. check_of (map function_of source.now.functions.now) (bounds_of source.now.vars.now) (types_in (entries_of context.old.items)) flags way (the_term left.now)) (λ flags way. check_of (map function_of source.now.functions.now) (bounds_of source.now.vars.now) (types_in (entries_of context.old.items)) flags way (the_term right.now))) }
+    ensures answer { Agrees got_of result (binary_by (sort_by op) op (way_of (option_copied direction.entry)) place (literal_of (the_term left.now)) before.now.items (λ flags way. check_of (map function_of source.now.functions.now) (bounds_of source.now.vars.now) (types_in (entries_of context.old.items)) flags way (the_term left.now)) (λ flags way. check_of (map function_of source.now.functions.now) (bounds_of source.now.vars.now) (types_in (entries_of context.old.items)) flags way (the_term right.now))) }
     ensures same { IfOk result (λ _. entries_of context.new.items ≡ entries_of context.old.items) }
 {
     let sort = sort_of(op);
+    if is_by_right(direction, sort, is_literal(left)) {
+        check_by_right(
+            source, context, before, direction, place, op, sort, left, right,
+        )
+    } else {
+        check_by_left(
+            source, context, before, direction, place, op, sort, left, right,
+        )
+    }
+}
+
+// The same, whose left operand is checked first.
+#[cycle(check)]
+fn check_by_left(
+    source: &Source,
+    context: &mut Vec<Known>,
+    before: &Vec<bool>,
+    direction: Option<&Ty>,
+    place: Place,
+    op: Op,
+    sort: Sort,
+    left: &Term<Place>,
+    right: &Term<Place>,
+) -> Result<Got, Stop>
+    ensures answer { Agrees got_of result (by_left (the_sort sort) op (way_of (option_copied direction.entry)) place before.now.items (λ flags way. check_of (map function_of source.now.functions.now) (bounds_of source.now.vars.now) (types_in (entries_of context.old.items)) flags way (the_term left.now)) (λ flags way. check_of (map function_of source.now.functions.now) (bounds_of source.now.vars.now) (types_in (entries_of context.old.items)) flags way (the_term right.now))) }
+    ensures same { IfOk result (λ _. entries_of context.new.items ≡ entries_of context.old.items) }
+{
+    let first = check_first(source, context, before, direction, place, sort, left)?;
+    let second = check_second(source, context, before, direction, sort, &first, right)?;
+    end_by_left(source.alloc, direction, place, op, sort, first, second)
+}
+
+// The same, whose right operand is checked first: the left one is a literal, which touches nothing.
+#[cycle(check)]
+fn check_by_right(
+    source: &Source,
+    context: &mut Vec<Known>,
+    before: &Vec<bool>,
+    direction: Option<&Ty>,
+    place: Place,
+    op: Op,
+    sort: Sort,
+    left: &Term<Place>,
+    right: &Term<Place>,
+) -> Result<Got, Stop>
+    ensures answer { Agrees got_of result (by_right (the_sort sort) op (way_of (option_copied direction.entry)) place before.now.items (λ flags way. check_of (map function_of source.now.functions.now) (bounds_of source.now.vars.now) (types_in (entries_of context.old.items)) flags way (the_term left.now)) (λ flags way. check_of (map function_of source.now.functions.now) (bounds_of source.now.vars.now) (types_in (entries_of context.old.items)) flags way (the_term right.now))) }
+    ensures same { IfOk result (λ _. entries_of context.new.items ≡ entries_of context.old.items) }
+{
+    let second = check_first(source, context, before, direction, place, sort, right)?;
+    let way = guided_direction(direction, sort, second.ty());
+    let first = check_term(source, context, before, way, left)?;
+    end_by_right(source.alloc, direction, place, op, sort, first, second)
+}
+
+// The operand that is checked first: as the node says, or as the guide of the other one (T12).
+#[cycle(check)]
+fn check_first(
+    source: &Source,
+    context: &mut Vec<Known>,
+    before: &Vec<bool>,
+    direction: Option<&Ty>,
+    place: Place,
+    sort: Sort,
+    part: &Term<Place>,
+) -> Result<Got, Stop>
+    ensures answer { Agrees got_of result (first_operand (the_sort sort) (way_of (option_copied direction.entry)) place (λ way. check_of (map function_of source.now.functions.now) (bounds_of source.now.vars.now) (types_in (entries_of context.old.items)) before.now.items way (the_term part.now))) }
+    ensures same { IfOk result (λ _. entries_of context.new.items ≡ entries_of context.old.items) }
+{
     match sort {
-        Sort::Logic => check_logic_of_both(
-            source, context, before, direction, place, op, left, right,
-        ),
+        Sort::Logic => check_term(source, context, before, Some(&Ty::Bool), part),
         Sort::Arithmetic => match direction {
-            Some(wanted) => check_sum_against(
-                source, context, before, wanted, place, op, left, right,
-            ),
-            None => check_sum(source, context, before, place, op, left, right),
+            Some(wanted) => {
+                need(Rule::T12, place, is_word(wanted))?;
+                check_term(source, context, before, direction, part)
+            }
+            None => check_guide(source, context, before, place, sort, part),
         },
-        Sort::Equality | Sort::Order => check_comparison(
-            source, context, before, direction, place, op, sort, left, right,
-        ),
+        Sort::Equality | Sort::Order => check_guide(source, context, before, place, sort, part),
     }
 }
 
-// A truth value of two.
+// An operand that guides the other one: it is of a type that the operator takes (T12).
 #[cycle(check)]
-fn check_logic_of_both(
-    source: &Source,
-    context: &mut Vec<Known>,
-    before: &Vec<bool>,
-    direction: Option<&Ty>,
-    place: Place,
-    op: Op,
-    left: &Term<Place>,
-    right: &Term<Place>,
-) -> Result<Got, Stop>
-    ensures answer { Agrees got_of result (binary logic op (way_of (option_copied direction.entry)) place (literal_of (the_term left.now)) before.now.items (λ flags way. check_of (map function_of source.now.functions.now) (bounds_of source.now.vars.now) (types_in (entries_of context.old.items)) flags way (the_term left.now)) (λ flags way. check_of (map function_of source.now.functions.now) (bounds_of source.now.vars.now) (types_in (entries_of context.old.items)) flags way (the_term right.now))) }
-    ensures same { IfOk result (λ _. entries_of context.new.items ≡ entries_of context.old.items) }
-{
-    let first = check_term(source, context, before, Some(&Ty::Bool), left)?;
-    let marked = mark(source.alloc, before, &first.uses)?;
-    let second = check_term(source, context, &marked, Some(&Ty::Bool), right)?;
-    meet(direction, place, &Ty::Bool)?;
-    Ok(operated_both(source.alloc, op, place, Ty::Bool, first, second)?)
-}
-
-// A word of two that is checked against its type.
-#[cycle(check)]
-fn check_sum_against(
-    source: &Source,
-    context: &mut Vec<Known>,
-    before: &Vec<bool>,
-    wanted: &Ty,
-    place: Place,
-    op: Op,
-    left: &Term<Place>,
-    right: &Term<Place>,
-) -> Result<Got, Stop>
-    ensures answer { Agrees got_of result (binary arithmetic op (Some (type_of wanted.now)) place (literal_of (the_term left.now)) before.now.items (λ flags way. check_of (map function_of source.now.functions.now) (bounds_of source.now.vars.now) (types_in (entries_of context.old.items)) flags way (the_term left.now)) (λ flags way. check_of (map function_of source.now.functions.now) (bounds_of source.now.vars.now) (types_in (entries_of context.old.items)) flags way (the_term right.now))) }
-    ensures same { IfOk result (λ _. entries_of context.new.items ≡ entries_of context.old.items) }
-{
-    if !is_word(wanted) {
-        return Err(Stop::Rule(Rule::T12, place));
-    }
-    let first = check_term(source, context, before, Some(wanted), left)?;
-    let marked = mark(source.alloc, before, &first.uses)?;
-    let second = check_term(source, context, &marked, Some(wanted), right)?;
-    let ty = wanted.copy(source.alloc)?;
-    Ok(operated_both(source.alloc, op, place, ty, first, second)?)
-}
-
-// A word of two that is synthesised.
-#[cycle(check)]
-fn check_sum(
+fn check_guide(
     source: &Source,
     context: &mut Vec<Known>,
     before: &Vec<bool>,
     place: Place,
-    op: Op,
-    left: &Term<Place>,
-    right: &Term<Place>,
-) -> Result<Got, Stop>
-    ensures answer { Agrees got_of result (binary arithmetic op None place (literal_of (the_term left.now)) before.now.items (λ flags way. check_of (map function_of source.now.functions.now) (bounds_of source.now.vars.now) (types_in (entries_of context.old.items)) flags way (the_term left.now)) (λ flags way. check_of (map function_of source.now.functions.now) (bounds_of source.now.vars.now) (types_in (entries_of context.old.items)) flags way (the_term right.now))) }
-    ensures same { IfOk result (λ _. entries_of context.new.items ≡ entries_of context.old.items) }
-{
-    if is_literal(left) {
-        check_sum_by_right(source, context, before, place, op, left, right)
-    } else {
-        check_sum_by_left(source, context, before, place, op, left, right)
-    }
-}
-
-// The same, whose guide is the left operand.
-#[cycle(check)]
-fn check_sum_by_left(
-    source: &Source,
-    context: &mut Vec<Known>,
-    before: &Vec<bool>,
-    place: Place,
-    op: Op,
-    left: &Term<Place>,
-    right: &Term<Place>,
-) -> Result<Got, Stop>
-    ensures answer { Agrees got_of result (binary arithmetic op None place false before.now.items (λ flags way. check_of (map function_of source.now.functions.now) (bounds_of source.now.vars.now) (types_in (entries_of context.old.items)) flags way (the_term left.now)) (λ flags way. check_of (map function_of source.now.functions.now) (bounds_of source.now.vars.now) (types_in (entries_of context.old.items)) flags way (the_term right.now))) }
-    ensures same { IfOk result (λ _. entries_of context.new.items ≡ entries_of context.old.items) }
-{
-    let first = check_term(source, context, before, None, left)?;
-    if !is_word(first.ty()) {
-        return Err(Stop::Rule(Rule::T12, place));
-    }
-    let marked = mark(source.alloc, before, &first.uses)?;
-    let second = check_term(source, context, &marked, Some(first.ty()), right)?;
-    let ty = first.ty().copy(source.alloc)?;
-    Ok(operated_both(source.alloc, op, place, ty, first, second)?)
-}
-
-// The same, whose guide is the right operand.
-#[cycle(check)]
-fn check_sum_by_right(
-    source: &Source,
-    context: &mut Vec<Known>,
-    before: &Vec<bool>,
-    place: Place,
-    op: Op,
-    left: &Term<Place>,
-    right: &Term<Place>,
-) -> Result<Got, Stop>
-    ensures answer { Agrees got_of result (binary arithmetic op None place true before.now.items (λ flags way. check_of (map function_of source.now.functions.now) (bounds_of source.now.vars.now) (types_in (entries_of context.old.items)) flags way (the_term left.now)) (λ flags way. check_of (map function_of source.now.functions.now) (bounds_of source.now.vars.now) (types_in (entries_of context.old.items)) flags way (the_term right.now))) }
-    ensures same { IfOk result (λ _. entries_of context.new.items ≡ entries_of context.old.items) }
-{
-    let second = check_term(source, context, before, None, right)?;
-    if !is_word(second.ty()) {
-        return Err(Stop::Rule(Rule::T12, place));
-    }
-    let first = check_term(source, context, before, Some(second.ty()), left)?;
-    let ty = second.ty().copy(source.alloc)?;
-    Ok(operated_both(source.alloc, op, place, ty, first, second)?)
-}
-
-// A comparison.
-#[cycle(check)]
-fn check_comparison(
-    source: &Source,
-    context: &mut Vec<Known>,
-    before: &Vec<bool>,
-    direction: Option<&Ty>,
-    place: Place,
-    op: Op,
     sort: Sort,
-    left: &Term<Place>,
-    right: &Term<Place>,
+    part: &Term<Place>,
 ) -> Result<Got, Stop>
-    ensures answer { Agrees got_of result (comparison (the_sort sort) op (way_of (option_copied direction.entry)) place (literal_of (the_term left.now)) before.now.items (λ flags way. check_of (map function_of source.now.functions.now) (bounds_of source.now.vars.now) (types_in (entries_of context.old.items)) flags way (the_term left.now)) (λ flags way. check_of (map function_of source.now.functions.now) (bounds_of source.now.vars.now) (types_in (entries_of context.old.items)) flags way (the_term right.now))) }
+    ensures answer { Agrees got_of result (bind (check_of (map function_of source.now.functions.now) (bounds_of source.now.vars.now) (types_in (entries_of context.old.items)) before.now.items None (the_term part.now)) (λ u. need_by T12 place (takes_by (the_sort sort) u.ty) (Ok u))) }
     ensures same { IfOk result (λ _. entries_of context.new.items ≡ entries_of context.old.items) }
 {
-    if is_literal(left) {
-        check_comparison_by_right(
-            source, context, before, direction, place, op, sort, left, right,
-        )
-    } else {
-        check_comparison_by_left(
-            source, context, before, direction, place, op, sort, left, right,
-        )
-    }
+    let got = check_term(source, context, before, None, part)?;
+    taken_by_sort(place, sort, got)
 }
 
-// The same, whose guide is the left operand.
+// The right operand behind the left one.
 #[cycle(check)]
-fn check_comparison_by_left(
+fn check_second(
     source: &Source,
     context: &mut Vec<Known>,
     before: &Vec<bool>,
     direction: Option<&Ty>,
-    place: Place,
-    op: Op,
     sort: Sort,
-    left: &Term<Place>,
-    right: &Term<Place>,
+    first: &Got,
+    part: &Term<Place>,
 ) -> Result<Got, Stop>
-    ensures answer { Agrees got_of result (comparison (the_sort sort) op (way_of (option_copied direction.entry)) place false before.now.items (λ flags way. check_of (map function_of source.now.functions.now) (bounds_of source.now.vars.now) (types_in (entries_of context.old.items)) flags way (the_term left.now)) (λ flags way. check_of (map function_of source.now.functions.now) (bounds_of source.now.vars.now) (types_in (entries_of context.old.items)) flags way (the_term right.now))) }
+    ensures answer { Agrees got_of result (check_of (map function_of source.now.functions.now) (bounds_of source.now.vars.now) (types_in (entries_of context.old.items)) (tables.mark before.now.items (got_of first.now).uses) (right_direction (the_sort sort) (way_of (option_copied direction.entry)) (got_of first.now).ty) (the_term part.now)) }
     ensures same { IfOk result (λ _. entries_of context.new.items ≡ entries_of context.old.items) }
 {
-    let first = check_term(source, context, before, None, left)?;
-    if !takes(sort, first.ty()) {
-        return Err(Stop::Rule(Rule::T12, place));
+    match sort {
+        Sort::Logic => check_behind(source, context, before, first, Some(&Ty::Bool), part),
+        Sort::Arithmetic | Sort::Equality | Sort::Order => {
+            let way = guided_direction(direction, sort, first.ty());
+            check_behind(source, context, before, first, way, part)
+        }
     }
+}
+
+// A part behind another one.
+#[cycle(check)]
+fn check_behind(
+    source: &Source,
+    context: &mut Vec<Known>,
+    before: &Vec<bool>,
+    first: &Got,
+    way: Option<&Ty>,
+    part: &Term<Place>,
+) -> Result<Got, Stop>
+    ensures answer { Agrees got_of result (check_of (map function_of source.now.functions.now) (bounds_of source.now.vars.now) (types_in (entries_of context.old.items)) (tables.mark before.now.items (got_of first.now).uses) (way_of (option_copied way.entry)) (the_term part.now)) }
+    ensures same { IfOk result (λ _. entries_of context.new.items ≡ entries_of context.old.items) }
+{
     let marked = mark(source.alloc, before, &first.uses)?;
-    let second = check_term(source, context, &marked, Some(first.ty()), right)?;
-    meet(direction, place, &Ty::Bool)?;
-    Ok(operated_both(source.alloc, op, place, Ty::Bool, first, second)?)
-}
-
-// The same, whose guide is the right operand.
-#[cycle(check)]
-fn check_comparison_by_right(
-    source: &Source,
-    context: &mut Vec<Known>,
-    before: &Vec<bool>,
-    direction: Option<&Ty>,
-    place: Place,
-    op: Op,
-    sort: Sort,
-    left: &Term<Place>,
-    right: &Term<Place>,
-) -> Result<Got, Stop>
-    ensures answer { Agrees got_of result (comparison (the_sort sort) op (way_of (option_copied direction.entry)) place true before.now.items (λ flags way. check_of (map function_of source.now.functions.now) (bounds_of source.now.vars.now) (types_in (entries_of context.old.items)) flags way (the_term left.now)) (λ flags way. check_of (map function_of source.now.functions.now) (bounds_of source.now.vars.now) (types_in (entries_of context.old.items)) flags way (the_term right.now))) }
-    ensures same { IfOk result (λ _. entries_of context.new.items ≡ entries_of context.old.items) }
-{
-    let second = check_term(source, context, before, None, right)?;
-    if !takes(sort, second.ty()) {
-        return Err(Stop::Rule(Rule::T12, place));
-    }
-    let first = check_term(source, context, before, Some(second.ty()), left)?;
-    meet(direction, place, &Ty::Bool)?;
-    Ok(operated_both(source.alloc, op, place, Ty::Bool, first, second)?)
+    check_term(source, context, &marked, way, part)
 }
 
 // An application.
@@ -497,14 +328,11 @@ fn check_app(
     ensures same { IfOk result (λ _. entries_of context.new.items ≡ entries_of context.old.items) }
 {
     let first = check_term(source, context, before, None, fun)?;
-    let Ty::Arrow(from, to) = first.ty() else {
+    let Ty::Arrow(from, _) = first.ty() else {
         return Err(Stop::Rule(Rule::T4, fun.note));
     };
-    let marked = mark(source.alloc, before, &first.uses)?;
-    let second = check_term(source, context, &marked, Some(from), arg)?;
-    meet(direction, place, to)?;
-    let ty = to.copy(source.alloc)?;
-    Ok(app_node(source.alloc, place, ty, first, second)?)
+    let second = check_behind(source, context, before, &first, Some(from), arg)?;
+    end_app(source.alloc, direction, place, first, second)
 }
 
 // A `let`.
@@ -524,17 +352,17 @@ fn check_let(
 {
     let count = context.len();
     let first = check_term(source, context, before, None, value)?;
-    let marked = inner(source.alloc, before, &first.uses)?;
-    let second = check_scoped(
+    let second = check_bound(
         source,
         context,
-        &marked,
+        before,
+        &first,
         direction,
         binder,
         first.ty(),
         body,
     )?;
-    Ok(let_node(source.alloc, count, place, binder, first, second)?)
+    let_node(source.alloc, count, place, binder, first, second)
 }
 
 // A `let!`.
@@ -556,9 +384,7 @@ fn check_let_bang(
     observe_all(source, context, before, observers)?;
     let count = context.len();
     let first = check_observed(source, context, before, observers, value)?;
-    escape(source, value.note, first.ty())?;
-    let seen = seen_places(source.alloc, count, observers)?;
-    let marked = inner_seen(source.alloc, &seen, before, &first.uses)?;
+    let marked = behind_observed(source, count, observers, before, value.note, &first)?;
     let second = check_scoped(
         source,
         context,
@@ -568,16 +394,7 @@ fn check_let_bang(
         first.ty(),
         body,
     )?;
-    Ok(let_bang_node(
-        source.alloc,
-        count,
-        &seen,
-        place,
-        observers,
-        binder,
-        first,
-        second,
-    )?)
+    let_bang_node(source.alloc, count, place, observers, binder, first, second)
 }
 
 // A conditional.
@@ -596,19 +413,19 @@ fn check_if(
     ensures same { IfOk result (λ _. entries_of context.new.items ≡ entries_of context.old.items) }
 {
     let part = check_term(source, context, before, Some(&Ty::Bool), test)?;
-    let marked = mark(source.alloc, before, &part.uses)?;
-    let one = check_term(source, context, &marked, direction, first)?;
+    let one = check_behind(source, context, before, &part, direction, first)?;
     let way = other_way(direction, one.ty());
-    let other = check_term(source, context, &marked, way, second)?;
-    branches(
+    let other = check_behind(source, context, before, &part, way, second)?;
+    end_if(
         source,
         context,
+        place,
+        part,
+        one,
+        other,
         first.note,
         second.note,
-        &one.uses,
-        &other.uses,
-    )?;
-    Ok(if_node(source.alloc, place, part, one, other)?)
+    )
 }
 
 // A value of a variant type.
@@ -630,8 +447,7 @@ fn check_con(
     };
     let held = boxed_tested(source.alloc, injected_type(source, place, name, ty))?;
     let got = check_term(source, context, before, Some(&held), part)?;
-    let ty = boxed(source.alloc, ty.copy(source.alloc))?;
-    Ok(con_node(source.alloc, place, Box::into_inner(ty), name, got)?)
+    con_node(source.alloc, place, ty, name, got)
 }
 
 // A match on one alternative.
@@ -653,8 +469,49 @@ fn check_case(
 {
     let part = check_term(source, context, before, None, value)?;
     let held = boxed_tested(source.alloc, alternative_type(source, at, part.ty()))?;
-    check_matched(
-        source, context, before, direction, place, at, binder, part, &held, first, second,
+    let one = check_bound(
+        source, context, before, &part, direction, binder, &held, first,
+    )?;
+    check_other(
+        source, context, before, direction, place, at, binder, part, one, first.note, second,
+    )
+}
+
+// The other branch of a match, behind the first, whose note this is.
+#[cycle(check)]
+fn check_other(
+    source: &Source,
+    context: &mut Vec<Known>,
+    before: &Vec<bool>,
+    direction: Option<&Ty>,
+    place: Place,
+    at: &At,
+    binder: Place,
+    part: Got,
+    one: Got,
+    note: Place,
+    second: &Term<Place>,
+) -> Result<Got, Stop>
+    ensures answer { Agrees got_of result (other_by (map function_of source.now.functions.now) (bounds_of source.now.vars.now) (types_in (entries_of context.old.items)) (push_of (tables.mark before.now.items (got_of part).uses) false) (way_of (option_copied direction.entry)) place at.now binder note (the_term second.now) (got_of part) (got_of one)) }
+    ensures same { IfOk result (λ _. entries_of context.new.items ≡ entries_of context.old.items) }
+{
+    let left = boxed(
+        source.alloc,
+        with_part(source.alloc, &at.name, true, part.ty()),
+    )?;
+    let way = other_way(direction, one.ty());
+    let other = check_bound(source, context, before, &part, way, at.place, &left, second)?;
+    end_case(
+        source,
+        context,
+        place,
+        at,
+        binder,
+        part,
+        one,
+        other,
+        note,
+        second.note,
     )
 }
 
@@ -669,16 +526,14 @@ fn check_esac(
     at: &At,
     part: &Term<Place>,
 ) -> Result<Got, Stop>
-    ensures answer { Agrees got_of result (check_shape (map function_of source.now.functions.now) (bounds_of source.now.vars.now) (types_in (entries_of context.old.items)) before.now.items (way_of (option_copied direction.entry)) place (terms.esac at.now (the_term part.now))) }
+    ensures answer { Agrees got_of result (esac_by (map function_of source.now.functions.now) (bounds_of source.now.vars.now) (types_in (entries_of context.old.items)) before.now.items (way_of (option_copied direction.entry)) place (the_term part.now) at.now) }
     ensures same { IfOk result (λ _. entries_of context.new.items ≡ entries_of context.old.items) }
 {
     let got = check_term(source, context, before, None, part)?;
-    let ty = boxed_tested(source.alloc, last_type(source, at, got.ty()))?;
-    meet(direction, place, &ty)?;
-    Ok(esac_node(source.alloc, place, Box::into_inner(ty), at, got)?)
+    end_esac(source, direction, place, at, got)
 }
 
-// A record.
+// A record, whose fields are those of the type that is checked against, if any (T1).
 #[cycle(check)]
 fn check_struct(
     source: &Source,
@@ -688,56 +543,18 @@ fn check_struct(
     place: Place,
     fields: &Items<FieldTerm<Place>>,
 ) -> Result<Got, Stop>
-    ensures answer { Agrees got_of result (check_shape (map function_of source.now.functions.now) (bounds_of source.now.vars.now) (types_in (entries_of context.old.items)) before.now.items (way_of (option_copied direction.entry)) place (terms.struct (to_named (map the_field fields.now)))) }
+    ensures answer { Agrees got_of result (struct_by (map function_of source.now.functions.now) (bounds_of source.now.vars.now) (types_in (entries_of context.old.items)) before.now.items (way_of (option_copied direction.entry)) place (to_named (map the_field fields.now))) }
     ensures same { IfOk result (λ _. entries_of context.new.items ≡ entries_of context.old.items) }
 {
-    match direction {
-        Some(wanted) => check_record(source, context, before, wanted, place, fields),
-        None => check_own_record(source, context, before, place, fields),
-    }
-}
-
-// A record that is checked against its type.
-#[cycle(check)]
-fn check_record(
-    source: &Source,
-    context: &mut Vec<Known>,
-    before: &Vec<bool>,
-    wanted: &Ty,
-    place: Place,
-    fields: &Items<FieldTerm<Place>>,
-) -> Result<Got, Stop>
-    ensures answer { Agrees got_of result (check_shape (map function_of source.now.functions.now) (bounds_of source.now.vars.now) (types_in (entries_of context.old.items)) before.now.items (Some (type_of wanted.now)) place (terms.struct (to_named (map the_field fields.now)))) }
-    ensures same { IfOk result (λ _. entries_of context.new.items ≡ entries_of context.old.items) }
-{
-    if !is_made_of(wanted, fields) {
-        return Err(Stop::Rule(Rule::T1, place));
-    }
+    need(Rule::T1, place, may_be_made_of(direction, fields))?;
     let made = check_fields(
         source,
         context,
         before,
-        parts_of(Some(wanted)),
+        parts_of(direction),
         fields.as_slice(),
     )?;
-    let ty = wanted.copy(source.alloc)?;
-    Ok(struct_node(source.alloc, place, ty, made)?)
-}
-
-// A record of the type that its fields make.
-#[cycle(check)]
-fn check_own_record(
-    source: &Source,
-    context: &mut Vec<Known>,
-    before: &Vec<bool>,
-    place: Place,
-    fields: &Items<FieldTerm<Place>>,
-) -> Result<Got, Stop>
-    ensures answer { Agrees got_of result (check_shape (map function_of source.now.functions.now) (bounds_of source.now.vars.now) (types_in (entries_of context.old.items)) before.now.items None place (terms.struct (to_named (map the_field fields.now)))) }
-    ensures same { IfOk result (λ _. entries_of context.new.items ≡ entries_of context.old.items) }
-{
-    let made = check_fields(source, context, before, parts_of(None), fields.as_slice())?;
-    Ok(record_node(source.alloc, place, made)?)
+    end_struct(source.alloc, direction, place, made)
 }
 
 // Fields in their order, each against the part of a record type that stands where it does.
@@ -753,7 +570,7 @@ fn check_fields(
     ensures same { IfOk result (λ _. entries_of context.new.items ≡ entries_of context.old.items) }
 {
     match fields {
-        [] => Ok(no_fields(source.alloc, context)?),
+        [] => no_fields(source.alloc, context),
         [field, rest @ ..] => check_more_fields(source, context, before, wanted, field, rest),
     }
 }
@@ -773,9 +590,8 @@ fn check_more_fields(
 {
     let got = check_term(source, context, before, next_wanted(wanted), &field.term)?;
     let marked = mark(source.alloc, before, &got.uses)?;
-    let mut later = check_fields(source, context, &marked, later_wanted(wanted), rest)?;
-    put_in_front(source.alloc, &field.name, got, are_none(rest), &mut later)?;
-    Ok(later)
+    let later = check_fields(source, context, &marked, later_wanted(wanted), rest)?;
+    in_front(source.alloc, &field.name, got, are_none(rest), later)
 }
 
 // A member.
@@ -793,9 +609,7 @@ fn check_member(
     ensures same { IfOk result (λ _. entries_of context.new.items ≡ entries_of context.old.items) }
 {
     let got = check_term(source, context, before, None, part)?;
-    let ty = boxed_tested(source.alloc, member_type(source, at, got.ty()))?;
-    meet(direction, place, &ty)?;
-    Ok(member_node(source.alloc, place, Box::into_inner(ty), at, got)?)
+    end_member(source, direction, place, at, got)
 }
 
 // A take.
@@ -818,20 +632,10 @@ fn check_take(
     let count = context.len();
     let first = check_term(source, context, before, None, value)?;
     let held = boxed_tested(source.alloc, taken_type(source, at, first.ty()))?;
-    let marked = inner_two(source.alloc, before, &first.uses)?;
     let second = check_taken(
-        source,
-        context,
-        &marked,
-        direction,
-        at,
-        rest,
-        binder,
-        first.ty(),
-        &held,
-        body,
+        source, context, before, &first, direction, at, rest, binder, &held, body,
     )?;
-    Ok(take_node(source.alloc, count, place, at, rest, binder, first, second)?)
+    take_node(source.alloc, count, place, at, rest, binder, first, second)
 }
 
 // A put.
@@ -851,14 +655,8 @@ fn check_put(
 {
     let first = check_term(source, context, before, None, value)?;
     let held = boxed_tested(source.alloc, put_type(source, at, first.ty()))?;
-    let marked = mark(source.alloc, before, &first.uses)?;
-    let second = check_term(source, context, &marked, Some(&held), part)?;
-    let ty = boxed(
-        source.alloc,
-        with_part(source.alloc, &at.name, false, first.ty()),
-    )?;
-    meet(direction, place, &ty)?;
-    Ok(put_node(source.alloc, place, Box::into_inner(ty), at, first, second)?)
+    let second = check_behind(source, context, before, &first, Some(&held), part)?;
+    end_put(source.alloc, direction, place, at, first, second)
 }
 
 // A cast.
@@ -878,9 +676,7 @@ fn check_cast(
         return Err(Stop::Rule(Rule::T2, place));
     };
     let got = check_term(source, context, before, None, part)?;
-    need(Rule::T11, place, widens(got.ty(), ty))?;
-    let ty = ty.copy(source.alloc)?;
-    Ok(cast_node(source.alloc, place, ty, got)?)
+    end_cast(source.alloc, place, ty, got)
 }
 
 // A term with its type written.
@@ -899,52 +695,75 @@ fn check_annot(
 {
     need(Rule::T14, arg.place, has_word_arrays(&arg.ty))?;
     let got = check_term(source, context, before, Some(&arg.ty), part)?;
-    meet(direction, place, &arg.ty)?;
-    Ok(annot_node(source.alloc, place, arg, got)?)
+    end_annot(source.alloc, direction, place, arg, got)
 }
 
-// A term in the scope of a new variable of this type.
+// A term behind a part, in the scope of a new variable of this type, with K3 at its end.
 #[cycle(check)]
-fn check_in_scope(
+fn check_bound(
+    source: &Source,
+    context: &mut Vec<Known>,
+    before: &Vec<bool>,
+    first: &Got,
+    direction: Option<&Ty>,
+    binder: Place,
+    ty: &Ty,
+    body: &Term<Place>,
+) -> Result<Got, Stop>
+    ensures answer { Agrees got_of result (scoped (map function_of source.now.functions.now) (bounds_of source.now.vars.now) (types_in (entries_of context.old.items)) (push_of (tables.mark before.now.items (got_of first.now).uses) false) (way_of (option_copied direction.entry)) binder (type_of ty.now) (the_term body.now)) }
+    ensures same { IfOk result (λ _. entries_of context.new.items ≡ entries_of context.old.items) }
+{
+    let marked = inner(source.alloc, before, &first.uses)?;
+    check_scoped(source, context, &marked, direction, binder, ty, body)
+}
+
+// A term in the scope of a new variable of this type, with K3 at its end.
+#[cycle(check)]
+fn check_scoped(
     source: &Source,
     context: &mut Vec<Known>,
     before: &Vec<bool>,
     direction: Option<&Ty>,
-    ty: Ty,
+    binder: Place,
+    ty: &Ty,
     body: &Term<Place>,
 ) -> Result<Got, Stop>
-    ensures answer { Agrees got_of result (check_of (map function_of source.now.functions.now) (bounds_of source.now.vars.now)
-        (push_of (types_in (entries_of context.old.items)) (type_of ty)) before.now.items (way_of (option_copied direction.entry)) (the_term body.now)) }
+    ensures answer { Agrees got_of result (scoped (map function_of source.now.functions.now) (bounds_of source.now.vars.now) (types_in (entries_of context.old.items)) before.now.items (way_of (option_copied direction.entry)) binder (type_of ty.now) (the_term body.now)) }
     ensures same { IfOk result (λ _. entries_of context.new.items ≡ entries_of context.old.items) }
 {
-    enter(context, ty)?;
+    enter_copy(source.alloc, context, ty)?;
     let got = check_term(source, context, before, direction, body)?;
     leave(context);
-    Ok(got)
+    end_scoped(source, binder, ty, got)
 }
 
-// A term in the scope of what is left of a record of this type and of the field that is taken, with K3 at the end of both.
+// A term behind a part, in the scope of what is left of the record that the part is and of the field that is taken, with K3 at the end of both.
 #[cycle(check)]
 fn check_taken(
     source: &Source,
     context: &mut Vec<Known>,
     before: &Vec<bool>,
+    first: &Got,
     direction: Option<&Ty>,
     at: &At,
     rest: Place,
     binder: Place,
-    whole: &Ty,
     held: &Ty,
     body: &Term<Place>,
 ) -> Result<Got, Stop>
-    ensures answer { Agrees got_of result (taken_by (map function_of source.now.functions.now) (bounds_of source.now.vars.now) (types_in (entries_of context.old.items)) before.now.items (way_of (option_copied direction.entry)) rest binder (with_part_of at.now.name true (type_of whole.now)) (type_of held.now) (the_term body.now)) }
+    ensures answer { Agrees got_of result (taken_by (map function_of source.now.functions.now) (bounds_of source.now.vars.now) (types_in (entries_of context.old.items)) (push_of (push_of (tables.mark before.now.items (got_of first.now).uses) false) false) (way_of (option_copied direction.entry)) rest binder (with_part_of at.now.name true (got_of first.now).ty) (type_of held.now) (the_term body.now)) }
     ensures same { IfOk result (λ _. entries_of context.new.items ≡ entries_of context.old.items) }
 {
-    let left = boxed(source.alloc, with_part(source.alloc, &at.name, true, whole))?;
-    let got = check_in_both(source, context, before, direction, &left, held, body)?;
-    end(source, rest, &left, use_before_last(&got.uses))?;
-    end(source, binder, held, last_use(&got.uses))?;
-    Ok(got)
+    let marked = inner_two(source.alloc, before, &first.uses)?;
+    let left = boxed(
+        source.alloc,
+        with_part(source.alloc, &at.name, true, first.ty()),
+    )?;
+    enter_both(source.alloc, context, &left, held)?;
+    let got = check_term(source, context, &marked, direction, body)?;
+    leave(context);
+    leave(context);
+    end_taken(source, rest, &left, binder, held, got)
 }
 
 // A term while a `let!` observes some variables.
@@ -979,145 +798,5 @@ fn check_seen(
     observe(context, seen);
     let got = check_term(source, context, before, None, value)?;
     restore(context, &flags);
-    Ok(got)
-}
-
-// The branches of a match, whose first one gets a value of this type.
-#[cycle(check)]
-fn check_matched(
-    source: &Source,
-    context: &mut Vec<Known>,
-    before: &Vec<bool>,
-    direction: Option<&Ty>,
-    place: Place,
-    at: &At,
-    binder: Place,
-    part: Got,
-    held: &Ty,
-    first: &Term<Place>,
-    second: &Term<Place>,
-) -> Result<Got, Stop>
-    ensures answer { Agrees got_of result (matched_by (map function_of source.now.functions.now) (bounds_of source.now.vars.now) (types_in (entries_of context.old.items)) before.now.items (way_of (option_copied direction.entry)) place at.now binder (the_term first.now) (the_term second.now) (got_of part) (type_of held.now)) }
-    ensures same { IfOk result (λ _. entries_of context.new.items ≡ entries_of context.old.items) }
-{
-    let marked = inner(source.alloc, before, &part.uses)?;
-    let one = check_scoped(source, context, &marked, direction, binder, held, first)?;
-    check_other(
-        source, context, &marked, direction, place, at, binder, part, one, first.note, second,
-    )
-}
-
-// The other branch of a match, behind the first, whose note this is.
-#[cycle(check)]
-fn check_other(
-    source: &Source,
-    context: &mut Vec<Known>,
-    before: &Vec<bool>,
-    direction: Option<&Ty>,
-    place: Place,
-    at: &At,
-    binder: Place,
-    part: Got,
-    one: Got,
-    note: Place,
-    second: &Term<Place>,
-) -> Result<Got, Stop>
-    ensures answer { Agrees got_of result (other_by (map function_of source.now.functions.now) (bounds_of source.now.vars.now) (types_in (entries_of context.old.items)) before.now.items (way_of (option_copied direction.entry)) place at.now binder note (the_term second.now) (got_of part) (got_of one)) }
-    ensures same { IfOk result (λ _. entries_of context.new.items ≡ entries_of context.old.items) }
-{
-    let left = boxed(
-        source.alloc,
-        with_part(source.alloc, &at.name, true, part.ty()),
-    )?;
-    let way = other_way(direction, one.ty());
-    let other = check_scoped(source, context, before, way, at.place, &left, second)?;
-    end_case(
-        source,
-        context,
-        place,
-        at,
-        binder,
-        part,
-        one,
-        other,
-        note,
-        second.note,
-    )
-}
-
-// The end of a match behind its branches, whose notes these are.
-fn end_case(
-    source: &Source,
-    context: &Vec<Known>,
-    place: Place,
-    at: &At,
-    binder: Place,
-    part: Got,
-    one: Got,
-    other: Got,
-    first: Place,
-    second: Place,
-) -> Result<Got, Stop>
-    ensures { Agrees got_of result (case_end (map function_of source.now.functions.now) (bounds_of source.now.vars.now) (types_in (entries_of context.now.items)) place at.now binder first second (got_of part) (got_of one) (got_of other)) }
-{
-    branches(
-        source,
-        context,
-        first,
-        second,
-        but_last(&one.uses),
-        but_last(&other.uses),
-    )?;
-    Ok(case_node(
-        source.alloc,
-        context.len(),
-        place,
-        at,
-        binder,
-        part,
-        one,
-        other,
-    )?)
-}
-
-// A term in the scope of a new variable of this type, with K3 at its end.
-#[cycle(check)]
-fn check_scoped(
-    source: &Source,
-    context: &mut Vec<Known>,
-    before: &Vec<bool>,
-    direction: Option<&Ty>,
-    binder: Place,
-    ty: &Ty,
-    body: &Term<Place>,
-) -> Result<Got, Stop>
-    ensures answer { Agrees got_of result (scoped (map function_of source.now.functions.now) (bounds_of source.now.vars.now) (types_in (entries_of context.old.items)) before.now.items (way_of (option_copied direction.entry)) binder (type_of ty.now) (the_term body.now)) }
-    ensures same { IfOk result (λ _. entries_of context.new.items ≡ entries_of context.old.items) }
-{
-    let held = ty.copy(source.alloc)?;
-    let got = check_in_scope(source, context, before, direction, held, body)?;
-    end(source, binder, ty, last_use(&got.uses))?;
-    Ok(got)
-}
-
-// A term in the scope of two new variables of these types.
-#[cycle(check)]
-fn check_in_both(
-    source: &Source,
-    context: &mut Vec<Known>,
-    before: &Vec<bool>,
-    direction: Option<&Ty>,
-    left: &Ty,
-    held: &Ty,
-    body: &Term<Place>,
-) -> Result<Got, Stop>
-    ensures answer { Agrees got_of result (check_of (map function_of source.now.functions.now) (bounds_of source.now.vars.now) (push_of (push_of (types_in (entries_of context.old.items)) (type_of left.now)) (type_of held.now)) before.now.items (way_of (option_copied direction.entry)) (the_term body.now)) }
-    ensures same { IfOk result (λ _. entries_of context.new.items ≡ entries_of context.old.items) }
-{
-    let left = left.copy(source.alloc)?;
-    let held = held.copy(source.alloc)?;
-    enter(context, left)?;
-    let got = check_in_scope(source, context, before, direction, held, body)?;
-    leave(context);
     Ok(got)
 }

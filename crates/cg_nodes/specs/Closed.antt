@@ -1,11 +1,11 @@
 -- Parts of a node whose own variables go out of scope, and what is put into their derivations.
 use Rattle.std.specs.Prelude.{ℕ, suc, Option, List, ◌++◌}
 use Rattle.cg_base.specs.declared.place.Place.{Place}
-use Rattle.cg_core.specs.declared.derivation.Node.TheVariants.{Case, If}
+use Rattle.cg_core.specs.declared.derivation.Node.TheVariants.{Case, If, LetBang}
 use Rattle.cg_core.specs.Derivations.{Derivation}
 use Rattle.cg_check_laws.specs.Pass.{Got}
 use Rattle.cg_faults.specs.declared.uses.Use.{Use}
-use Rattle.cg_uses.specs.Marks.{marks_of_uses, settled, kept_beside, kept_new, kept_seen, three_parts}
+use Rattle.cg_uses.specs.Marks.{marks_of_uses, marks_seen, settled, kept_beside, kept_new, kept_seen, two_parts, three_parts}
 use Rattle.cg_uses.specs.Uses.{join, last, front}
 
 -- a part with these uses
@@ -34,6 +34,10 @@ observing seen u = keeping (kept_seen seen u.uses) u
 
 abbrev pub behind_observers : List (Option Place) → ℕ → Got → Got
 behind_observers seen n u = keeping (kept_seen seen (front u.uses) ++ kept_new n (last u.uses)) (behind_last u)
+
+-- the derivation of a `let!` that observes some variables, and whose own was new at a position
+abbrev pub observed_tree : List (Option Place) → ℕ → Got → Got → Derivation
+observed_tree seen n u v = two_parts LetBang (marks_seen seen u.uses (front v.uses)) (observing seen u).tree (behind_observers seen n v).tree
 
 -- a branch beside another that does this with each variable
 abbrev pub beside : List Use → Got → Got

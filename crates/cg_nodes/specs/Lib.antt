@@ -1,4 +1,6 @@
+pub mod Boxed
 pub mod Closed
 pub mod Fields
 pub mod Gots
 pub mod Nodes
+pub mod Scopes

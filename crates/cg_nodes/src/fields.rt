@@ -1,24 +1,25 @@
 // What the fields of a record come to.
 #![tactic(auto, using(cg_pieces::proofs::FieldSteps::field_steps))]
 
-ghost use Rattle.std.specs.Prelude.{◌≡◌, ◌∷◌, [], IfOk, cond, length, map, reverse};
+ghost use Rattle.std.specs.Prelude.{◌≡◌, ◌∷◌, [], IfOk, Ok, cond, length, map, reverse};
 ghost use Rattle.cg_base.specs.declared.kind.Sigil.TheVariants.{U};
 ghost use Rattle.cg_base.specs.Types.{fields as record_of, part_of, to_parts, type_of};
 ghost use Rattle.cg_core.specs.declared.derivation.Node.TheVariants as nodes;
 ghost use Rattle.cg_core.specs.Derivations.{derivation, derivation_of};
 ghost use Rattle.cg_core.specs.Kernels.{the_core_field, the_field};
 ghost use Rattle.cg_core.specs.Terms.{to_named};
-ghost use Rattle.cg_nodes.specs.Fields.{fields_of, nothing};
+ghost use Rattle.cg_nodes.specs.Fields.{fields_of, nothing, with_uses};
 ghost use Rattle.cg_nodes.specs.Nodes as forms;
-ghost use Rattle.cg_context.specs.View.{entries_of, types_in};
+ghost use Rattle.cg_context.specs.View.{Agrees, entries_of, types_in};
 ghost use Rattle.cg_nodes.specs.Gots.{got_of};
 ghost use Rattle.cg_check_laws.specs.Pass.{in_front as in_front_of, is_end};
 ghost use Rattle.cg_uses.specs.Marks as splits;
 
-use crate::got::{Got, made};
+use crate::got::{Got, finished, made};
+use crate::types::copied;
 use cg_base::{Items, Memory, Name, Part, Place, Sigil, Ty};
-use cg_context::Known;
-use cg_core::{Deriv, FieldTerm, Form, Mark, Node, Typed};
+use cg_context::{Known, Stop};
+use cg_core::{Deriv, FieldTerm, Form, Mark, Node, Term, Typed};
 use cg_faults::Use;
 use cg_pieces::{add_core, add_part, add_tree, turned};
 use cg_uses::{join, marks_of_uses, no_uses};
@@ -92,8 +93,17 @@ fn add_string(
     strings.push(marks_of_uses(alloc, first, later)?)
 }
 
-/// Puts a field in front of the later ones. Want of memory is its one refusal.
-pub fn put_in_front(
+// Puts what a field does in front of what the later ones do, with the marks between them. Want of memory is its one refusal.
+fn add_uses(alloc: Global, alone: bool, uses: &Vec<Use>, later: &mut Fields) -> Result<(), Memory>
+    ensures { IfOk result (λ _. fields_of later.new ≡ with_uses uses.now.items alone (fields_of later.old)) }
+{
+    add_string(alloc, alone, uses, &later.uses, &mut later.strings)?;
+    later.uses = join(alloc, uses, &later.uses)?;
+    Ok(())
+}
+
+// Puts a field in front of the later ones. Want of memory is its one refusal.
+fn put_in_front(
     alloc: Global,
     name: &Name,
     got: Got,
@@ -106,26 +116,42 @@ pub fn put_in_front(
     let (core, tree, uses) = got.apart();
     add_core(alloc, name, core, &mut later.cores)?;
     add_tree(tree, &mut later.trees)?;
-    add_string(alloc, alone, &uses, &later.uses, &mut later.strings)?;
-    later.uses = join(alloc, &uses, &later.uses)?;
-    Ok(())
+    add_uses(alloc, alone, &uses, later)
+}
+
+/// A field in front of the later ones. Want of memory is its one refusal.
+pub fn in_front(
+    alloc: Global,
+    name: &Name,
+    got: Got,
+    alone: bool,
+    later: Fields,
+) -> Result<Fields, Stop>
+    ensures { Agrees fields_of result (Ok (in_front_of name.now (got_of got) alone (fields_of later))) }
+{
+    let mut later = later;
+    put_in_front(alloc, name, got, alone, &mut later)?;
+    Ok(later)
 }
 
 /// A record of this type. Want of memory is its one refusal.
-pub fn struct_node(alloc: Global, place: Place, ty: Ty, fields: Fields) -> Result<Got, Memory>
-    ensures { IfOk result (λ got. got_of got ≡ forms.struct_node place (type_of ty) (fields_of fields)) }
+pub fn struct_node(alloc: Global, place: Place, ty: &Ty, fields: Fields) -> Result<Got, Stop>
+    ensures { Agrees got_of result (Ok (forms.struct_node place (type_of ty.now) (fields_of fields))) }
 {
+    let ty = copied(alloc, ty)?;
     let (_, cores, tree, uses) = fields.apart();
     made(alloc, place, ty, Form::Struct(cores), tree, uses)
 }
 
 /// A record of the type that its fields make. Want of memory is its one refusal.
-pub fn record_node(alloc: Global, place: Place, fields: Fields) -> Result<Got, Memory>
-    ensures { IfOk result (λ got. got_of got ≡ forms.struct_node place (record_of (fields_of fields).parts U) (fields_of fields)) }
+pub fn record_node(alloc: Global, place: Place, fields: Fields) -> Result<Got, Stop>
+    ensures { Agrees got_of result (Ok (forms.struct_node place (record_of (fields_of fields).parts U) (fields_of fields))) }
 {
     let (parts, cores, tree, uses) = fields.apart();
     let ty = Ty::Fields(parts, Sigil::U);
-    made(alloc, place, ty, Form::Struct(cores), tree, uses)
+    let note = Typed { place, ty };
+    let form = Form::Struct(cores);
+    finished(alloc, Term { note, form }, tree, uses)
 }
 
 /// Whether these are no fields.
@@ -138,8 +164,8 @@ pub fn are_none(fields: &[FieldTerm<Place>]) -> bool
 
 /// What no fields come to, in a context. Want of memory is its one refusal.
 #[tactic(auto, using(crate::proofs::FieldSteps::none_steps))]
-pub fn no_fields(alloc: Global, context: &Vec<Known>) -> Result<Fields, Memory>
-    ensures { IfOk result (λ made. fields_of made ≡ nothing (length (types_in (entries_of context.now.items)))) }
+pub fn no_fields(alloc: Global, context: &Vec<Known>) -> Result<Fields, Stop>
+    ensures { Agrees fields_of result (Ok (nothing (length (types_in (entries_of context.now.items))))) }
 {
     let uses = no_uses(alloc, context.len())?;
     Ok(Fields {

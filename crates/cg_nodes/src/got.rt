@@ -1,14 +1,17 @@
 // What a part of a body comes to.
-ghost use Rattle.std.specs.Prelude.{◌≡◌, IfOk, []};
+ghost use Rattle.std.specs.Prelude.{◌≡◌, IfOk, Ok, []};
 ghost use Rattle.cg_base.specs.Types.{type_of};
 ghost use Rattle.cg_core.specs.Derivations.{derivation, derivation_of, done};
 ghost use Rattle.cg_core.specs.Kernels.{the_core, the_core_form};
 ghost use Rattle.cg_check_laws.specs.Pass.{made as made_of};
+ghost use Rattle.cg_context.specs.View.{Agrees};
+ghost use Rattle.cg_nodes.specs.Boxed.{in_box};
 ghost use Rattle.cg_uses.specs.Marks as splits;
 ghost use Rattle.cg_uses.specs.Uses as tables;
 ghost use Rattle.cg_nodes.specs.Gots.{got_of};
 
 use cg_base::{Items, Memory, Place, Ty};
+use cg_context::Stop;
 use cg_core::{Deriv, Form, Mark, Node, Term, Typed};
 use cg_faults::Use;
 use cg_uses::{join, leaf, marks_of_uses, one_part, three_parts, two_parts};
@@ -50,39 +53,35 @@ impl Got {
     }
 }
 
+/// A whole node. Want of memory is its one refusal.
+pub fn finished(alloc: Global, core: Term<Typed>, tree: Deriv, uses: Vec<Use>) -> Result<Got, Stop>
+    ensures { Agrees got_of result (Ok (made_of core.note.place (type_of core.note.ty) (the_core_form core.form) (derivation_of tree) uses.items)) }
+{
+    let core = Box::new(alloc, core)?;
+    Ok(Got { core, tree, uses })
+}
+
 /// A node of this type and form. Want of memory is its one refusal.
 pub fn made(
     alloc: Global,
     place: Place,
-    ty: Ty,
+    ty: Box<Ty>,
     form: Form<Typed>,
     tree: Deriv,
     uses: Vec<Use>,
-) -> Result<Got, Memory>
-    ensures { IfOk result (λ got. got_of got ≡ made_of place (type_of ty) (the_core_form form) (derivation_of tree) uses.items) }
+) -> Result<Got, Stop>
+    ensures { Agrees got_of result (Ok (made_of place (in_box ty) (the_core_form form) (derivation_of tree) uses.items)) }
 {
-    let core = Box::new(
-        alloc,
-        Term {
-            note: Typed { place, ty },
-            form,
-        },
-    )?;
-    Ok(Got { core, tree, uses })
+    let ty = Box::into_inner(ty);
+    let note = Typed { place, ty };
+    finished(alloc, Term { note, form }, tree, uses)
 }
 
-/// A leaf of this type and form, in a context of so many variables. Want of memory is its one refusal.
-pub fn leaf_of(
-    alloc: Global,
-    place: Place,
-    ty: Ty,
-    form: Form<Typed>,
-    node: Node,
-    uses: Vec<Use>,
-) -> Result<Got, Memory>
-    ensures { IfOk result (λ got. got_of got ≡ made_of place (type_of ty) (the_core_form form) (derivation node [] done) uses.items) }
+/// A leaf, which does this with each variable. Want of memory is its one refusal.
+pub fn leaf_of(alloc: Global, core: Term<Typed>, node: Node, uses: Vec<Use>) -> Result<Got, Stop>
+    ensures { Agrees got_of result (Ok (made_of core.note.place (type_of core.note.ty) (the_core_form core.form) (derivation node [] done) uses.items)) }
 {
-    made(alloc, place, ty, form, leaf(alloc, node), uses)
+    finished(alloc, core, leaf(alloc, node), uses)
 }
 
 /// One part of a node: its core, and the node's derivation and uses.

@@ -5,10 +5,14 @@
 mod fields;
 mod got;
 mod nodes;
+mod scopes;
+mod types;
 
-pub use fields::{Fields, are_none, no_fields, put_in_front, record_node, struct_node};
+pub use fields::{Fields, are_none, in_front, no_fields, record_node, struct_node};
 pub use got::{Got, leaf_of};
 pub use nodes::{
     annot_node, app_node, case_node, cast_node, con_node, esac_node, if_node, let_bang_node,
     let_node, member_node, operated, operated_both, put_node, take_node,
 };
+pub use scopes::{behind_observed, end_scoped, end_taken, enter_both, enter_copy};
+pub use types::{boxed, boxed_tested, copied};

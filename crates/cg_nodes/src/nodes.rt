@@ -1,7 +1,7 @@
 // What each form of node comes to. Want of memory is the one refusal of each of these.
 #![tactic(auto, using(cg_pieces::proofs::CoreSteps::core_steps))]
 
-ghost use Rattle.std.specs.Prelude.{◌≡◌, IfOk};
+ghost use Rattle.std.specs.Prelude.{◌≡◌, IfOk, Ok};
 ghost use Rattle.cg_base.specs.Types.{type_of};
 ghost use Rattle.cg_core.specs.declared.derivation.Node.TheVariants.{LetBang};
 ghost use Rattle.cg_core.specs.Derivations.{derivation_of};
@@ -10,24 +10,30 @@ ghost use Rattle.cg_core.specs.Terms.{arg_of};
 ghost use Rattle.cg_uses.specs.Marks as splits;
 ghost use Rattle.cg_uses.specs.Uses as tables;
 ghost use Rattle.cg_check_laws.specs.Pass.{operated as operated_of, operated_both as operated_both_of};
+ghost use Rattle.cg_context.specs.View.{Agrees};
+ghost use Rattle.cg_nodes.specs.Boxed.{in_box};
 ghost use Rattle.cg_nodes.specs.Closed as parts;
 ghost use Rattle.cg_nodes.specs.Nodes as forms;
 ghost use Rattle.cg_nodes.specs.Gots.{got_of};
 
 use crate::got::{Got, Pair, Single, Triple, alone, branched, in_turn, made, paired};
+use crate::types::copied;
 use cg_base::{Items, Memory, Name, Place, Ty};
+use cg_context::Stop;
 use cg_core::{At, Form, Node, Op, Seen, TyArg};
 use cg_faults::Use;
-use cg_pieces::{copied_observers, kept_while, one_operand, two_operands};
-use cg_uses::{join_seen, keep_new, kept_beside, kept_seen, leave, marks_seen, settle};
+use cg_pieces::{copied_observers, one_operand, two_operands};
+use cg_uses::{
+    join_seen, keep_new, kept_beside, kept_seen, leave, marks_seen, seen_places, settle,
+};
 use std::alloc::Global;
 
 /// An operator with one operand.
-pub fn operated(alloc: Global, op: Op, place: Place, ty: Ty, part: Got) -> Result<Got, Memory>
-    ensures { IfOk result (λ got. got_of got ≡ operated_of op place (type_of ty) (got_of part)) }
+pub fn operated(alloc: Global, op: Op, place: Place, ty: Box<Ty>, part: Got) -> Result<Got, Stop>
+    ensures { Agrees got_of result (Ok (operated_of op place (in_box ty) (got_of part))) }
 {
-    let (ty, Single { part, tree, uses }) = kept_while(ty, alone(alloc, Node::Op, part))?;
-    let (ty, operands) = kept_while(ty, one_operand(alloc, part))?;
+    let Single { part, tree, uses } = alone(alloc, Node::Op, part)?;
+    let operands = one_operand(alloc, part)?;
     made(alloc, place, ty, Form::Op(op, operands), tree, uses)
 }
 
@@ -36,34 +42,32 @@ pub fn operated_both(
     alloc: Global,
     op: Op,
     place: Place,
-    ty: Ty,
+    ty: Box<Ty>,
     left: Got,
     right: Got,
-) -> Result<Got, Memory>
-    ensures { IfOk result (λ got. got_of got ≡ operated_both_of op place (type_of ty) (got_of left) (got_of right)) }
+) -> Result<Got, Stop>
+    ensures { Agrees got_of result (Ok (operated_both_of op place (in_box ty) (got_of left) (got_of right))) }
 {
-    let (ty, pair) = kept_while(ty, in_turn(alloc, Node::Op, left, right))?;
     let Pair {
         first,
         second,
         tree,
         uses,
-    } = pair;
-    let (ty, operands) = kept_while(ty, two_operands(alloc, first, second))?;
+    } = in_turn(alloc, Node::Op, left, right)?;
+    let operands = two_operands(alloc, first, second)?;
     made(alloc, place, ty, Form::Op(op, operands), tree, uses)
 }
 
 /// An application.
-pub fn app_node(alloc: Global, place: Place, ty: Ty, fun: Got, arg: Got) -> Result<Got, Memory>
-    ensures { IfOk result (λ got. got_of got ≡ forms.app_node place (type_of ty) (got_of fun) (got_of arg)) }
+pub fn app_node(alloc: Global, place: Place, ty: Box<Ty>, fun: Got, arg: Got) -> Result<Got, Stop>
+    ensures { Agrees got_of result (Ok (forms.app_node place (in_box ty) (got_of fun) (got_of arg))) }
 {
-    let (ty, pair) = kept_while(ty, in_turn(alloc, Node::App, fun, arg))?;
     let Pair {
         first,
         second,
         tree,
         uses,
-    } = pair;
+    } = in_turn(alloc, Node::App, fun, arg)?;
     made(alloc, place, ty, Form::App(first, second), tree, uses)
 }
 
@@ -102,18 +106,17 @@ pub fn let_node(
     binder: Place,
     value: Got,
     body: Got,
-) -> Result<Got, Memory>
-    ensures { IfOk result (λ got. got_of got ≡ forms.let_node count place binder (got_of value) (got_of body)) }
+) -> Result<Got, Stop>
+    ensures { Agrees got_of result (Ok (forms.let_node count place binder (got_of value) (got_of body))) }
 {
     let body = closed(alloc, count, body)?;
-    let ty = body.ty().copy(alloc)?;
-    let (ty, pair) = kept_while(ty, in_turn(alloc, Node::Let, value, body))?;
+    let ty = copied(alloc, body.ty())?;
     let Pair {
         first,
         second,
         tree,
         uses,
-    } = pair;
+    } = in_turn(alloc, Node::Let, value, body)?;
     made(
         alloc,
         place,
@@ -151,7 +154,7 @@ fn behind_observers(
     Ok(part)
 }
 
-// The two parts of a `let!` that observes these.
+// The two parts of a `let!` that observes these, with the marks between them.
 fn observed_pair(
     alloc: Global,
     seen: &[Option<Place>],
@@ -169,30 +172,45 @@ fn observed_pair(
     paired(alloc, Node::LetBang, marks, uses, value, body)
 }
 
-/// A `let!` that observes these, in a context of so many variables.
+// The parts of a `let!` with these observers, the last variable of whose second part was new at a position.
+fn let_bang_pair(
+    alloc: Global,
+    observers: &Items<Seen>,
+    at: usize,
+    value: Got,
+    body: Got,
+) -> Result<Pair, Memory>
+    ensures first { IfOk result (λ p. the_core p.first.value ≡ (got_of value).core) }
+    ensures second { IfOk result (λ p. the_core p.second.value ≡ (got_of body).core) }
+    ensures tree { IfOk result (λ p. derivation_of p.tree ≡ parts.observed_tree (tables.seen_places at observers.now) at (got_of value) (got_of body)) }
+    ensures uses { IfOk result (λ p. p.uses.items ≡ tables.join_seen (tables.seen_places at observers.now) (got_of value).uses (tables.front (got_of body).uses)) }
+{
+    let seen = seen_places(alloc, at, observers)?;
+    let value = observing(alloc, &seen, value)?;
+    let body = behind_observers(alloc, &seen, at, body)?;
+    observed_pair(alloc, &seen, value, body)
+}
+
+/// A `let!`, in a context of so many variables.
 pub fn let_bang_node(
     alloc: Global,
     count: usize,
-    seen: &[Option<Place>],
     place: Place,
     observers: &Items<Seen>,
     binder: Place,
     value: Got,
     body: Got,
-) -> Result<Got, Memory>
-    ensures { IfOk result (λ got. got_of got ≡ forms.let_bang_node count seen.now place observers.now binder (got_of value) (got_of body)) }
+) -> Result<Got, Stop>
+    ensures { Agrees got_of result (Ok (forms.let_bang_node count (tables.seen_places count observers.now) place observers.now binder (got_of value) (got_of body))) }
 {
-    let value = observing(alloc, seen, value)?;
-    let body = behind_observers(alloc, seen, count, body)?;
-    let observers = copied_observers(alloc, observers)?;
-    let ty = body.ty().copy(alloc)?;
-    let (ty, pair) = kept_while(ty, observed_pair(alloc, seen, value, body))?;
+    let ty = copied(alloc, body.ty())?;
     let Pair {
         first,
         second,
         tree,
         uses,
-    } = pair;
+    } = let_bang_pair(alloc, observers, count, value, body)?;
+    let observers = copied_observers(alloc, observers)?;
     let form = Form::LetBang(observers, binder, first, second);
     made(alloc, place, ty, form, tree, uses)
 }
@@ -221,34 +239,28 @@ fn both_beside(alloc: Global, test: Got, first: Got, second: Got) -> Result<Trip
 }
 
 /// A conditional.
-pub fn if_node(
-    alloc: Global,
-    place: Place,
-    test: Got,
-    first: Got,
-    second: Got,
-) -> Result<Got, Memory>
-    ensures { IfOk result (λ got. got_of got ≡ forms.if_node place (got_of test) (got_of first) (got_of second)) }
+pub fn if_node(alloc: Global, place: Place, test: Got, first: Got, second: Got) -> Result<Got, Stop>
+    ensures { Agrees got_of result (Ok (forms.if_node place (got_of test) (got_of first) (got_of second))) }
 {
-    let ty = first.ty().copy(alloc)?;
-    let (ty, branches) = kept_while(ty, both_beside(alloc, test, first, second))?;
+    let ty = copied(alloc, first.ty())?;
     let Triple {
         part,
         first,
         second,
         tree,
         uses,
-    } = branches;
+    } = both_beside(alloc, test, first, second)?;
     let form = Form::If(part, first, second);
     made(alloc, place, ty, form, tree, uses)
 }
 
 /// A value of a variant type.
-pub fn con_node(alloc: Global, place: Place, ty: Ty, name: &Name, part: Got) -> Result<Got, Memory>
-    ensures { IfOk result (λ got. got_of got ≡ forms.con_node place (type_of ty) name.now (got_of part)) }
+pub fn con_node(alloc: Global, place: Place, ty: &Ty, name: &Name, part: Got) -> Result<Got, Stop>
+    ensures { Agrees got_of result (Ok (forms.con_node place (type_of ty.now) name.now (got_of part))) }
 {
-    let (ty, name) = kept_while(ty, name.copy(alloc))?;
-    let (ty, Single { part, tree, uses }) = kept_while(ty, alone(alloc, Node::Con, part))?;
+    let ty = copied(alloc, ty)?;
+    let name = name.copy(alloc)?;
+    let Single { part, tree, uses } = alone(alloc, Node::Con, part)?;
     made(alloc, place, ty, Form::Con(name, part), tree, uses)
 }
 
@@ -297,38 +309,43 @@ pub fn case_node(
     value: Got,
     first: Got,
     second: Got,
-) -> Result<Got, Memory>
-    ensures { IfOk result (λ got. got_of got ≡ forms.case_node count place at.now binder (got_of value) (got_of first) (got_of second)) }
+) -> Result<Got, Stop>
+    ensures { Agrees got_of result (Ok (forms.case_node count place at.now binder (got_of value) (got_of first) (got_of second))) }
 {
-    let ty = first.ty().copy(alloc)?;
-    let (ty, at) = kept_while(ty, at.copy(alloc))?;
-    let (ty, branches) = kept_while(ty, matched(alloc, count, value, first, second))?;
+    let ty = copied(alloc, first.ty())?;
+    let at = at.copy(alloc)?;
     let Triple {
         part,
         first,
         second,
         tree,
         uses,
-    } = branches;
+    } = matched(alloc, count, value, first, second)?;
     let form = Form::Case(part, at, binder, first, second);
     made(alloc, place, ty, form, tree, uses)
 }
 
 /// A match on the last alternative.
-pub fn esac_node(alloc: Global, place: Place, ty: Ty, at: &At, part: Got) -> Result<Got, Memory>
-    ensures { IfOk result (λ got. got_of got ≡ forms.esac_node place (type_of ty) at.now (got_of part)) }
+pub fn esac_node(alloc: Global, place: Place, ty: Box<Ty>, at: &At, part: Got) -> Result<Got, Stop>
+    ensures { Agrees got_of result (Ok (forms.esac_node place (in_box ty) at.now (got_of part))) }
 {
-    let (ty, at) = kept_while(ty, at.copy(alloc))?;
-    let (ty, Single { part, tree, uses }) = kept_while(ty, alone(alloc, Node::Esac, part))?;
+    let at = at.copy(alloc)?;
+    let Single { part, tree, uses } = alone(alloc, Node::Esac, part)?;
     made(alloc, place, ty, Form::Esac(at, part), tree, uses)
 }
 
 /// A member.
-pub fn member_node(alloc: Global, place: Place, ty: Ty, at: &At, part: Got) -> Result<Got, Memory>
-    ensures { IfOk result (λ got. got_of got ≡ forms.member_node place (type_of ty) at.now (got_of part)) }
+pub fn member_node(
+    alloc: Global,
+    place: Place,
+    ty: Box<Ty>,
+    at: &At,
+    part: Got,
+) -> Result<Got, Stop>
+    ensures { Agrees got_of result (Ok (forms.member_node place (in_box ty) at.now (got_of part))) }
 {
-    let (ty, at) = kept_while(ty, at.copy(alloc))?;
-    let (ty, Single { part, tree, uses }) = kept_while(ty, alone(alloc, Node::Member, part))?;
+    let at = at.copy(alloc)?;
+    let Single { part, tree, uses } = alone(alloc, Node::Member, part)?;
     made(alloc, place, ty, Form::Member(part, at), tree, uses)
 }
 
@@ -357,19 +374,18 @@ pub fn take_node(
     binder: Place,
     value: Got,
     body: Got,
-) -> Result<Got, Memory>
-    ensures { IfOk result (λ got. got_of got ≡ forms.take_node count place at.now rest binder (got_of value) (got_of body)) }
+) -> Result<Got, Stop>
+    ensures { Agrees got_of result (Ok (forms.take_node count place at.now rest binder (got_of value) (got_of body))) }
 {
     let body = closed_twice(alloc, count, body)?;
     let at = at.copy(alloc)?;
-    let ty = body.ty().copy(alloc)?;
-    let (ty, pair) = kept_while(ty, in_turn(alloc, Node::Take, value, body))?;
+    let ty = copied(alloc, body.ty())?;
     let Pair {
         first,
         second,
         tree,
         uses,
-    } = pair;
+    } = in_turn(alloc, Node::Take, value, body)?;
     let form = Form::Take(first, at, rest, binder, second);
     made(alloc, place, ty, form, tree, uses)
 }
@@ -378,38 +394,42 @@ pub fn take_node(
 pub fn put_node(
     alloc: Global,
     place: Place,
-    ty: Ty,
+    ty: Box<Ty>,
     at: &At,
     value: Got,
     part: Got,
-) -> Result<Got, Memory>
-    ensures { IfOk result (λ got. got_of got ≡ forms.put_node place (type_of ty) at.now (got_of value) (got_of part)) }
+) -> Result<Got, Stop>
+    ensures { Agrees got_of result (Ok (forms.put_node place (in_box ty) at.now (got_of value) (got_of part))) }
 {
-    let (ty, at) = kept_while(ty, at.copy(alloc))?;
-    let (ty, pair) = kept_while(ty, in_turn(alloc, Node::Put, value, part))?;
+    let at = at.copy(alloc)?;
     let Pair {
         first,
         second,
         tree,
         uses,
-    } = pair;
+    } = in_turn(alloc, Node::Put, value, part)?;
     made(alloc, place, ty, Form::Put(first, at, second), tree, uses)
 }
 
 /// A cast.
-pub fn cast_node(alloc: Global, place: Place, ty: Ty, part: Got) -> Result<Got, Memory>
-    ensures { IfOk result (λ got. got_of got ≡ forms.cast_node place (type_of ty) (got_of part)) }
+pub fn cast_node(alloc: Global, place: Place, ty: &Ty, part: Got) -> Result<Got, Stop>
+    ensures { Agrees got_of result (Ok (forms.cast_node place (type_of ty.now) (got_of part))) }
 {
-    let (ty, Single { part, tree, uses }) = kept_while(ty, alone(alloc, Node::Cast, part))?;
+    let ty = copied(alloc, ty)?;
+    let Single { part, tree, uses } = alone(alloc, Node::Cast, part)?;
     made(alloc, place, ty, Form::Cast(part), tree, uses)
 }
 
 /// A term with its type written.
-pub fn annot_node(alloc: Global, place: Place, arg: &TyArg, part: Got) -> Result<Got, Memory>
-    ensures { IfOk result (λ got. got_of got ≡ forms.annot_node place (arg_of arg.now) (got_of part)) }
+pub fn annot_node(alloc: Global, place: Place, arg: &TyArg, part: Got) -> Result<Got, Stop>
+    ensures { Agrees got_of result (Ok (forms.annot_node place (arg_of arg.now) (got_of part))) }
 {
+    let ty = copied(alloc, &arg.ty)?;
+    let written = copied(alloc, &arg.ty)?;
     let Single { part, tree, uses } = alone(alloc, Node::Annot, part)?;
-    let ty = arg.ty.copy(alloc)?;
-    let (ty, arg) = kept_while(ty, arg.copy(alloc))?;
+    let arg = TyArg {
+        place: arg.place,
+        ty: Box::into_inner(written),
+    };
     made(alloc, place, ty, Form::Annot(part, arg), tree, uses)
 }

@@ -1,14 +1,17 @@
-use Rattle.std.proofs.Common.{rules, ◌≡◌, Ok, arith, ap, length, map, sym, subst}
+use Rattle.std.proofs.Common.{rules, ◌≡◌, true, false, arith, ap, length, map, sym, subst}
 use Rattle.std.specs.Option.{option_copied}
 use Rattle.cg_context.specs.View.{Agrees, entries_of, types_in}
 use Rattle.cg_pieces.specs.View.{bounds_of, way_of}
 use Rattle.cg_nodes.specs.Gots.{got_of}
-use Rattle.cg_check.proofs.ArmSteps.{let_arm, let_bang_arm, if_arm, case_arm, member_arm, take_arm, put_arm}
-use Rattle.cg_check.proofs.FormSteps.{let_is, let_bang_is, if_is, case_is, member_is, take_is, put_is}
+use Rattle.cg_check.proofs.ArmSteps.{esac_arm, struct_arm, let_arm, let_bang_arm, if_arm, case_arm, member_arm, take_arm, put_arm}
+use Rattle.cg_check.proofs.FormSteps.{binary_is, by_left_else, by_right_then, esac_is, struct_is, unary_is, let_is, let_bang_is, if_is, case_is, member_is, take_is, put_is}
 use Rattle.cg_context.proofs.ObservedSteps.{seen_types}
-use Rattle.cg_check_laws.specs.Pass.{check_shape}
-use Rattle.cg_core.specs.Kernels.{function_of, the_term}
-use Rattle.cg_core.specs.Terms.{to_trees, lets, let_bang, if_else, case_of, member, take_field, put}
+use Rattle.cg_check_laws.specs.Pass.{check, check_shape}
+use Rattle.cg_core.specs.Kernels.{function_of, the_field, the_term}
+use Rattle.cg_core.specs.Terms.{to_named, to_trees, lets, let_bang, if_else, case_of, esac, struct, member, take_field, put}
+use Rattle.cg_check.specs.Operators.{is_by_right}
+use Rattle.cg_typing.specs.Operators.{sort_of}
+use Rattle.cg_typing.specs.Rules.{is_literal}
 use Rattle.cg_check.proofs.OperandSteps.{one_operand, other_operands, size_more, size_one, size_two, two_operands}
 use Rattle.cg_pieces.proofs.FieldSteps.{no_named, more_named}
 use Rattle.cg_check.proofs.PassSteps.{sizes}
@@ -28,12 +31,16 @@ check_op-check_binary-requires t c =
 pub check_op-returns-in-len1-clause-answer : goal.check_op-returns-in-len1-clause-answer
 check_op-returns-in-len1-clause-answer t c =
     let e = one_operand c.as_slice.result.now c.part-item.result c.in-len1.len_at_least c.in-len1.len_below c.part-item.is in
-    rw (sym c.as_slice.ensures, e) c.check_unary.ensures.answer
+    let is = unary_is c.args.op c.args.place c.args.before.now.items (sort_of c.args.op) (way_of (option_copied c.args.direction)) (λ flags way. check (map function_of c.args.source.now.functions.now) (bounds_of c.args.source.now.vars.now) (types_in (entries_of c.args.context.now.items)) flags way (the_term c.part-item.result)) in
+    rw (sym c.as_slice.ensures, e) (subst (λ x. Agrees got_of c.check_unary.result x) is c.check_unary.ensures.answer)
 
 pub check_op-returns-in-len2-clause-answer : goal.check_op-returns-in-len2-clause-answer
 check_op-returns-in-len2-clause-answer t c =
     let e = two_operands c.as_slice.result.now c.left-item.result c.right-item.result c.in-len2.len_at_least c.in-len2.len_below c.left-item.is c.right-item.is in
-    rw (sym c.as_slice.ensures, e) c.check_binary.ensures.answer
+    let is = binary_is c.args.op c.args.place c.args.before.now.items (sort_of c.args.op) (way_of (option_copied c.args.direction)) (is_literal (the_term c.left-item.result))
+    (λ flags way. check (map function_of c.args.source.now.functions.now) (bounds_of c.args.source.now.vars.now) (types_in (entries_of c.args.context.now.items)) flags way (the_term c.left-item.result))
+    (λ flags way. check (map function_of c.args.source.now.functions.now) (bounds_of c.args.source.now.vars.now) (types_in (entries_of c.args.context.now.items)) flags way (the_term c.right-item.result)) in
+    rw (sym c.as_slice.ensures, e) (subst (λ x. Agrees got_of c.check_binary.result x) is c.check_binary.ensures.answer)
 
 pub check_op-returns-in_default-clause-answer : goal.check_op-returns-in_default-clause-answer
 check_op-returns-in_default-clause-answer t c =
@@ -43,15 +50,33 @@ check_op-returns-in_default-clause-answer t c =
     c.args.before.now.items (way_of (option_copied c.args.direction)) c.args.place c.args.op c.as_slice.result.now other.0 other.1 in
     rw (sym c.as_slice.ensures, e) c.check_bare.ensures
 
+pub check_binary-returns-then-is_by_right-clause-answer : goal.check_binary-returns-then-is_by_right-clause-answer
+check_binary-returns-then-is_by_right-clause-answer t c =
+    let test : is_by_right (sort_of c.args.op) (way_of (option_copied c.args.direction)) (is_literal (the_term c.args.left.now)) ≡ true =
+    cc (c.is_by_right.ensures, c.if-is_by_right.true, c.sort_of-sort.ensures, c.is_literal.ensures) in
+    let is = by_right_then (sort_of c.args.op) c.args.op (way_of (option_copied c.args.direction)) c.args.place (is_literal (the_term c.args.left.now)) c.args.before.now.items
+    (λ flags way. check (map function_of c.args.source.now.functions.now) (bounds_of c.args.source.now.vars.now) (types_in (entries_of c.args.context.now.items)) flags way (the_term c.args.left.now))
+    (λ flags way. check (map function_of c.args.source.now.functions.now) (bounds_of c.args.source.now.vars.now) (types_in (entries_of c.args.context.now.items)) flags way (the_term c.args.right.now)) test in
+    rw is (rw (sym c.sort_of-sort.ensures) c.check_by_right.ensures.answer)
+
+pub check_binary-returns-else-is_by_right-clause-answer : goal.check_binary-returns-else-is_by_right-clause-answer
+check_binary-returns-else-is_by_right-clause-answer t c =
+    let test : is_by_right (sort_of c.args.op) (way_of (option_copied c.args.direction)) (is_literal (the_term c.args.left.now)) ≡ false =
+    cc (c.is_by_right.ensures, c.if-is_by_right.false, c.sort_of-sort.ensures, c.is_literal.ensures) in
+    let is = by_left_else (sort_of c.args.op) c.args.op (way_of (option_copied c.args.direction)) c.args.place (is_literal (the_term c.args.left.now)) c.args.before.now.items
+    (λ flags way. check (map function_of c.args.source.now.functions.now) (bounds_of c.args.source.now.vars.now) (types_in (entries_of c.args.context.now.items)) flags way (the_term c.args.left.now))
+    (λ flags way. check (map function_of c.args.source.now.functions.now) (bounds_of c.args.source.now.vars.now) (types_in (entries_of c.args.context.now.items)) flags way (the_term c.args.right.now)) test in
+    rw is (rw (sym c.sort_of-sort.ensures) c.check_by_left.ensures.answer)
+
 pub check_fields-check_more_fields-requires : goal.check_fields-check_more_fields-requires
 check_fields-check_more_fields-requires t c =
     let e = size_more c.args.fields.now c.field-item.result c.in-len1-up.len_at_least c.field-item.is in
     omega (arith, e)
 
-pub check_fields-returns-in_ok-no_fields-in-empty-clause-answer : goal.check_fields-returns-in_ok-no_fields-in-empty-clause-answer
-check_fields-returns-in_ok-no_fields-in-empty-clause-answer t c =
+pub check_fields-returns-in-empty-clause-answer : goal.check_fields-returns-in-empty-clause-answer
+check_fields-returns-in-empty-clause-answer t c =
     let e = no_named c.args.fields.now c.in-empty.len_below in
-    rw e (ap Ok (sym c.in_ok-no_fields-in-empty.ensures))
+    rw e c.no_fields.ensures
 
 pub check_fields-returns-in-len1-up-clause-answer : goal.check_fields-returns-in-len1-up-clause-answer
 check_fields-returns-in-len1-up-clause-answer t c =
@@ -81,6 +106,18 @@ check_form-returns-in-Case-clause-answer t c =
     let a : Agrees got_of c.check_case.result (check_shape (map function_of c.args.source.now.functions.now) (bounds_of c.args.source.now.vars.now) (types_in (entries_of c.args.context.now.items)) c.args.before.now.items (way_of (option_copied c.args.direction)) c.args.term.now.note (case_of (the_term c.deref-in-Case.result.now) c.in-Case.at c.in-Case.binder (the_term c.deref-in-Case-2.result.now) (the_term c.deref-in-Case-3.result.now)))
     = subst (λ x. Agrees got_of c.check_case.result x) (case_is (map function_of c.args.source.now.functions.now) (bounds_of c.args.source.now.vars.now) (types_in (entries_of c.args.context.now.items)) c.args.before.now.items (way_of (option_copied c.args.direction)) c.args.term.now.note (the_term c.deref-in-Case.result.now) c.in-Case.at c.in-Case.binder (the_term c.deref-in-Case-2.result.now) (the_term c.deref-in-Case-3.result.now)) c.check_case.ensures.answer in
     rw (case_arm c.args.term.now c.in-Case.value c.in-Case.at c.in-Case.binder c.in-Case.first c.in-Case.second c.in-Case.is, sym c.deref-in-Case.ensures, sym c.deref-in-Case-2.ensures, sym c.deref-in-Case-3.ensures) a
+
+pub check_form-returns-in-Esac-clause-answer : goal.check_form-returns-in-Esac-clause-answer
+check_form-returns-in-Esac-clause-answer t c =
+    let a : Agrees got_of c.check_esac.result (check_shape (map function_of c.args.source.now.functions.now) (bounds_of c.args.source.now.vars.now) (types_in (entries_of c.args.context.now.items)) c.args.before.now.items (way_of (option_copied c.args.direction)) c.args.term.now.note (esac c.in-Esac.at (the_term c.deref-in-Esac.result.now)))
+    = subst (λ x. Agrees got_of c.check_esac.result x) (esac_is (map function_of c.args.source.now.functions.now) (bounds_of c.args.source.now.vars.now) (types_in (entries_of c.args.context.now.items)) c.args.before.now.items (way_of (option_copied c.args.direction)) c.args.term.now.note (the_term c.deref-in-Esac.result.now) c.in-Esac.at) c.check_esac.ensures.answer in
+    rw (esac_arm c.args.term.now c.in-Esac.at c.in-Esac.part c.in-Esac.is, sym c.deref-in-Esac.ensures) a
+
+pub check_form-returns-in-Struct-clause-answer : goal.check_form-returns-in-Struct-clause-answer
+check_form-returns-in-Struct-clause-answer t c =
+    let a : Agrees got_of c.check_struct.result (check_shape (map function_of c.args.source.now.functions.now) (bounds_of c.args.source.now.vars.now) (types_in (entries_of c.args.context.now.items)) c.args.before.now.items (way_of (option_copied c.args.direction)) c.args.term.now.note (struct (to_named (map the_field c.in-Struct.fields))))
+    = subst (λ x. Agrees got_of c.check_struct.result x) (struct_is (map function_of c.args.source.now.functions.now) (bounds_of c.args.source.now.vars.now) (types_in (entries_of c.args.context.now.items)) c.args.before.now.items (way_of (option_copied c.args.direction)) c.args.term.now.note (to_named (map the_field c.in-Struct.fields))) c.check_struct.ensures.answer in
+    rw (struct_arm c.args.term.now c.in-Struct.fields c.in-Struct.is) a
 
 pub check_form-returns-in-Member-clause-answer : goal.check_form-returns-in-Member-clause-answer
 check_form-returns-in-Member-clause-answer t c =

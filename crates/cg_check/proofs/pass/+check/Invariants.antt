@@ -5,127 +5,97 @@ use Rattle.cg_check.proofs.PassSteps.{size, size_fields, sizes}
 use Rattle.cg_check.proofs.pass.+check.Given as goal
 
 abbrev pub decreases-check_term : goal.decreases-check_term
-decreases-check_term l = 5 * size (the_term l.term.now) + 1
+decreases-check_term l = 6 * size (the_term l.term.now) + 1
 
 abbrev pub decreases-check_form : goal.decreases-check_form
-decreases-check_form l = 5 * size (the_term l.term.now)
+decreases-check_form l = 6 * size (the_term l.term.now)
 
 abbrev pub decreases-check_op : goal.decreases-check_op
-decreases-check_op l = 5 * sizes (to_trees (map the_term l.operands.now)) + 4
+decreases-check_op l = 6 * sizes (to_trees (map the_term l.operands.now)) + 5
 
 abbrev pub decreases-check_unary : goal.decreases-check_unary
-decreases-check_unary l = 5 * size (the_term l.part.now) + 4
+decreases-check_unary l = 6 * size (the_term l.part.now) + 4
 
-abbrev pub decreases-check_logic : goal.decreases-check_logic
-decreases-check_logic l = 5 * size (the_term l.part.now) + 3
+abbrev pub decreases-check_first : goal.decreases-check_first
+decreases-check_first l = 6 * size (the_term l.part.now) + 3
 
-abbrev pub decreases-check_arithmetic_against : goal.decreases-check_arithmetic_against
-decreases-check_arithmetic_against l = 5 * size (the_term l.part.now) + 3
-
-abbrev pub decreases-check_arithmetic : goal.decreases-check_arithmetic
-decreases-check_arithmetic l = 5 * size (the_term l.part.now) + 3
-
-abbrev pub decreases-check_compared : goal.decreases-check_compared
-decreases-check_compared l = 5 * size (the_term l.part.now) + 3
+abbrev pub decreases-check_guide : goal.decreases-check_guide
+decreases-check_guide l = 6 * size (the_term l.part.now) + 2
 
 abbrev pub decreases-check_binary : goal.decreases-check_binary
-decreases-check_binary l = 5 * (size (the_term l.left.now) + size (the_term l.right.now)) + 4
+decreases-check_binary l = 6 * (size (the_term l.left.now) + size (the_term l.right.now)) + 5
 
-abbrev pub decreases-check_logic_of_both : goal.decreases-check_logic_of_both
-decreases-check_logic_of_both l = 5 * (size (the_term l.left.now) + size (the_term l.right.now)) + 3
+abbrev pub decreases-check_by_left : goal.decreases-check_by_left
+decreases-check_by_left l = 6 * (size (the_term l.left.now) + size (the_term l.right.now)) + 4
 
-abbrev pub decreases-check_sum_against : goal.decreases-check_sum_against
-decreases-check_sum_against l = 5 * (size (the_term l.left.now) + size (the_term l.right.now)) + 3
+abbrev pub decreases-check_by_right : goal.decreases-check_by_right
+decreases-check_by_right l = 6 * (size (the_term l.left.now) + size (the_term l.right.now)) + 4
 
-abbrev pub decreases-check_sum : goal.decreases-check_sum
-decreases-check_sum l = 5 * (size (the_term l.left.now) + size (the_term l.right.now)) + 3
+abbrev pub decreases-check_second : goal.decreases-check_second
+decreases-check_second l = 6 * size (the_term l.part.now) + 3
 
-abbrev pub decreases-check_comparison : goal.decreases-check_comparison
-decreases-check_comparison l = 5 * (size (the_term l.left.now) + size (the_term l.right.now)) + 3
-
-abbrev pub decreases-check_sum_by_left : goal.decreases-check_sum_by_left
-decreases-check_sum_by_left l = 5 * (size (the_term l.left.now) + size (the_term l.right.now)) + 2
-
-abbrev pub decreases-check_sum_by_right : goal.decreases-check_sum_by_right
-decreases-check_sum_by_right l = 5 * (size (the_term l.left.now) + size (the_term l.right.now)) + 2
-
-abbrev pub decreases-check_comparison_by_left : goal.decreases-check_comparison_by_left
-decreases-check_comparison_by_left l = 5 * (size (the_term l.left.now) + size (the_term l.right.now)) + 2
-
-abbrev pub decreases-check_comparison_by_right : goal.decreases-check_comparison_by_right
-decreases-check_comparison_by_right l = 5 * (size (the_term l.left.now) + size (the_term l.right.now)) + 2
-
-abbrev pub decreases-check_struct : goal.decreases-check_struct
-decreases-check_struct l = 5 * size_fields (to_named (map the_field l.fields.now)) + 4
-
-abbrev pub decreases-check_record : goal.decreases-check_record
-decreases-check_record l = 5 * size_fields (to_named (map the_field l.fields.now)) + 3
-
-abbrev pub decreases-check_own_record : goal.decreases-check_own_record
-decreases-check_own_record l = 5 * size_fields (to_named (map the_field l.fields.now)) + 3
-
-abbrev pub decreases-check_fields : goal.decreases-check_fields
-decreases-check_fields l = 5 * size_fields (to_named (map the_field l.fields.now)) + 2
-
-abbrev pub decreases-check_more_fields : goal.decreases-check_more_fields
-decreases-check_more_fields l = 5 * (size (the_term l.field.now.term) + size_fields (to_named (map the_field l.rest.now))) + 3
+abbrev pub decreases-check_behind : goal.decreases-check_behind
+decreases-check_behind l = 6 * size (the_term l.part.now) + 2
 
 abbrev pub decreases-check_app : goal.decreases-check_app
-decreases-check_app l = 5 * (size (the_term l.fun.now) + size (the_term l.arg.now)) + 3
+decreases-check_app l = 6 * (size (the_term l.fun.now) + size (the_term l.arg.now)) + 3
 
 abbrev pub decreases-check_let : goal.decreases-check_let
-decreases-check_let l = 5 * (size (the_term l.value.now) + size (the_term l.body.now)) + 3
+decreases-check_let l = 6 * (size (the_term l.value.now) + size (the_term l.body.now)) + 4
 
 abbrev pub decreases-check_let_bang : goal.decreases-check_let_bang
-decreases-check_let_bang l = 5 * (size (the_term l.value.now) + size (the_term l.body.now)) + 3
+decreases-check_let_bang l = 6 * (size (the_term l.value.now) + size (the_term l.body.now)) + 4
 
 abbrev pub decreases-check_if : goal.decreases-check_if
-decreases-check_if l = 5 * (size (the_term l.test.now) + size (the_term l.first.now) + size (the_term l.second.now)) + 3
+decreases-check_if l = 6 * (size (the_term l.test.now) + size (the_term l.first.now) + size (the_term l.second.now)) + 3
 
 abbrev pub decreases-check_con : goal.decreases-check_con
-decreases-check_con l = 5 * (size (the_term l.part.now)) + 3
+decreases-check_con l = 6 * size (the_term l.part.now) + 3
 
 abbrev pub decreases-check_esac : goal.decreases-check_esac
-decreases-check_esac l = 5 * (size (the_term l.part.now)) + 3
+decreases-check_esac l = 6 * size (the_term l.part.now) + 3
 
 abbrev pub decreases-check_member : goal.decreases-check_member
-decreases-check_member l = 5 * (size (the_term l.part.now)) + 3
-
-abbrev pub decreases-check_put : goal.decreases-check_put
-decreases-check_put l = 5 * (size (the_term l.value.now) + size (the_term l.part.now)) + 3
+decreases-check_member l = 6 * size (the_term l.part.now) + 3
 
 abbrev pub decreases-check_cast : goal.decreases-check_cast
-decreases-check_cast l = 5 * (size (the_term l.part.now)) + 3
+decreases-check_cast l = 6 * size (the_term l.part.now) + 3
 
 abbrev pub decreases-check_annot : goal.decreases-check_annot
-decreases-check_annot l = 5 * (size (the_term l.part.now)) + 3
+decreases-check_annot l = 6 * size (the_term l.part.now) + 3
 
 abbrev pub decreases-check_case : goal.decreases-check_case
-decreases-check_case l = 5 * (size (the_term l.value.now) + size (the_term l.first.now) + size (the_term l.second.now)) + 4
-
-abbrev pub decreases-check_matched : goal.decreases-check_matched
-decreases-check_matched l = 5 * (size (the_term l.first.now) + size (the_term l.second.now)) + 4
-
-abbrev pub decreases-check_take : goal.decreases-check_take
-decreases-check_take l = 5 * (size (the_term l.value.now) + size (the_term l.body.now)) + 4
-
-abbrev pub decreases-check_scoped : goal.decreases-check_scoped
-decreases-check_scoped l = 5 * (size (the_term l.body.now)) + 3
-
-abbrev pub decreases-check_taken : goal.decreases-check_taken
-decreases-check_taken l = 5 * (size (the_term l.body.now)) + 4
-
-abbrev pub decreases-check_in_both : goal.decreases-check_in_both
-decreases-check_in_both l = 5 * (size (the_term l.body.now)) + 3
-
-abbrev pub decreases-check_in_scope : goal.decreases-check_in_scope
-decreases-check_in_scope l = 5 * (size (the_term l.body.now)) + 2
-
-abbrev pub decreases-check_observed : goal.decreases-check_observed
-decreases-check_observed l = 5 * (size (the_term l.value.now)) + 3
-
-abbrev pub decreases-check_seen : goal.decreases-check_seen
-decreases-check_seen l = 5 * (size (the_term l.value.now)) + 2
+decreases-check_case l = 6 * (size (the_term l.value.now) + size (the_term l.first.now) + size (the_term l.second.now)) + 5
 
 abbrev pub decreases-check_other : goal.decreases-check_other
-decreases-check_other l = 5 * (size (the_term l.second.now)) + 4
+decreases-check_other l = 6 * size (the_term l.second.now) + 4
+
+abbrev pub decreases-check_struct : goal.decreases-check_struct
+decreases-check_struct l = 6 * size_fields (to_named (map the_field l.fields.now)) + 4
+
+abbrev pub decreases-check_fields : goal.decreases-check_fields
+decreases-check_fields l = 6 * size_fields (to_named (map the_field l.fields.now)) + 2
+
+abbrev pub decreases-check_more_fields : goal.decreases-check_more_fields
+decreases-check_more_fields l = 6 * (size (the_term l.field.now.term) + size_fields (to_named (map the_field l.rest.now))) + 3
+
+abbrev pub decreases-check_take : goal.decreases-check_take
+decreases-check_take l = 6 * (size (the_term l.value.now) + size (the_term l.body.now)) + 4
+
+abbrev pub decreases-check_taken : goal.decreases-check_taken
+decreases-check_taken l = 6 * size (the_term l.body.now) + 3
+
+abbrev pub decreases-check_put : goal.decreases-check_put
+decreases-check_put l = 6 * (size (the_term l.value.now) + size (the_term l.part.now)) + 3
+
+abbrev pub decreases-check_bound : goal.decreases-check_bound
+decreases-check_bound l = 6 * size (the_term l.body.now) + 3
+
+abbrev pub decreases-check_scoped : goal.decreases-check_scoped
+decreases-check_scoped l = 6 * size (the_term l.body.now) + 2
+
+abbrev pub decreases-check_observed : goal.decreases-check_observed
+decreases-check_observed l = 6 * size (the_term l.value.now) + 3
+
+abbrev pub decreases-check_seen : goal.decreases-check_seen
+decreases-check_seen l = 6 * size (the_term l.value.now) + 2

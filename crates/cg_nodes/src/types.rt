@@ -3,7 +3,7 @@ ghost use Rattle.std.specs.Prelude.{IfOk, Ok, ◌≡◌};
 ghost use Rattle.cg_base.specs.Types.{Tau, type_of};
 ghost use Rattle.cg_check_laws.specs.Pass.{Out};
 ghost use Rattle.cg_context.specs.View.{Agrees};
-ghost use Rattle.cg_check.specs.Boxed.{in_box};
+ghost use Rattle.cg_nodes.specs.Boxed.{in_box};
 
 use cg_base::{Memory, Ty};
 use cg_context::Stop;
@@ -27,4 +27,11 @@ pub fn boxed_tested(alloc: Global, made: Result<Ty, Stop>) -> Result<Box<Ty>, St
         Ok(ty) => Ok(Box::new(alloc, ty)?),
         Err(stop) => Err(stop),
     }
+}
+
+/// An equal type in a box. Want of memory is its one refusal.
+pub fn copied(alloc: Global, ty: &Ty) -> Result<Box<Ty>, Memory>
+    ensures { IfOk result (λ b. in_box b ≡ type_of ty.now) }
+{
+    boxed(alloc, ty.copy(alloc))
 }

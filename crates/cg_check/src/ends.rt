@@ -1,0 +1,308 @@
+// Forms behind their parts: the tests that are left there, and the node.
+#![tactic(auto, unfolding(cg_check_laws::specs::Pass::check), using(crate::proofs::PassSteps::pass_steps))]
+
+ghost use Rattle.std.specs.Prelude.{◌≡◌, IfOk, Ok, map};
+ghost use Rattle.std.specs.Option.{option_copied};
+ghost use Rattle.cg_base.specs.Types.{type_of};
+ghost use Rattle.cg_check.specs.Forms.{case_end, esac_end, if_end, may_be_made_of as may_be_made_of_way, member_end, put_end, record_type};
+ghost use Rattle.cg_check.specs.Operators.{both_end, guided_direction as guided_direction_of, is_by_right as is_by_right_of, one_end, operator_type as operator_type_of};
+ghost use Rattle.cg_check_laws.specs.Pass.{meet as meet_by, need as need_by, test};
+ghost use Rattle.cg_context.specs.View.{Agrees, entries_of, types_in};
+ghost use Rattle.cg_core.specs.Kernels.{function_of, the_field};
+ghost use Rattle.cg_core.specs.Terms.{arg_of, to_named};
+ghost use Rattle.cg_faults.specs.declared.rule.Rule.TheVariants.{T11, T12};
+ghost use Rattle.cg_faults.specs.Rule.{type_limit};
+ghost use Rattle.cg_nodes.specs.Boxed.{in_box};
+ghost use Rattle.cg_nodes.specs.Fields.{fields_of};
+ghost use Rattle.cg_nodes.specs.Gots.{got_of};
+ghost use Rattle.cg_nodes.specs.Nodes as forms;
+ghost use Rattle.cg_parts.specs.Views.{the_sort};
+ghost use Rattle.cg_pieces.specs.View.{bounds_of, way_of};
+ghost use Rattle.cg_typing.specs.Operators.{takes as takes_by};
+ghost use Rattle.cg_typing.specs.Parts.{given_by, is_small_enough as small_by, widens as widens_by};
+
+use cg_base::{Items, Memory, Place, Ty};
+use cg_context::{Known, Source, Stop, branches, but_last, last_type, meet, member_type, need};
+use cg_core::{At, FieldTerm, Op, TyArg};
+use cg_faults::Rule;
+use cg_nodes::{
+    Fields, Got, annot_node, app_node, boxed, boxed_tested, case_node, cast_node, copied,
+    esac_node, if_node, member_node, operated, operated_both, put_node, record_node, struct_node,
+};
+use cg_parts::{Sort, is_made_of, is_small_enough, takes, widens, with_part};
+use std::alloc::Global;
+
+/// A part whose type is within the limit.
+pub(crate) fn small(place: Place, got: Got) -> Result<Got, Stop>
+    ensures { Agrees got_of result (test type_limit place (small_by (got_of got).ty) (Ok (got_of got))) }
+{
+    if is_small_enough(got.ty()) {
+        Ok(got)
+    } else {
+        Err(Stop::Size(place))
+    }
+}
+
+// A type that is synthesised where it meets the direction (T1).
+fn met(alloc: Global, direction: Option<&Ty>, place: Place, ty: &Ty) -> Result<Box<Ty>, Stop>
+    ensures { Agrees in_box result (meet_by (way_of (option_copied direction.entry)) place (type_of ty.now) (Ok (type_of ty.now))) }
+{
+    meet(direction, place, ty)?;
+    Ok(copied(alloc, ty)?)
+}
+
+// The type of an operator, of which the operand that was checked first has this type.
+fn operator_type(
+    alloc: Global,
+    direction: Option<&Ty>,
+    place: Place,
+    sort: Sort,
+    first: &Ty,
+) -> Result<Box<Ty>, Stop>
+    ensures { Agrees in_box result (operator_type_of (the_sort sort) (way_of (option_copied direction.entry)) place (type_of first.now)) }
+{
+    match (sort, direction) {
+        (Sort::Arithmetic, Some(wanted)) => Ok(copied(alloc, wanted)?),
+        (Sort::Arithmetic, None) => Ok(copied(alloc, first)?),
+        _ => met(alloc, direction, place, &Ty::Bool),
+    }
+}
+
+/// The direction of an operand whose guide has this type, or of one of arithmetic that is checked.
+pub(crate) fn guided_direction<'a>(
+    direction: Option<&'a Ty>,
+    sort: Sort,
+    guide: &'a Ty,
+) -> Option<&'a Ty>
+    ensures { way_of (option_copied result) ≡ guided_direction_of (the_sort sort) (way_of (option_copied direction.entry)) (type_of guide.now) }
+{
+    match (sort, direction) {
+        (Sort::Arithmetic, Some(wanted)) => Some(wanted),
+        _ => Some(guide),
+    }
+}
+
+/// An operator with one operand.
+pub(crate) fn end_unary(
+    alloc: Global,
+    direction: Option<&Ty>,
+    place: Place,
+    op: Op,
+    sort: Sort,
+    part: Got,
+) -> Result<Got, Stop>
+    ensures { Agrees got_of result (one_end op (the_sort sort) (way_of (option_copied direction.entry)) place (got_of part)) }
+{
+    let ty = operator_type(alloc, direction, place, sort, part.ty())?;
+    operated(alloc, op, place, ty, part)
+}
+
+/// An operator with two operands, of which the left one was checked first.
+pub(crate) fn end_by_left(
+    alloc: Global,
+    direction: Option<&Ty>,
+    place: Place,
+    op: Op,
+    sort: Sort,
+    left: Got,
+    right: Got,
+) -> Result<Got, Stop>
+    ensures { Agrees got_of result (both_end op (the_sort sort) (way_of (option_copied direction.entry)) place (got_of left).ty (got_of left) (got_of right)) }
+{
+    let ty = operator_type(alloc, direction, place, sort, left.ty())?;
+    operated_both(alloc, op, place, ty, left, right)
+}
+
+/// The same where the right one was.
+pub(crate) fn end_by_right(
+    alloc: Global,
+    direction: Option<&Ty>,
+    place: Place,
+    op: Op,
+    sort: Sort,
+    left: Got,
+    right: Got,
+) -> Result<Got, Stop>
+    ensures { Agrees got_of result (both_end op (the_sort sort) (way_of (option_copied direction.entry)) place (got_of right).ty (got_of left) (got_of right)) }
+{
+    let ty = operator_type(alloc, direction, place, sort, right.ty())?;
+    operated_both(alloc, op, place, ty, left, right)
+}
+
+/// Whether the right operand is checked first, where the left one is a literal or not.
+pub(crate) fn is_by_right(direction: Option<&Ty>, sort: Sort, literal: bool) -> bool
+    ensures { result ≡ is_by_right_of (the_sort sort) (way_of (option_copied direction.entry)) literal }
+{
+    match sort {
+        Sort::Logic => false,
+        Sort::Arithmetic => direction.is_none() && literal,
+        Sort::Equality | Sort::Order => literal,
+    }
+}
+
+/// An operand of a type that operators of this sort take (T12).
+pub(crate) fn taken_by_sort(place: Place, sort: Sort, got: Got) -> Result<Got, Stop>
+    ensures { Agrees got_of result (need_by T12 place (takes_by (the_sort sort) (got_of got).ty) (Ok (got_of got))) }
+{
+    if takes(sort, got.ty()) {
+        Ok(got)
+    } else {
+        Err(Stop::Rule(Rule::T12, place))
+    }
+}
+
+// What a function gives. Want of memory is its one refusal.
+fn given(alloc: Global, ty: &Ty) -> Result<Box<Ty>, Memory>
+    ensures { IfOk result (λ b. in_box b ≡ given_by (type_of ty.now)) }
+{
+    match ty {
+        Ty::Arrow(_, to) => copied(alloc, to),
+        _ => Ok(Box::new(alloc, Ty::Unit)?),
+    }
+}
+
+/// An application.
+pub(crate) fn end_app(
+    alloc: Global,
+    direction: Option<&Ty>,
+    place: Place,
+    fun: Got,
+    arg: Got,
+) -> Result<Got, Stop>
+    ensures { Agrees got_of result (meet_by (way_of (option_copied direction.entry)) place (given_by (got_of fun).ty) (Ok (forms.app_node place (given_by (got_of fun).ty) (got_of fun) (got_of arg)))) }
+{
+    let ty = given(alloc, fun.ty())?;
+    meet(direction, place, &ty)?;
+    app_node(alloc, place, ty, fun, arg)
+}
+
+/// A conditional, whose branches have these notes.
+pub(crate) fn end_if(
+    source: &Source,
+    context: &Vec<Known>,
+    place: Place,
+    part: Got,
+    one: Got,
+    other: Got,
+    first: Place,
+    second: Place,
+) -> Result<Got, Stop>
+    ensures { Agrees got_of result (if_end (map function_of source.now.functions.now) (bounds_of source.now.vars.now) (types_in (entries_of context.now.items)) place first second (got_of part) (got_of one) (got_of other)) }
+{
+    branches(source, context, first, second, &one.uses, &other.uses)?;
+    if_node(source.alloc, place, part, one, other)
+}
+
+/// A match on one alternative, whose branches have these notes.
+pub(crate) fn end_case(
+    source: &Source,
+    context: &Vec<Known>,
+    place: Place,
+    at: &At,
+    binder: Place,
+    part: Got,
+    one: Got,
+    other: Got,
+    first: Place,
+    second: Place,
+) -> Result<Got, Stop>
+    ensures { Agrees got_of result (case_end (map function_of source.now.functions.now) (bounds_of source.now.vars.now) (types_in (entries_of context.now.items)) place at.now binder first second (got_of part) (got_of one) (got_of other)) }
+{
+    let used = but_last(&one.uses);
+    branches(source, context, first, second, used, but_last(&other.uses))?;
+    let count = context.len();
+    case_node(source.alloc, count, place, at, binder, part, one, other)
+}
+
+/// A match on the last alternative.
+pub(crate) fn end_esac(
+    source: &Source,
+    direction: Option<&Ty>,
+    place: Place,
+    at: &At,
+    part: Got,
+) -> Result<Got, Stop>
+    ensures { Agrees got_of result (esac_end (way_of (option_copied direction.entry)) place at.now (got_of part)) }
+{
+    let ty = boxed_tested(source.alloc, last_type(source, at, part.ty()))?;
+    meet(direction, place, &ty)?;
+    esac_node(source.alloc, place, ty, at, part)
+}
+
+/// Whether fields are those of the type that is checked against, if any.
+pub(crate) fn may_be_made_of(direction: Option<&Ty>, fields: &Items<FieldTerm<Place>>) -> bool
+    ensures { result ≡ may_be_made_of_way (way_of (option_copied direction.entry)) (to_named (map the_field fields.now)) }
+{
+    match direction {
+        Some(wanted) => is_made_of(wanted, fields),
+        None => true,
+    }
+}
+
+/// A record, of this type or of the one that its fields make.
+pub(crate) fn end_struct(
+    alloc: Global,
+    direction: Option<&Ty>,
+    place: Place,
+    fields: Fields,
+) -> Result<Got, Stop>
+    ensures { Agrees got_of result (Ok (forms.struct_node place (record_type (way_of (option_copied direction.entry)) (fields_of fields).parts) (fields_of fields))) }
+{
+    match direction {
+        Some(wanted) => struct_node(alloc, place, wanted, fields),
+        None => record_node(alloc, place, fields),
+    }
+}
+
+/// A member.
+pub(crate) fn end_member(
+    source: &Source,
+    direction: Option<&Ty>,
+    place: Place,
+    at: &At,
+    part: Got,
+) -> Result<Got, Stop>
+    ensures { Agrees got_of result (member_end (bounds_of source.now.vars.now) (way_of (option_copied direction.entry)) place at.now (got_of part)) }
+{
+    let ty = boxed_tested(source.alloc, member_type(source, at, part.ty()))?;
+    meet(direction, place, &ty)?;
+    member_node(source.alloc, place, ty, at, part)
+}
+
+/// A put.
+pub(crate) fn end_put(
+    alloc: Global,
+    direction: Option<&Ty>,
+    place: Place,
+    at: &At,
+    value: Got,
+    part: Got,
+) -> Result<Got, Stop>
+    ensures { Agrees got_of result (put_end (way_of (option_copied direction.entry)) place at.now (got_of value) (got_of part)) }
+{
+    let ty = boxed(alloc, with_part(alloc, &at.name, false, value.ty()))?;
+    meet(direction, place, &ty)?;
+    put_node(alloc, place, ty, at, value, part)
+}
+
+/// A cast to this type (T11).
+pub(crate) fn end_cast(alloc: Global, place: Place, wanted: &Ty, part: Got) -> Result<Got, Stop>
+    ensures { Agrees got_of result (need_by T11 place (widens_by (got_of part).ty (type_of wanted.now)) (Ok (forms.cast_node place (type_of wanted.now) (got_of part)))) }
+{
+    need(Rule::T11, place, widens(part.ty(), wanted))?;
+    cast_node(alloc, place, wanted, part)
+}
+
+/// A term with its type written.
+pub(crate) fn end_annot(
+    alloc: Global,
+    direction: Option<&Ty>,
+    place: Place,
+    arg: &TyArg,
+    part: Got,
+) -> Result<Got, Stop>
+    ensures { Agrees got_of result (meet_by (way_of (option_copied direction.entry)) place (type_of arg.now.ty) (Ok (forms.annot_node place (arg_of arg.now) (got_of part)))) }
+{
+    meet(direction, place, &arg.ty)?;
+    annot_node(alloc, place, arg, part)
+}
