@@ -1,7 +1,7 @@
 #!/usr/bin/env python3
-"""Times `recheck` beside `check` on growing sources, on one processor: small and deep functions with their certificates, certificates that
-are refused at their end, and one as long as the limit of certificates allows. Seconds, megabytes, the ratio at each doubling, and how
-many times the time of `check`.
+"""Times `recheck` beside `check` on growing sources, on one processor: small and deep functions and variables of large types with their
+certificates, with marks that hand all variables to both sides, certificates that are refused at their end, and one as long as the limit
+of certificates allows. Seconds, megabytes, the ratio at each doubling, and how many times the time of `check`.
 
 Each time is the least of three. Memory is what /usr/bin/time says.
 
@@ -54,8 +54,8 @@ def marks(count, present, first, rest):
     return format(4 * wide[0] + 2 * wide[1] + wide[2], f"0{count}x")[::-1].translate(DIGITS)
 
 
-def lines(term, count, present, told):
-    """The lines of a term in a context of so many variables, of which these are present."""
+def lines(term, count, present, told, lavish):
+    """The lines of a term in a context of so many variables, of which these are present. Where marks are lavish, each goes to both sides."""
     word, _, parts, _ = term
     if not parts:
         told.append(word)
@@ -63,18 +63,19 @@ def lines(term, count, present, told):
     first, second = parts
     new = 1 if word == "let" else 0
     used = second[1] & ~(new << count)
-    told.append(f"{word} {marks(count, present, first[1], used)}")
-    lines(first, count, present & first[1], told)
-    lines(second, count + new, present & ~(first[1] & ~used) | new << count, told)
+    left, right = (present, present) if lavish else (first[1], used)
+    told.append(f"{word} {marks(count, present, left, right)}")
+    lines(first, count, present & left, told, lavish)
+    lines(second, count + new, present & ~(left & ~right) | new << count, told, lavish)
 
 
-def written(functions):
-    """A source of functions from U32 to U32, and its certificate."""
-    source, told = [], ["cogent certificate 1"]
+def written(functions, ty="U32 -> U32", first="", lavish=False):
+    """A source of functions of one type, behind a first text, and its certificate."""
+    source, told = [first], ["cogent certificate 1"]
     for name, body in functions:
-        source.append(f"{name} : U32 -> U32\n{name} x = {body[3]}\n")
+        source.append(f"{name} : {ty}\n{name} x = {body[3]}\n")
         told.append(f"fun {name}")
-        lines(body, 1, 1, told)
+        lines(body, 1, 1, told, lavish)
     return "".join(source), "\n".join([*told, "end", ""])
 
 
@@ -111,6 +112,27 @@ def deep_function(size):
     return deep(60, size // 9)
 
 
+LARGE = "type T0 a = a\n" + "".join(f"type T{k + 1} a = (T{k} a, T{k} a)\n" for k in range(8))
+
+
+def large_types(lavish):
+    """Functions of 400 variables, each of a type of 511 nodes that may be shared and dropped."""
+
+    def made(size):
+        body = var(400, "y399")
+        for i in reversed(range(400)):
+            body = let(i + 1, f"y{i}", var(0, "x"), body)
+        functions = [(f"f{i}", body) for i in range(size // len(body[3]))]
+        return written(functions, "all (a :< DSE). T8 a -> T8 a", LARGE, lavish)
+
+    return made
+
+
+def a_part(most, kind):
+    """The same of sources that are as many times shorter."""
+    return lambda size: kind(size // most)
+
+
 def as_long_as_may_be(_size):
     """A certificate of nearly as many bytes as may be, by marks of 480 variables at each node."""
     few, many = len(deep(480, 1000)[1]), len(deep(480, 3000)[1])
@@ -133,6 +155,9 @@ def changed(kind, old, new):
 KINDS = {
     "small functions": small_functions,
     "one deep function": deep_function,
+    # each node holds its type as a tree
+    "large types, a 16th": a_part(16, large_types(False)),
+    "the same, all for both": a_part(16, large_types(True)),
     "C2 at the last node": changed(small_functions, "lit\n", "unit\n"),
     "C3 behind the last node": changed(small_functions, "end\n", "var\nend\n"),
     "C1 at the last line": changed(small_functions, "end\n", "ent\n"),

@@ -37,9 +37,9 @@ pub(crate) fn reach_left(
     marks: &[Mark],
     at: Cursor,
 ) -> Result<Cursor, CertFault>
-    ensures { Agrees (cursor_of source.now.nodes.now) result (literal_reached (bounds_of source.now.vars.now) (first_of marks.now (context_of context.now)) (cursor_of source.now.nodes.now at)) }
+    ensures { Agrees (cursor_of source.now.nodes.now) result (literal_reached (bounds_of source.now.vars.now) (first_of marks.now (context_of (bounds_of source.now.vars.now) context.now)) (cursor_of source.now.nodes.now at)) }
 {
-    let side = firsts(source.alloc, marks, context)?;
+    let side = firsts(source, marks, context)?;
     reach_literal(source, side.as_slice(), at)
 }
 

@@ -18,7 +18,7 @@ ghost use Rattle.cg_certcheck_laws.specs.Pass.{check_cert};
 use crate::pass::check_term;
 use cg_base::{Items, Memory, Name, Place, Ty};
 use cg_cert::{Cert, CertFault, CertFun, CertNode};
-use cg_certnodes::{Cursor, Entry, Got, Source};
+use cg_certnodes::{Cursor, Got, Source, present};
 use cg_core::{KFun, Kernel, Term};
 use cg_parts::has_word_arrays;
 use cg_pieces::{KeptBodies, KeptBody};
@@ -147,7 +147,7 @@ fn check_body(
 ) -> Result<Got, CertFault>
     ensures { Agrees (got_in source.now.nodes.now) result (bodies.body_by (map function_of source.now.functions.now) (bounds_of source.now.vars.now) (type_of argument.now) (type_of gives.now) (record { nodes = source.now.nodes.now; next = next }) (the_term term.now)) }
 {
-    let context = [Entry::Present(argument)];
+    let context = [present(source, argument)];
     let at = Cursor { index: 0, next };
     let got = check_term(source, &context, Some(gives), at, term)?;
     if got.at.index < source.nodes.len() {

@@ -19,8 +19,7 @@ ghost use Rattle.cg_typing.specs.Functions.{are_good_arguments, asked_by};
 use cg_base::{Fun, Items, Limit, Place, Ty};
 use cg_cert::CertFault;
 use cg_certnodes::{
-    Cursor, Entry, Got, Source, drops_all, drops_but, is_present, leaf_of, reach_leaf, test_leaf,
-    type_at,
+    Cursor, Entry, Got, Source, drops_all, ends_with, leaf_of, reach_leaf, test_leaf, type_at,
 };
 use cg_core::{Form, Node, TyArg};
 use cg_parts::{arguments_fault, in_range, is_small_enough, mentioned};
@@ -35,11 +34,11 @@ pub(crate) fn check_var(
     place: Place,
     var: u32,
 ) -> Result<Got, CertFault>
-    ensures { Agrees (got_in source.now.nodes.now) result (form_by (map function_of source.now.functions.now) (bounds_of source.now.vars.now) (context_of context.now) (way_of (option_copied direction.entry)) (cursor_of source.now.nodes.now at) place (terms.var var)) }
+    ensures { Agrees (got_in source.now.nodes.now) result (form_by (map function_of source.now.functions.now) (bounds_of source.now.vars.now) (context_of (bounds_of source.now.vars.now) context.now) (way_of (option_copied direction.entry)) (cursor_of source.now.nodes.now at) place (terms.var var)) }
 {
     let position = var as usize;
-    let holds = is_present(context, position) && drops_but(source, context, position);
-    let ty = type_at(source.alloc, context, position)?;
+    let holds = ends_with(source, context, position);
+    let ty = type_at(source, context, position)?;
     let behind = test_leaf(source, direction, &ty, Node::Var, holds, at)?;
     Ok(leaf_of(source, place, ty, Form::Var(var), Node::Var, behind)?)
 }
@@ -52,7 +51,7 @@ pub(crate) fn check_unit(
     at: Cursor,
     place: Place,
 ) -> Result<Got, CertFault>
-    ensures { Agrees (got_in source.now.nodes.now) result (form_by (map function_of source.now.functions.now) (bounds_of source.now.vars.now) (context_of context.now) (way_of (option_copied direction.entry)) (cursor_of source.now.nodes.now at) place terms.unit) }
+    ensures { Agrees (got_in source.now.nodes.now) result (form_by (map function_of source.now.functions.now) (bounds_of source.now.vars.now) (context_of (bounds_of source.now.vars.now) context.now) (way_of (option_copied direction.entry)) (cursor_of source.now.nodes.now at) place terms.unit) }
 {
     let holds = drops_all(source, context);
     let behind = test_leaf(source, direction, &Ty::Unit, Node::Unit, holds, at)?;
@@ -68,7 +67,7 @@ pub(crate) fn check_bool(
     place: Place,
     value: bool,
 ) -> Result<Got, CertFault>
-    ensures { Agrees (got_in source.now.nodes.now) result (form_by (map function_of source.now.functions.now) (bounds_of source.now.vars.now) (context_of context.now) (way_of (option_copied direction.entry)) (cursor_of source.now.nodes.now at) place (terms.bool value)) }
+    ensures { Agrees (got_in source.now.nodes.now) result (form_by (map function_of source.now.functions.now) (bounds_of source.now.vars.now) (context_of (bounds_of source.now.vars.now) context.now) (way_of (option_copied direction.entry)) (cursor_of source.now.nodes.now at) place (terms.bool value)) }
 {
     let holds = drops_all(source, context);
     let behind = test_leaf(source, direction, &Ty::Bool, Node::Bool, holds, at)?;
@@ -85,7 +84,7 @@ pub(crate) fn check_literal(
     place: Place,
     value: Option<u64>,
 ) -> Result<Got, CertFault>
-    ensures { Agrees (got_in source.now.nodes.now) result (literal_by (map function_of source.now.functions.now) (bounds_of source.now.vars.now) (context_of context.now) (way_of (option_copied direction.entry)) (cursor_of source.now.nodes.now at) place value) }
+    ensures { Agrees (got_in source.now.nodes.now) result (literal_by (map function_of source.now.functions.now) (bounds_of source.now.vars.now) (context_of (bounds_of source.now.vars.now) context.now) (way_of (option_copied direction.entry)) (cursor_of source.now.nodes.now at) place value) }
 {
     let behind = reach_leaf(source, Node::Lit, at)?;
     let Some(ty) = direction else {
@@ -145,7 +144,7 @@ pub(crate) fn check_mention(
     fun: Fun,
     args: &Items<TyArg>,
 ) -> Result<Got, CertFault>
-    ensures { Agrees (got_in source.now.nodes.now) result (form_by (map function_of source.now.functions.now) (bounds_of source.now.vars.now) (context_of context.now) (way_of (option_copied direction.entry)) (cursor_of source.now.nodes.now at) place (terms.fun fun (map arg_of args.now))) }
+    ensures { Agrees (got_in source.now.nodes.now) result (form_by (map function_of source.now.functions.now) (bounds_of source.now.vars.now) (context_of (bounds_of source.now.vars.now) context.now) (way_of (option_copied direction.entry)) (cursor_of source.now.nodes.now at) place (terms.fun fun (map arg_of args.now))) }
 {
     let holds = drops_all(source, context) && are_good(source, fun, args);
     let ty = mentioned(source.alloc, source.functions, fun, args)?;

@@ -49,7 +49,7 @@ pub(crate) fn check_term(
     at: Cursor,
     term: &Term<Place>,
 ) -> Result<Got, CertFault>
-    ensures { Agrees (got_in source.now.nodes.now) result (check_of (map function_of source.now.functions.now) (bounds_of source.now.vars.now) (context_of context.now) (way_of (option_copied direction.entry)) (cursor_of source.now.nodes.now at) (the_term term.now)) }
+    ensures { Agrees (got_in source.now.nodes.now) result (check_of (map function_of source.now.functions.now) (bounds_of source.now.vars.now) (context_of (bounds_of source.now.vars.now) context.now) (way_of (option_copied direction.entry)) (cursor_of source.now.nodes.now at) (the_term term.now)) }
 {
     let got = check_form(source, context, direction, at, term)?;
     if is_small_enough(got.ty()) {
@@ -68,7 +68,7 @@ fn check_form(
     at: Cursor,
     term: &Term<Place>,
 ) -> Result<Got, CertFault>
-    ensures { Agrees (got_in source.now.nodes.now) result (forms.form_by (map function_of source.now.functions.now) (bounds_of source.now.vars.now) (context_of context.now) (way_of (option_copied direction.entry)) (cursor_of source.now.nodes.now at) (note_of (the_term term.now)) (shape_at (the_term term.now))) }
+    ensures { Agrees (got_in source.now.nodes.now) result (forms.form_by (map function_of source.now.functions.now) (bounds_of source.now.vars.now) (context_of (bounds_of source.now.vars.now) context.now) (way_of (option_copied direction.entry)) (cursor_of source.now.nodes.now at) (note_of (the_term term.now)) (shape_at (the_term term.now))) }
 {
     let place = term.note;
     match &term.form {
@@ -129,9 +129,9 @@ fn check_first(
     at: Cursor,
     term: &Term<Place>,
 ) -> Result<Got, CertFault>
-    ensures { Agrees (got_in source.now.nodes.now) result (check_of (map function_of source.now.functions.now) (bounds_of source.now.vars.now) (first_of marks.now (context_of context.now)) (way_of (option_copied direction.entry)) (cursor_of source.now.nodes.now at) (the_term term.now)) }
+    ensures { Agrees (got_in source.now.nodes.now) result (check_of (map function_of source.now.functions.now) (bounds_of source.now.vars.now) (first_of marks.now (context_of (bounds_of source.now.vars.now) context.now)) (way_of (option_copied direction.entry)) (cursor_of source.now.nodes.now at) (the_term term.now)) }
 {
-    let side = firsts(source.alloc, marks, context)?;
+    let side = firsts(source, marks, context)?;
     check_term(source, side.as_slice(), direction, at, term)
 }
 
@@ -145,9 +145,9 @@ fn check_second(
     at: Cursor,
     term: &Term<Place>,
 ) -> Result<Got, CertFault>
-    ensures { Agrees (got_in source.now.nodes.now) result (check_of (map function_of source.now.functions.now) (bounds_of source.now.vars.now) (second_of marks.now (context_of context.now)) (way_of (option_copied direction.entry)) (cursor_of source.now.nodes.now at) (the_term term.now)) }
+    ensures { Agrees (got_in source.now.nodes.now) result (check_of (map function_of source.now.functions.now) (bounds_of source.now.vars.now) (second_of marks.now (context_of (bounds_of source.now.vars.now) context.now)) (way_of (option_copied direction.entry)) (cursor_of source.now.nodes.now at) (the_term term.now)) }
 {
-    let side = seconds(source.alloc, marks, context)?;
+    let side = seconds(source, marks, context)?;
     check_term(source, side.as_slice(), direction, at, term)
 }
 
@@ -162,9 +162,9 @@ fn check_opened(
     at: Cursor,
     term: &Term<Place>,
 ) -> Result<Got, CertFault>
-    ensures { Agrees (got_in source.now.nodes.now) result (check_of (map function_of source.now.functions.now) (bounds_of source.now.vars.now) (push_of (second_of marks.now (context_of context.now)) (Some (type_of ty.now))) (way_of (option_copied direction.entry)) (cursor_of source.now.nodes.now at) (the_term term.now)) }
+    ensures { Agrees (got_in source.now.nodes.now) result (check_of (map function_of source.now.functions.now) (bounds_of source.now.vars.now) (push_of (second_of marks.now (context_of (bounds_of source.now.vars.now) context.now)) (Some (type_of ty.now))) (way_of (option_copied direction.entry)) (cursor_of source.now.nodes.now at) (the_term term.now)) }
 {
-    let side = opened(source.alloc, marks, &*context, &*ty)?;
+    let side = opened(source, marks, &*context, &*ty)?;
     check_term(source, side.as_slice(), direction, at, term)
 }
 
@@ -180,9 +180,9 @@ fn check_opened_twice(
     at: Cursor,
     term: &Term<Place>,
 ) -> Result<Got, CertFault>
-    ensures { Agrees (got_in source.now.nodes.now) result (check_of (map function_of source.now.functions.now) (bounds_of source.now.vars.now) (push_of (push_of (second_of marks.now (context_of context.now)) (Some (type_of ty.now))) (Some (type_of last.now))) (way_of (option_copied direction.entry)) (cursor_of source.now.nodes.now at) (the_term term.now)) }
+    ensures { Agrees (got_in source.now.nodes.now) result (check_of (map function_of source.now.functions.now) (bounds_of source.now.vars.now) (push_of (push_of (second_of marks.now (context_of (bounds_of source.now.vars.now) context.now)) (Some (type_of ty.now))) (Some (type_of last.now))) (way_of (option_copied direction.entry)) (cursor_of source.now.nodes.now at) (the_term term.now)) }
 {
-    let side = opened_twice(source.alloc, marks, &*context, &*ty, &*last)?;
+    let side = opened_twice(source, marks, &*context, &*ty, &*last)?;
     check_term(source, side.as_slice(), direction, at, term)
 }
 
@@ -197,7 +197,7 @@ fn check_op(
     op: Op,
     operands: &Items<Term<Place>>,
 ) -> Result<Got, CertFault>
-    ensures { Agrees (got_in source.now.nodes.now) result (forms.form_by (map function_of source.now.functions.now) (bounds_of source.now.vars.now) (context_of context.now) (way_of (option_copied direction.entry)) (cursor_of source.now.nodes.now at) place (terms.op op (to_trees (map the_term operands.now)))) }
+    ensures { Agrees (got_in source.now.nodes.now) result (forms.form_by (map function_of source.now.functions.now) (bounds_of source.now.vars.now) (context_of (bounds_of source.now.vars.now) context.now) (way_of (option_copied direction.entry)) (cursor_of source.now.nodes.now at) place (terms.op op (to_trees (map the_term operands.now)))) }
 {
     match operands.as_slice() {
         [part] => check_unary(source, context, direction, at, place, op, part),
@@ -217,7 +217,7 @@ fn check_unary(
     op: Op,
     part: &Term<Place>,
 ) -> Result<Got, CertFault>
-    ensures { Agrees (got_in source.now.nodes.now) result (forms.op_one (map function_of source.now.functions.now) (bounds_of source.now.vars.now) (context_of context.now) (way_of (option_copied direction.entry)) (cursor_of source.now.nodes.now at) place op (the_term part.now)) }
+    ensures { Agrees (got_in source.now.nodes.now) result (forms.op_one (map function_of source.now.functions.now) (bounds_of source.now.vars.now) (context_of (bounds_of source.now.vars.now) context.now) (way_of (option_copied direction.entry)) (cursor_of source.now.nodes.now at) place op (the_term part.now)) }
 {
     let behind = reach_leaf(source, Node::Op, at)?;
     check_operand(source, context, direction, at.next, behind, place, op, part)
@@ -235,7 +235,7 @@ fn check_operand(
     op: Op,
     part: &Term<Place>,
 ) -> Result<Got, CertFault>
-    ensures { Agrees (got_in source.now.nodes.now) result (forms.unary_by (map function_of source.now.functions.now) (bounds_of source.now.vars.now) (sort_by op) (context_of context.now) (way_of (option_copied direction.entry)) number (cursor_of source.now.nodes.now at) place op (the_term part.now)) }
+    ensures { Agrees (got_in source.now.nodes.now) result (forms.unary_by (map function_of source.now.functions.now) (bounds_of source.now.vars.now) (sort_by op) (context_of (bounds_of source.now.vars.now) context.now) (way_of (option_copied direction.entry)) number (cursor_of source.now.nodes.now at) place op (the_term part.now)) }
 {
     let sort = sort_of(op);
     match sort {
@@ -264,7 +264,7 @@ fn check_logic(
     op: Op,
     part: &Term<Place>,
 ) -> Result<Got, CertFault>
-    ensures { Agrees (got_in source.now.nodes.now) result (forms.logic_by (map function_of source.now.functions.now) (bounds_of source.now.vars.now) (context_of context.now) (way_of (option_copied direction.entry)) number (cursor_of source.now.nodes.now at) place op (the_term part.now)) }
+    ensures { Agrees (got_in source.now.nodes.now) result (forms.logic_by (map function_of source.now.functions.now) (bounds_of source.now.vars.now) (context_of (bounds_of source.now.vars.now) context.now) (way_of (option_copied direction.entry)) number (cursor_of source.now.nodes.now at) place op (the_term part.now)) }
 {
     let got = check_term(source, context, Some(&Ty::Bool), at, part)?;
     if !meets(direction, &Ty::Bool) {
@@ -285,7 +285,7 @@ fn check_sum_against(
     op: Op,
     part: &Term<Place>,
 ) -> Result<Got, CertFault>
-    ensures { Agrees (got_in source.now.nodes.now) result (forms.sum_against (map function_of source.now.functions.now) (bounds_of source.now.vars.now) (context_of context.now) (type_of wanted.now) number (cursor_of source.now.nodes.now at) place op (the_term part.now)) }
+    ensures { Agrees (got_in source.now.nodes.now) result (forms.sum_against (map function_of source.now.functions.now) (bounds_of source.now.vars.now) (context_of (bounds_of source.now.vars.now) context.now) (type_of wanted.now) number (cursor_of source.now.nodes.now at) place op (the_term part.now)) }
 {
     if !is_word(wanted) {
         return Err(CertFault::C2(number));
@@ -306,7 +306,7 @@ fn check_sum(
     op: Op,
     part: &Term<Place>,
 ) -> Result<Got, CertFault>
-    ensures { Agrees (got_in source.now.nodes.now) result (forms.sum_by (map function_of source.now.functions.now) (bounds_of source.now.vars.now) (context_of context.now) number (cursor_of source.now.nodes.now at) place op (the_term part.now)) }
+    ensures { Agrees (got_in source.now.nodes.now) result (forms.sum_by (map function_of source.now.functions.now) (bounds_of source.now.vars.now) (context_of (bounds_of source.now.vars.now) context.now) number (cursor_of source.now.nodes.now at) place op (the_term part.now)) }
 {
     let got = check_term(source, context, None, at, part)?;
     if !is_word(got.ty()) {
@@ -329,7 +329,7 @@ fn check_compared(
     sort: Sort,
     part: &Term<Place>,
 ) -> Result<Got, CertFault>
-    ensures { Agrees (got_in source.now.nodes.now) result (forms.compared_by (map function_of source.now.functions.now) (bounds_of source.now.vars.now) (the_sort sort) (context_of context.now) (way_of (option_copied direction.entry)) number (cursor_of source.now.nodes.now at) place op (the_term part.now)) }
+    ensures { Agrees (got_in source.now.nodes.now) result (forms.compared_by (map function_of source.now.functions.now) (bounds_of source.now.vars.now) (the_sort sort) (context_of (bounds_of source.now.vars.now) context.now) (way_of (option_copied direction.entry)) number (cursor_of source.now.nodes.now at) place op (the_term part.now)) }
 {
     let got = check_term(source, context, None, at, part)?;
     if !takes(sort, got.ty()) {
@@ -353,7 +353,7 @@ fn check_binary(
     left: &Term<Place>,
     right: &Term<Place>,
 ) -> Result<Got, CertFault>
-    ensures { Agrees (got_in source.now.nodes.now) result (forms.op_two (map function_of source.now.functions.now) (bounds_of source.now.vars.now) (context_of context.now) (way_of (option_copied direction.entry)) (cursor_of source.now.nodes.now at) place op (the_term left.now) (the_term right.now)) }
+    ensures { Agrees (got_in source.now.nodes.now) result (forms.op_two (map function_of source.now.functions.now) (bounds_of source.now.vars.now) (context_of (bounds_of source.now.vars.now) context.now) (way_of (option_copied direction.entry)) (cursor_of source.now.nodes.now at) place op (the_term left.now) (the_term right.now)) }
 {
     let split = reach_split(source, context, Node::Op, at)?;
     check_operands(
@@ -384,7 +384,7 @@ fn check_operands(
     left: &Term<Place>,
     right: &Term<Place>,
 ) -> Result<Got, CertFault>
-    ensures { Agrees (got_in source.now.nodes.now) result (forms.binary_by (map function_of source.now.functions.now) (bounds_of source.now.vars.now) (sort_by op) marks.now (context_of context.now) (way_of (option_copied direction.entry)) number (cursor_of source.now.nodes.now at) place op (the_term left.now) (the_term right.now)) }
+    ensures { Agrees (got_in source.now.nodes.now) result (forms.binary_by (map function_of source.now.functions.now) (bounds_of source.now.vars.now) (sort_by op) marks.now (context_of (bounds_of source.now.vars.now) context.now) (way_of (option_copied direction.entry)) number (cursor_of source.now.nodes.now at) place op (the_term left.now) (the_term right.now)) }
 {
     let sort = sort_of(op);
     match sort {
@@ -417,7 +417,7 @@ fn check_logic_of_both(
     left: &Term<Place>,
     right: &Term<Place>,
 ) -> Result<Got, CertFault>
-    ensures { Agrees (got_in source.now.nodes.now) result (forms.logic_of_both (map function_of source.now.functions.now) (bounds_of source.now.vars.now) marks.now (context_of context.now) (way_of (option_copied direction.entry)) number (cursor_of source.now.nodes.now at) place op (the_term left.now) (the_term right.now)) }
+    ensures { Agrees (got_in source.now.nodes.now) result (forms.logic_of_both (map function_of source.now.functions.now) (bounds_of source.now.vars.now) marks.now (context_of (bounds_of source.now.vars.now) context.now) (way_of (option_copied direction.entry)) number (cursor_of source.now.nodes.now at) place op (the_term left.now) (the_term right.now)) }
 {
     let first = check_first(source, context, marks, Some(&Ty::Bool), at, left)?;
     let second = check_second(source, context, marks, Some(&Ty::Bool), first.at, right)?;
@@ -441,7 +441,7 @@ fn check_both_against(
     left: &Term<Place>,
     right: &Term<Place>,
 ) -> Result<Got, CertFault>
-    ensures { Agrees (got_in source.now.nodes.now) result (forms.both_against (map function_of source.now.functions.now) (bounds_of source.now.vars.now) marks.now (context_of context.now) (type_of wanted.now) number (cursor_of source.now.nodes.now at) place op (the_term left.now) (the_term right.now)) }
+    ensures { Agrees (got_in source.now.nodes.now) result (forms.both_against (map function_of source.now.functions.now) (bounds_of source.now.vars.now) marks.now (context_of (bounds_of source.now.vars.now) context.now) (type_of wanted.now) number (cursor_of source.now.nodes.now at) place op (the_term left.now) (the_term right.now)) }
 {
     if !is_word(wanted) {
         return Err(CertFault::C2(number));
@@ -465,7 +465,7 @@ fn check_both(
     left: &Term<Place>,
     right: &Term<Place>,
 ) -> Result<Got, CertFault>
-    ensures { Agrees (got_in source.now.nodes.now) result (forms.both_by (map function_of source.now.functions.now) (bounds_of source.now.vars.now) (literal_of (the_term left.now)) marks.now (context_of context.now) number (cursor_of source.now.nodes.now at) place op (the_term left.now) (the_term right.now)) }
+    ensures { Agrees (got_in source.now.nodes.now) result (forms.both_by (map function_of source.now.functions.now) (bounds_of source.now.vars.now) (literal_of (the_term left.now)) marks.now (context_of (bounds_of source.now.vars.now) context.now) number (cursor_of source.now.nodes.now at) place op (the_term left.now) (the_term right.now)) }
 {
     if is_literal(left) {
         check_both_by_right(source, context, marks, number, at, place, op, left, right)
@@ -487,7 +487,7 @@ fn check_both_by_left(
     left: &Term<Place>,
     right: &Term<Place>,
 ) -> Result<Got, CertFault>
-    ensures { Agrees (got_in source.now.nodes.now) result (forms.both_by (map function_of source.now.functions.now) (bounds_of source.now.vars.now) false marks.now (context_of context.now) number (cursor_of source.now.nodes.now at) place op (the_term left.now) (the_term right.now)) }
+    ensures { Agrees (got_in source.now.nodes.now) result (forms.both_by (map function_of source.now.functions.now) (bounds_of source.now.vars.now) false marks.now (context_of (bounds_of source.now.vars.now) context.now) number (cursor_of source.now.nodes.now at) place op (the_term left.now) (the_term right.now)) }
 {
     let first = check_first(source, context, marks, None, at, left)?;
     if !is_word(first.ty()) {
@@ -511,7 +511,7 @@ fn check_both_by_right(
     left: &Term<Place>,
     right: &Term<Place>,
 ) -> Result<Got, CertFault>
-    ensures { Agrees (got_in source.now.nodes.now) result (forms.both_by (map function_of source.now.functions.now) (bounds_of source.now.vars.now) true marks.now (context_of context.now) number (cursor_of source.now.nodes.now at) place op (the_term left.now) (the_term right.now)) }
+    ensures { Agrees (got_in source.now.nodes.now) result (forms.both_by (map function_of source.now.functions.now) (bounds_of source.now.vars.now) true marks.now (context_of (bounds_of source.now.vars.now) context.now) number (cursor_of source.now.nodes.now at) place op (the_term left.now) (the_term right.now)) }
 {
     let behind = reach_left(source, context, marks, at)?;
     let second = check_second(source, context, marks, None, behind, right)?;
@@ -545,7 +545,7 @@ fn check_comparison(
     left: &Term<Place>,
     right: &Term<Place>,
 ) -> Result<Got, CertFault>
-    ensures { Agrees (got_in source.now.nodes.now) result (forms.comparison_by (map function_of source.now.functions.now) (bounds_of source.now.vars.now) (literal_of (the_term left.now)) (the_sort sort) marks.now (context_of context.now) (way_of (option_copied direction.entry)) number (cursor_of source.now.nodes.now at) place op (the_term left.now) (the_term right.now)) }
+    ensures { Agrees (got_in source.now.nodes.now) result (forms.comparison_by (map function_of source.now.functions.now) (bounds_of source.now.vars.now) (literal_of (the_term left.now)) (the_sort sort) marks.now (context_of (bounds_of source.now.vars.now) context.now) (way_of (option_copied direction.entry)) number (cursor_of source.now.nodes.now at) place op (the_term left.now) (the_term right.now)) }
 {
     if is_literal(left) {
         check_comparison_by_right(
@@ -573,7 +573,7 @@ fn check_comparison_by_left(
     left: &Term<Place>,
     right: &Term<Place>,
 ) -> Result<Got, CertFault>
-    ensures { Agrees (got_in source.now.nodes.now) result (forms.comparison_by (map function_of source.now.functions.now) (bounds_of source.now.vars.now) false (the_sort sort) marks.now (context_of context.now) (way_of (option_copied direction.entry)) number (cursor_of source.now.nodes.now at) place op (the_term left.now) (the_term right.now)) }
+    ensures { Agrees (got_in source.now.nodes.now) result (forms.comparison_by (map function_of source.now.functions.now) (bounds_of source.now.vars.now) false (the_sort sort) marks.now (context_of (bounds_of source.now.vars.now) context.now) (way_of (option_copied direction.entry)) number (cursor_of source.now.nodes.now at) place op (the_term left.now) (the_term right.now)) }
 {
     let first = check_first(source, context, marks, None, at, left)?;
     if !takes(sort, first.ty()) {
@@ -601,7 +601,7 @@ fn check_comparison_by_right(
     left: &Term<Place>,
     right: &Term<Place>,
 ) -> Result<Got, CertFault>
-    ensures { Agrees (got_in source.now.nodes.now) result (forms.comparison_by (map function_of source.now.functions.now) (bounds_of source.now.vars.now) true (the_sort sort) marks.now (context_of context.now) (way_of (option_copied direction.entry)) number (cursor_of source.now.nodes.now at) place op (the_term left.now) (the_term right.now)) }
+    ensures { Agrees (got_in source.now.nodes.now) result (forms.comparison_by (map function_of source.now.functions.now) (bounds_of source.now.vars.now) true (the_sort sort) marks.now (context_of (bounds_of source.now.vars.now) context.now) (way_of (option_copied direction.entry)) number (cursor_of source.now.nodes.now at) place op (the_term left.now) (the_term right.now)) }
 {
     let behind = reach_left(source, context, marks, at)?;
     let second = check_second(source, context, marks, None, behind, right)?;
@@ -633,7 +633,7 @@ fn check_app(
     fun: &Term<Place>,
     arg: &Term<Place>,
 ) -> Result<Got, CertFault>
-    ensures { Agrees (got_in source.now.nodes.now) result (forms.app_by (map function_of source.now.functions.now) (bounds_of source.now.vars.now) (context_of context.now) (way_of (option_copied direction.entry)) (cursor_of source.now.nodes.now at) place (the_term fun.now) (the_term arg.now)) }
+    ensures { Agrees (got_in source.now.nodes.now) result (forms.app_by (map function_of source.now.functions.now) (bounds_of source.now.vars.now) (context_of (bounds_of source.now.vars.now) context.now) (way_of (option_copied direction.entry)) (cursor_of source.now.nodes.now at) place (the_term fun.now) (the_term arg.now)) }
 {
     let split = reach_split(source, context, Node::App, at)?;
     let first = check_first(source, context, split.marks, None, split.at, fun)?;
@@ -660,7 +660,7 @@ fn check_let(
     value: &Term<Place>,
     body: &Term<Place>,
 ) -> Result<Got, CertFault>
-    ensures { Agrees (got_in source.now.nodes.now) result (forms.let_by (map function_of source.now.functions.now) (bounds_of source.now.vars.now) (context_of context.now) (way_of (option_copied direction.entry)) (cursor_of source.now.nodes.now at) place binder (the_term value.now) (the_term body.now)) }
+    ensures { Agrees (got_in source.now.nodes.now) result (forms.let_by (map function_of source.now.functions.now) (bounds_of source.now.vars.now) (context_of (bounds_of source.now.vars.now) context.now) (way_of (option_copied direction.entry)) (cursor_of source.now.nodes.now at) place binder (the_term value.now) (the_term body.now)) }
 {
     let split = reach_split(source, context, Node::Let, at)?;
     let first = check_first(source, context, split.marks, None, split.at, value)?;
@@ -689,7 +689,7 @@ fn check_let_bang(
     value: &Term<Place>,
     body: &Term<Place>,
 ) -> Result<Got, CertFault>
-    ensures { Agrees (got_in source.now.nodes.now) result (forms.let_bang_by (map function_of source.now.functions.now) (bounds_of source.now.vars.now) (context_of context.now) (way_of (option_copied direction.entry)) (cursor_of source.now.nodes.now at) place observers.now binder (the_term value.now) (the_term body.now)) }
+    ensures { Agrees (got_in source.now.nodes.now) result (forms.let_bang_by (map function_of source.now.functions.now) (bounds_of source.now.vars.now) (context_of (bounds_of source.now.vars.now) context.now) (way_of (option_copied direction.entry)) (cursor_of source.now.nodes.now at) place observers.now binder (the_term value.now) (the_term body.now)) }
 {
     let split = reach_observed(source, context, observers, at)?;
     let first = check_first(source, context, split.marks, None, split.at, value)?;
@@ -720,7 +720,7 @@ fn check_if(
     first: &Term<Place>,
     second: &Term<Place>,
 ) -> Result<Got, CertFault>
-    ensures { Agrees (got_in source.now.nodes.now) result (forms.if_by (map function_of source.now.functions.now) (bounds_of source.now.vars.now) (context_of context.now) (way_of (option_copied direction.entry)) (cursor_of source.now.nodes.now at) place (the_term test.now) (the_term first.now) (the_term second.now)) }
+    ensures { Agrees (got_in source.now.nodes.now) result (forms.if_by (map function_of source.now.functions.now) (bounds_of source.now.vars.now) (context_of (bounds_of source.now.vars.now) context.now) (way_of (option_copied direction.entry)) (cursor_of source.now.nodes.now at) place (the_term test.now) (the_term first.now) (the_term second.now)) }
 {
     let split = reach_split(source, context, Node::If, at)?;
     let part = check_first(
@@ -748,7 +748,7 @@ fn check_con(
     name: &Name,
     part: &Term<Place>,
 ) -> Result<Got, CertFault>
-    ensures { Agrees (got_in source.now.nodes.now) result (forms.con_by (map function_of source.now.functions.now) (bounds_of source.now.vars.now) (context_of context.now) (way_of (option_copied direction.entry)) (cursor_of source.now.nodes.now at) place name.now (the_term part.now)) }
+    ensures { Agrees (got_in source.now.nodes.now) result (forms.con_by (map function_of source.now.functions.now) (bounds_of source.now.vars.now) (context_of (bounds_of source.now.vars.now) context.now) (way_of (option_copied direction.entry)) (cursor_of source.now.nodes.now at) place name.now (the_term part.now)) }
 {
     let behind = reach_leaf(source, Node::Con, at)?;
     let Some(ty) = direction else {
@@ -774,7 +774,7 @@ fn check_case(
     first: &Term<Place>,
     second: &Term<Place>,
 ) -> Result<Got, CertFault>
-    ensures { Agrees (got_in source.now.nodes.now) result (forms.case_by (map function_of source.now.functions.now) (bounds_of source.now.vars.now) (context_of context.now) (way_of (option_copied direction.entry)) (cursor_of source.now.nodes.now at) place (the_term value.now) alternative.now binder (the_term first.now) (the_term second.now)) }
+    ensures { Agrees (got_in source.now.nodes.now) result (forms.case_by (map function_of source.now.functions.now) (bounds_of source.now.vars.now) (context_of (bounds_of source.now.vars.now) context.now) (way_of (option_copied direction.entry)) (cursor_of source.now.nodes.now at) place (the_term value.now) alternative.now binder (the_term first.now) (the_term second.now)) }
 {
     let split = reach_split(source, context, Node::Case, at)?;
     let part = check_first(source, context, split.marks, None, split.at, value)?;
@@ -809,7 +809,7 @@ fn check_matched(
     first: &Term<Place>,
     second: &Term<Place>,
 ) -> Result<Got, CertFault>
-    ensures { Agrees (got_in source.now.nodes.now) result (forms.matched_by (map function_of source.now.functions.now) (bounds_of source.now.vars.now) marks.now (context_of context.now) (way_of (option_copied direction.entry)) place alternative.now binder (the_term first.now) (the_term second.now) (got_in source.now.nodes.now part) (type_of held.now)) }
+    ensures { Agrees (got_in source.now.nodes.now) result (forms.matched_by (map function_of source.now.functions.now) (bounds_of source.now.vars.now) marks.now (context_of (bounds_of source.now.vars.now) context.now) (way_of (option_copied direction.entry)) place alternative.now binder (the_term first.now) (the_term second.now) (got_in source.now.nodes.now part) (type_of held.now)) }
 {
     let one = check_opened(source, context, marks, held, direction, part.at, first)?;
     check_other(
@@ -840,7 +840,7 @@ fn check_other(
     one: Got,
     second: &Term<Place>,
 ) -> Result<Got, CertFault>
-    ensures { Agrees (got_in source.now.nodes.now) result (forms.other_by (map function_of source.now.functions.now) (bounds_of source.now.vars.now) marks.now (context_of context.now) (way_of (option_copied direction.entry)) place alternative.now binder (the_term second.now) (got_in source.now.nodes.now part) (got_in source.now.nodes.now one)) }
+    ensures { Agrees (got_in source.now.nodes.now) result (forms.other_by (map function_of source.now.functions.now) (bounds_of source.now.vars.now) marks.now (context_of (bounds_of source.now.vars.now) context.now) (way_of (option_copied direction.entry)) place alternative.now binder (the_term second.now) (got_in source.now.nodes.now part) (got_in source.now.nodes.now one)) }
 {
     let left = with_part(source.alloc, &alternative.name, true, part.ty())?;
     let way = other_way(direction, one.ty());
@@ -859,7 +859,7 @@ fn check_esac(
     alternative: &At,
     part: &Term<Place>,
 ) -> Result<Got, CertFault>
-    ensures { Agrees (got_in source.now.nodes.now) result (forms.esac_by (map function_of source.now.functions.now) (bounds_of source.now.vars.now) (context_of context.now) (way_of (option_copied direction.entry)) (cursor_of source.now.nodes.now at) place alternative.now (the_term part.now)) }
+    ensures { Agrees (got_in source.now.nodes.now) result (forms.esac_by (map function_of source.now.functions.now) (bounds_of source.now.vars.now) (context_of (bounds_of source.now.vars.now) context.now) (way_of (option_copied direction.entry)) (cursor_of source.now.nodes.now at) place alternative.now (the_term part.now)) }
 {
     let behind = reach_leaf(source, Node::Esac, at)?;
     let got = check_term(source, context, None, behind, part)?;
@@ -877,7 +877,7 @@ fn check_struct(
     place: Place,
     fields: &Items<FieldTerm<Place>>,
 ) -> Result<Got, CertFault>
-    ensures { Agrees (got_in source.now.nodes.now) result (forms.struct_by (map function_of source.now.functions.now) (bounds_of source.now.vars.now) (context_of context.now) (way_of (option_copied direction.entry)) (cursor_of source.now.nodes.now at) place (to_named (map the_field fields.now))) }
+    ensures { Agrees (got_in source.now.nodes.now) result (forms.struct_by (map function_of source.now.functions.now) (bounds_of source.now.vars.now) (context_of (bounds_of source.now.vars.now) context.now) (way_of (option_copied direction.entry)) (cursor_of source.now.nodes.now at) place (to_named (map the_field fields.now))) }
 {
     let strings = reach_record(source, context, fields, at)?;
     match direction {
@@ -897,7 +897,7 @@ fn check_record(
     place: Place,
     fields: &Items<FieldTerm<Place>>,
 ) -> Result<Got, CertFault>
-    ensures { Agrees (got_in source.now.nodes.now) result (forms.record_from (map function_of source.now.functions.now) (bounds_of source.now.vars.now) (context_of context.now) (Some (type_of wanted.now)) number (strings_in source.now.nodes.now strings.entry) place (to_named (map the_field fields.now))) }
+    ensures { Agrees (got_in source.now.nodes.now) result (forms.record_from (map function_of source.now.functions.now) (bounds_of source.now.vars.now) (context_of (bounds_of source.now.vars.now) context.now) (Some (type_of wanted.now)) number (strings_in source.now.nodes.now strings.entry) place (to_named (map the_field fields.now))) }
 {
     if !is_made_of(wanted, fields) {
         return Err(CertFault::C2(number));
@@ -923,7 +923,7 @@ fn check_own_record(
     place: Place,
     fields: &Items<FieldTerm<Place>>,
 ) -> Result<Got, CertFault>
-    ensures { Agrees (got_in source.now.nodes.now) result (forms.record_from (map function_of source.now.functions.now) (bounds_of source.now.vars.now) (context_of context.now) None 0 (strings_in source.now.nodes.now strings.entry) place (to_named (map the_field fields.now))) }
+    ensures { Agrees (got_in source.now.nodes.now) result (forms.record_from (map function_of source.now.functions.now) (bounds_of source.now.vars.now) (context_of (bounds_of source.now.vars.now) context.now) None 0 (strings_in source.now.nodes.now strings.entry) place (to_named (map the_field fields.now))) }
 {
     let made = check_fields(
         source,
@@ -946,7 +946,7 @@ fn check_fields(
     at: Cursor,
     fields: &[FieldTerm<Place>],
 ) -> Result<Fields, CertFault>
-    ensures { Agrees (fields_in source.now.nodes.now) result (fields_by (map function_of source.now.functions.now) (bounds_of source.now.vars.now) (context_of context.now) (part_directions (to_parts (map part_of wanted.now))) strings.now (cursor_of source.now.nodes.now at) (to_named (map the_field fields.now))) }
+    ensures { Agrees (fields_in source.now.nodes.now) result (fields_by (map function_of source.now.functions.now) (bounds_of source.now.vars.now) (context_of (bounds_of source.now.vars.now) context.now) (part_directions (to_parts (map part_of wanted.now))) strings.now (cursor_of source.now.nodes.now at) (to_named (map the_field fields.now))) }
 {
     match fields {
         [] => Ok(no_fields(source, at)),
@@ -966,7 +966,7 @@ fn check_last_field(
     at: Cursor,
     field: &FieldTerm<Place>,
 ) -> Result<Fields, CertFault>
-    ensures { Agrees (fields_in source.now.nodes.now) result (forms.last_field (map function_of source.now.functions.now) (bounds_of source.now.vars.now) (context_of context.now) (part_directions (to_parts (map part_of wanted.now))) (cursor_of source.now.nodes.now at) field.now.name (the_term field.now.term)) }
+    ensures { Agrees (fields_in source.now.nodes.now) result (forms.last_field (map function_of source.now.functions.now) (bounds_of source.now.vars.now) (context_of (bounds_of source.now.vars.now) context.now) (part_directions (to_parts (map part_of wanted.now))) (cursor_of source.now.nodes.now at) field.now.name (the_term field.now.term)) }
 {
     let got = check_term(source, context, next_wanted(wanted), at, &field.term)?;
     let mut made = no_fields(source, got.at);
@@ -985,7 +985,7 @@ fn check_more_fields(
     field: &FieldTerm<Place>,
     rest: &[FieldTerm<Place>],
 ) -> Result<Fields, CertFault>
-    ensures { Agrees (fields_in source.now.nodes.now) result (forms.more_fields (map function_of source.now.functions.now) (bounds_of source.now.vars.now) (context_of context.now) (part_directions (to_parts (map part_of wanted.now))) strings.now (cursor_of source.now.nodes.now at) field.now.name (the_term field.now.term) (to_named (map the_field rest.now))) }
+    ensures { Agrees (fields_in source.now.nodes.now) result (forms.more_fields (map function_of source.now.functions.now) (bounds_of source.now.vars.now) (context_of (bounds_of source.now.vars.now) context.now) (part_directions (to_parts (map part_of wanted.now))) strings.now (cursor_of source.now.nodes.now at) field.now.name (the_term field.now.term) (to_named (map the_field rest.now))) }
 {
     let marks = next_marks(strings);
     let got = check_first(source, context, marks, next_wanted(wanted), at, &field.term)?;
@@ -1005,9 +1005,9 @@ fn check_later_fields(
     at: Cursor,
     rest: &[FieldTerm<Place>],
 ) -> Result<Fields, CertFault>
-    ensures { Agrees (fields_in source.now.nodes.now) result (fields_by (map function_of source.now.functions.now) (bounds_of source.now.vars.now) (second_of marks.now (context_of context.now)) (later_directions (part_directions (to_parts (map part_of wanted.now)))) (later_marks strings.now) (cursor_of source.now.nodes.now at) (to_named (map the_field rest.now))) }
+    ensures { Agrees (fields_in source.now.nodes.now) result (fields_by (map function_of source.now.functions.now) (bounds_of source.now.vars.now) (second_of marks.now (context_of (bounds_of source.now.vars.now) context.now)) (later_directions (part_directions (to_parts (map part_of wanted.now)))) (later_marks strings.now) (cursor_of source.now.nodes.now at) (to_named (map the_field rest.now))) }
 {
-    let side = seconds(source.alloc, marks, context)?;
+    let side = seconds(source, marks, context)?;
     check_fields(
         source,
         side.as_slice(),
@@ -1029,7 +1029,7 @@ fn check_member(
     part: &Term<Place>,
     field: &At,
 ) -> Result<Got, CertFault>
-    ensures { Agrees (got_in source.now.nodes.now) result (forms.member_by (map function_of source.now.functions.now) (bounds_of source.now.vars.now) (context_of context.now) (way_of (option_copied direction.entry)) (cursor_of source.now.nodes.now at) place (the_term part.now) field.now) }
+    ensures { Agrees (got_in source.now.nodes.now) result (forms.member_by (map function_of source.now.functions.now) (bounds_of source.now.vars.now) (context_of (bounds_of source.now.vars.now) context.now) (way_of (option_copied direction.entry)) (cursor_of source.now.nodes.now at) place (the_term part.now) field.now) }
 {
     let behind = reach_leaf(source, Node::Member, at)?;
     let got = check_term(source, context, None, behind, part)?;
@@ -1051,7 +1051,7 @@ fn check_take(
     binder: Place,
     body: &Term<Place>,
 ) -> Result<Got, CertFault>
-    ensures { Agrees (got_in source.now.nodes.now) result (forms.take_by (map function_of source.now.functions.now) (bounds_of source.now.vars.now) (context_of context.now) (way_of (option_copied direction.entry)) (cursor_of source.now.nodes.now at) place (the_term value.now) field.now rest binder (the_term body.now)) }
+    ensures { Agrees (got_in source.now.nodes.now) result (forms.take_by (map function_of source.now.functions.now) (bounds_of source.now.vars.now) (context_of (bounds_of source.now.vars.now) context.now) (way_of (option_copied direction.entry)) (cursor_of source.now.nodes.now at) place (the_term value.now) field.now rest binder (the_term body.now)) }
 {
     let split = reach_split(source, context, Node::Take, at)?;
     let first = check_first(source, context, split.marks, None, split.at, value)?;
@@ -1091,7 +1091,7 @@ fn check_put(
     field: &At,
     part: &Term<Place>,
 ) -> Result<Got, CertFault>
-    ensures { Agrees (got_in source.now.nodes.now) result (forms.put_by (map function_of source.now.functions.now) (bounds_of source.now.vars.now) (context_of context.now) (way_of (option_copied direction.entry)) (cursor_of source.now.nodes.now at) place (the_term value.now) field.now (the_term part.now)) }
+    ensures { Agrees (got_in source.now.nodes.now) result (forms.put_by (map function_of source.now.functions.now) (bounds_of source.now.vars.now) (context_of (bounds_of source.now.vars.now) context.now) (way_of (option_copied direction.entry)) (cursor_of source.now.nodes.now at) place (the_term value.now) field.now (the_term part.now)) }
 {
     let split = reach_split(source, context, Node::Put, at)?;
     let first = check_first(source, context, split.marks, None, split.at, value)?;
@@ -1119,7 +1119,7 @@ fn check_cast(
     place: Place,
     part: &Term<Place>,
 ) -> Result<Got, CertFault>
-    ensures { Agrees (got_in source.now.nodes.now) result (forms.cast_by (map function_of source.now.functions.now) (bounds_of source.now.vars.now) (context_of context.now) (way_of (option_copied direction.entry)) (cursor_of source.now.nodes.now at) place (the_term part.now)) }
+    ensures { Agrees (got_in source.now.nodes.now) result (forms.cast_by (map function_of source.now.functions.now) (bounds_of source.now.vars.now) (context_of (bounds_of source.now.vars.now) context.now) (way_of (option_copied direction.entry)) (cursor_of source.now.nodes.now at) place (the_term part.now)) }
 {
     let behind = reach_leaf(source, Node::Cast, at)?;
     let Some(ty) = direction else {
@@ -1144,7 +1144,7 @@ fn check_annot(
     part: &Term<Place>,
     arg: &TyArg,
 ) -> Result<Got, CertFault>
-    ensures { Agrees (got_in source.now.nodes.now) result (forms.annot_by (map function_of source.now.functions.now) (bounds_of source.now.vars.now) (context_of context.now) (way_of (option_copied direction.entry)) (cursor_of source.now.nodes.now at) place (the_term part.now) (arg_of arg.now)) }
+    ensures { Agrees (got_in source.now.nodes.now) result (forms.annot_by (map function_of source.now.functions.now) (bounds_of source.now.vars.now) (context_of (bounds_of source.now.vars.now) context.now) (way_of (option_copied direction.entry)) (cursor_of source.now.nodes.now at) place (the_term part.now) (arg_of arg.now)) }
 {
     let behind = reach_leaf(source, Node::Annot, at)?;
     if !has_word_arrays(&arg.ty) {

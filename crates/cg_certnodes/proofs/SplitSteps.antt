@@ -4,6 +4,7 @@ use Rattle.std.proofs.lemmas.List.{at_drop_more, at_drop_all}
 use Rattle.cg_base.specs.declared.kind.Kinds.{Kinds}
 use Rattle.cg_base.specs.declared.place.Place.{Place}
 use Rattle.cg_base.specs.Types.{Tau}
+use Rattle.cg_certnodes.proofs.ContextSteps.{free_shares}
 use Rattle.cg_certnodes.specs.Contexts.{context_of, entry_of, fits_present, split_in_turn}
 use Rattle.cg_pieces.specs.View.{is_seen_at}
 use Rattle.cg_certnodes.specs.declared.context.Entry.{Entry}
@@ -42,16 +43,16 @@ bang_shares vs t = (bang_free vs t).1
 -- variables, one after another
 module _ (vars : List Kinds) where
   abbrev pub Rest : List (Option Place) → List Mark → List Entry → ℕ → Bool
-  Rest ss ms es i = splits_where vars (λ k. is_seen_at (drop i ss) k) (drop i ms) (context_of (drop i es))
+  Rest ss ms es i = splits_where vars (λ k. is_seen_at (drop i ss) k) (drop i ms) (context_of vars (drop i es))
 
   rest_suc : (ss : List (Option Place)) (ms : List Mark) (es : List Entry) (i : ℕ) (m : Mark) (e : Entry) → i < length ms → i < length es
-      → m ≡ get_or ms i Gone → e ≡ get_or es i e → Rest ss ms es i ≡ fits vars (is_seen_at ss i) m (entry_of e) && Rest ss ms es (suc i)
+      → m ≡ get_or ms i Gone → e ≡ get_or es i e → Rest ss ms es i ≡ fits vars (is_seen_at ss i) m (entry_of vars e) && Rest ss ms es (suc i)
   rest_suc ss [] es i m e h k p q = absurd (omega (arith, h))
   rest_suc ss (n ∷ ms) [] i m e h k p q = absurd (omega (arith, k))
-  rest_suc [] (n ∷ ms) (d ∷ es) zero m e h k p q = ap (λ x. fits vars false x (entry_of d) && Rest [] ms es zero) (sym p) ∙ ap (λ x. fits vars false m (entry_of x) && Rest [] ms es zero) (sym q)
+  rest_suc [] (n ∷ ms) (d ∷ es) zero m e h k p q = ap (λ x. fits vars false x (entry_of vars d) && Rest [] ms es zero) (sym p) ∙ ap (λ x. fits vars false m (entry_of vars x) && Rest [] ms es zero) (sym q)
   rest_suc (s ∷ ss) (n ∷ ms) (d ∷ es) zero m e h k p q =
-      ap (λ x. fits vars (is_seen s) x (entry_of d) && Rest ss ms es zero) (sym p) ∙ ap (λ x. fits vars (is_seen s) m (entry_of x) && Rest ss ms es zero) (sym q)
-  rest_suc [] (n ∷ ms) (d ∷ es) (suc i) m e h k p q = none_left i ∙ rest_suc [] ms es i m e (omega (arith, h)) (omega (arith, k)) p q ∙ ap (λ b. fits vars false m (entry_of e) && b) (sym (none_left (suc i)))
+      ap (λ x. fits vars (is_seen s) x (entry_of vars d) && Rest ss ms es zero) (sym p) ∙ ap (λ x. fits vars (is_seen s) m (entry_of vars x) && Rest ss ms es zero) (sym q)
+  rest_suc [] (n ∷ ms) (d ∷ es) (suc i) m e h k p q = none_left i ∙ rest_suc [] ms es i m e (omega (arith, h)) (omega (arith, k)) p q ∙ ap (λ b. fits vars false m (entry_of vars e) && b) (sym (none_left (suc i)))
     where
       none_left : (i : ℕ) → Rest [] (n ∷ ms) (d ∷ es) (suc i) ≡ Rest [] ms es i
       none_left zero = refl
@@ -62,25 +63,25 @@ module _ (vars : List Kinds) where
   next_rest ss ms es i = let e : i + 1 ≡ suc i = omega arith in ap (Rest ss ms es) e
 
   pub fits_more : (ss : List (Option Place)) (ms : List Mark) (es : List Entry) (i : ℕ) (m : Mark) (e : Entry) → i < length ms → i < length es
-      → m ≡ get_or ms i Gone → e ≡ get_or es i e → fits vars (is_seen_at ss i) m (entry_of e) ≡ true
-      → splits_where vars (λ k. is_seen_at (drop (i + 1) ss) k) (drop (i + 1) ms) (context_of (drop (i + 1) es))
-      ≡ splits_where vars (λ k. is_seen_at (drop i ss) k) (drop i ms) (context_of (drop i es))
+      → m ≡ get_or ms i Gone → e ≡ get_or es i e → fits vars (is_seen_at ss i) m (entry_of vars e) ≡ true
+      → splits_where vars (λ k. is_seen_at (drop (i + 1) ss) k) (drop (i + 1) ms) (context_of vars (drop (i + 1) es))
+      ≡ splits_where vars (λ k. is_seen_at (drop i ss) k) (drop i ms) (context_of vars (drop i es))
   fits_more ss ms es i m e h k p q f = next_rest ss ms es i ∙ sym (rest_suc ss ms es i m e h k p q ∙ ap (λ b. b && Rest ss ms es (suc i)) f)
 
   pub fits_stop : (ss : List (Option Place)) (ms : List Mark) (es : List Entry) (i : ℕ) (m : Mark) (e : Entry) → i < length ms → i < length es
-      → m ≡ get_or ms i Gone → e ≡ get_or es i e → fits vars (is_seen_at ss i) m (entry_of e) ≡ false
-      → splits_where vars (λ k. is_seen_at (drop i ss) k) (drop i ms) (context_of (drop i es)) ≡ false
+      → m ≡ get_or ms i Gone → e ≡ get_or es i e → fits vars (is_seen_at ss i) m (entry_of vars e) ≡ false
+      → splits_where vars (λ k. is_seen_at (drop i ss) k) (drop i ms) (context_of vars (drop i es)) ≡ false
   fits_stop ss ms es i m e h k p q f = rest_suc ss ms es i m e h k p q ∙ ap (λ b. b && Rest ss ms es (suc i)) f
 
-  pub fits_past : (f : ℕ → Bool) (ms : List Mark) (es : List Entry) (i : ℕ) → length ms ≤ i → length ms ≡ length es → splits_where vars f (drop i ms) (context_of (drop i es)) ≡ true
-  fits_past f ms es i h e = at_drop_all (λ l. splits_where vars f l (context_of (drop i es))) ms i h ∙ at_drop_all (λ l. splits_where vars f [] (context_of l)) es i (omega arith)
+  pub fits_past : (f : ℕ → Bool) (ms : List Mark) (es : List Entry) (i : ℕ) → length ms ≤ i → length ms ≡ length es → splits_where vars f (drop i ms) (context_of vars (drop i es)) ≡ true
+  fits_past f ms es i h e = at_drop_all (λ l. splits_where vars f l (context_of vars (drop i es))) ms i h ∙ at_drop_all (λ l. splits_where vars f [] (context_of vars l)) es i (omega arith)
 
-  pub not_as_long : (f : ℕ → Bool) (ms : List Mark) (es : List Entry) → (length ms ≡ length es → ⊥) → splits_where vars f ms (context_of es) ≡ false
+  pub not_as_long : (f : ℕ → Bool) (ms : List Mark) (es : List Entry) → (length ms ≡ length es → ⊥) → splits_where vars f ms (context_of vars es) ≡ false
   not_as_long f [] [] h = absurd (h refl)
   not_as_long f [] (e ∷ es) h = refl
   not_as_long f (m ∷ ms) [] h = refl
   not_as_long f (m ∷ ms) (e ∷ es) h =
-      ap (λ b. fits vars (f zero) m (entry_of e) && b) (not_as_long (λ i. f (suc i)) ms es (λ k. h (ap suc k))) ∙ nothing (fits vars (f zero) m (entry_of e))
+      ap (λ b. fits vars (f zero) m (entry_of vars e) && b) (not_as_long (λ i. f (suc i)) ms es (λ k. h (ap suc k))) ∙ nothing (fits vars (f zero) m (entry_of vars e))
     where
       nothing : (b : Bool) → b && false ≡ false
       nothing true = refl
@@ -88,17 +89,17 @@ module _ (vars : List Kinds) where
 
   -- by the observers' places
   by_table : (f : ℕ → Option Place) (h : ℕ → Bool) (ms : List Mark) (es : List Entry) → ((i : ℕ) → is_seen (f i) ≡ h i)
-      → splits_where vars (λ i. is_seen_at (table (length es) f) i) ms (context_of es) ≡ splits_where vars h ms (context_of es)
+      → splits_where vars (λ i. is_seen_at (table (length es) f) i) ms (context_of vars es) ≡ splits_where vars h ms (context_of vars es)
   by_table f h [] [] e = refl
   by_table f h [] (d ∷ es) e = refl
   by_table f h (m ∷ ms) [] e = refl
   by_table f h (m ∷ ms) (d ∷ es) e =
-      ap (λ b. fits vars b m (entry_of d) && splits_where vars (λ i. is_seen_at (table (length es) (λ i. f (suc i))) i) ms (context_of es)) (e zero)
-      ∙ ap (λ b. fits vars (h zero) m (entry_of d) && b) (by_table (λ i. f (suc i)) (λ i. h (suc i)) ms es (λ i. e (suc i)))
+      ap (λ b. fits vars b m (entry_of vars d) && splits_where vars (λ i. is_seen_at (table (length es) (λ i. f (suc i))) i) ms (context_of vars es)) (e zero)
+      ∙ ap (λ b. fits vars (h zero) m (entry_of vars d) && b) (by_table (λ i. f (suc i)) (λ i. h (suc i)) ms es (λ i. e (suc i)))
 
   pub splits_seen : (os : List Observer) (ms : List Mark) (es : List Entry) (ss : List (Option Place)) → ss ≡ seen_places (length es) os
-      → splits_where vars (λ i. is_seen_at ss i) ms (context_of es) ≡ splits vars os ms (context_of es)
-  splits_seen os ms es ss e = ap (λ l. splits_where vars (λ i. is_seen_at l i) ms (context_of es)) e ∙ by_table (λ i. seen_at i os) (λ i. among i os) ms es (λ i. is_among i os)
+      → splits_where vars (λ i. is_seen_at ss i) ms (context_of vars es) ≡ splits vars os ms (context_of vars es)
+  splits_seen os ms es ss e = ap (λ l. splits_where vars (λ i. is_seen_at l i) ms (context_of vars es)) e ∙ by_table (λ i. seen_at i os) (λ i. among i os) ms es (λ i. is_among i os)
     where
       either : (b c : Bool) (p : Place) (o : Option Place) → is_seen o ≡ c → is_seen (cond b (Some p) o) ≡ b || c
       either true c p o e = refl
@@ -152,7 +153,7 @@ fields_unless vars (f ∷ e ∷ fs) (s ∷ ss) g h =
     nothing true = refl
     nothing false = refl
 
-pub ruleset split_steps = (present_fits, gone_fits, bang_shares, splits_seen)
+pub ruleset split_steps = (present_fits, gone_fits, bang_shares, free_shares, splits_seen)
 
 pub ruleset where_steps = (fits_more, fits_stop, fits_past, not_as_long)
 

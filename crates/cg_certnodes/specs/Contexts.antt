@@ -1,23 +1,32 @@
 -- Contexts of the second checker, and what is asked of them.
-use Rattle.std.specs.Prelude.{Bool, true, false, ◌&&◌, not, Option, Some, None, List, [], ◌∷◌, map}
+use Rattle.std.specs.Prelude.{Bool, true, false, ◌&&◌, not, cond, Option, Some, None, List, [], ◌∷◌, map}
 use Rattle.cg_base.specs.declared.kind.Kinds.{Kinds}
 use Rattle.cg_base.specs.Types.{Tau, type_of}
 use Rattle.cg_certnodes.specs.declared.context.Entry.{Entry}
-use Rattle.cg_certnodes.specs.declared.context.Entry.TheVariants.{Gone as Absent, Present, Observed}
+use Rattle.cg_certnodes.specs.declared.context.Entry.TheVariants.{Gone as Absent, Present, Free, Observed}
 use Rattle.cg_core.specs.declared.derivation.Mark.{Mark}
 use Rattle.cg_core.specs.declared.derivation.Mark.TheVariants.{Gone, Left, Right, Both, Seen}
-use Rattle.cg_kinds.specs.Kinds.{bang}
+use Rattle.cg_kinds.specs.Kinds.{bang, kinds}
 use Rattle.cg_certcheck_laws.specs.Tests.{splits}
 use Rattle.cg_typing.specs.Contexts.{Context, second}
 
--- a variable of a context: gone, or present with its own type or as observed
-abbrev pub entry_of : Entry → Option Tau
-entry_of Absent = None
-entry_of (Present t) = Some (type_of t.now)
-entry_of (Observed t) = Some (bang (type_of t.now))
+-- whether a type may be shared and dropped
+abbrev pub is_free : List Kinds → Tau → Bool
+is_free vars t = (kinds vars t).share && (kinds vars t).drop
 
-abbrev pub context_of : List Entry → Context
-context_of = map entry_of
+-- a type that may be shared and dropped: this one if it may, else this one as observed
+abbrev pub free_type : List Kinds → Tau → Tau
+free_type vars t = cond (is_free vars t) t (bang t)
+
+-- a variable of a context: gone, or present with its own type, with one that may be shared and dropped, or as observed
+abbrev pub entry_of : List Kinds → Entry → Option Tau
+entry_of vars Absent = None
+entry_of vars (Present t) = Some (type_of t.now)
+entry_of vars (Free t) = Some (free_type vars (type_of t.now))
+entry_of vars (Observed t) = Some (bang (type_of t.now))
+
+abbrev pub context_of : List Kinds → List Entry → Context
+context_of vars = map (entry_of vars)
 
 -- a mark fits a present entry that may be shared or not, and is among the observers or not
 abbrev pub fits_present : Bool → Bool → Mark → Bool

@@ -1,30 +1,53 @@
 // Contexts: which variables are present, and with which types.
 #![tactic(auto, using(crate::proofs::ContextSteps::context_steps))]
 
-ghost use Rattle.std.specs.Prelude.{◌≡◌, IfOk, Some};
+ghost use Rattle.std.specs.Prelude.{◌≡◌, IfOk, List, Some};
+ghost use Rattle.cg_base.specs.declared.kind.Kinds.{Kinds};
 ghost use Rattle.cg_base.specs.Types.{type_of};
-ghost use Rattle.cg_certnodes.specs.Contexts.{context_of, entry_of};
+ghost use Rattle.cg_certnodes.specs.Contexts.{context_of, entry_of, free_type, is_free as is_free_of};
 ghost use Rattle.cg_core.specs.declared.derivation.Mark.TheVariants.{Seen};
 ghost use Rattle.cg_kinds.specs.Kinds.{or_unit};
+ghost use Rattle.cg_pieces.specs.View.{bounds_of};
 ghost use Rattle.cg_certcheck_laws.specs.Tests.{is_present as is_present_of};
 ghost use Rattle.cg_typing.specs.Contexts.{first, first_side, look, push, second, second_side};
 
+use crate::source::Source;
 use cg_base::{Memory, Ty};
 use cg_core::Mark;
-use cg_kinds::bang;
-use std::alloc::Global;
+use cg_kinds::{bang, kinds_of};
 
-/// A variable of a context: gone, or present with its type, which a `let!` observes or not.
+/// A variable of a context: gone, or present with its type; free, where it was found when it was bound that its type may be shared and
+/// dropped; or observed by a `let!`. Only of `Present` ones a node asks for the kinds, which cost the size of the type.
 #[derive(Clone, Copy)]
 pub enum Entry<'a> {
     Gone,
     Present(&'a Ty),
+    Free(&'a Ty),
     Observed(&'a Ty),
+}
+
+// Whether a type may be shared and dropped.
+fn is_free(source: &Source, ty: &Ty) -> bool
+    ensures { result ≡ is_free_of (bounds_of source.now.vars.now) (type_of ty.now) }
+{
+    let kinds = kinds_of(ty, source.vars);
+    kinds.share && kinds.drop
+}
+
+/// A variable that is present with this type.
+pub fn present<'a>(source: &Source, ty: &'a Ty) -> Entry<'a>
+    ensures { entry_of (bounds_of source.now.vars.now) result ≡ Some (type_of ty.now) }
+{
+    if is_free(source, ty) {
+        Entry::Free(ty)
+    } else {
+        Entry::Present(ty)
+    }
 }
 
 // What a mark leaves of a variable on the first side, and on the second.
 fn on_first(mark: Mark, entry: Entry) -> Entry
-    ensures { entry_of result ≡ first_side mark (entry_of entry.entry) }
+    ensures { (vars : List Kinds) → entry_of vars result ≡ first_side mark (entry_of vars entry.entry) }
 {
     match mark {
         Mark::Left | Mark::Both => entry,
@@ -34,17 +57,18 @@ fn on_first(mark: Mark, entry: Entry) -> Entry
 }
 
 fn observed(entry: Entry) -> Entry
-    ensures { entry_of result ≡ first_side Seen (entry_of entry.entry) }
+    ensures { (vars : List Kinds) → entry_of vars result ≡ first_side Seen (entry_of vars entry.entry) }
 {
     match entry {
         Entry::Gone => Entry::Gone,
         Entry::Present(ty) => Entry::Observed(ty),
+        Entry::Free(ty) => Entry::Observed(ty),
         Entry::Observed(ty) => Entry::Observed(ty),
     }
 }
 
 fn on_second(mark: Mark, entry: Entry) -> Entry
-    ensures { entry_of result ≡ second_side mark (entry_of entry.entry) }
+    ensures { (vars : List Kinds) → entry_of vars result ≡ second_side mark (entry_of vars entry.entry) }
 {
     match mark {
         Mark::Right | Mark::Both | Mark::Seen => entry,
@@ -54,14 +78,14 @@ fn on_second(mark: Mark, entry: Entry) -> Entry
 
 /// What the marks of a split leave of a context on its first side. Want of memory is its one refusal.
 pub fn firsts<'a>(
-    alloc: Global,
+    source: &Source,
     marks: &[Mark],
     context: &[Entry<'a>],
 ) -> Result<Vec<Entry<'a>>, Memory>
-    ensures { IfOk result (λ side. context_of side.items ≡ first marks.now (context_of context.now)) }
+    ensures { IfOk result (λ side. context_of (bounds_of source.now.vars.now) side.items ≡ first marks.now (context_of (bounds_of source.now.vars.now) context.now)) }
 {
     let count = marks.len().min(context.len());
-    let mut side = Vec::new(alloc);
+    let mut side = Vec::new(source.alloc);
     for i in 0..count {
         side.push(on_first(marks[i], context[i]))?;
     }
@@ -70,14 +94,14 @@ pub fn firsts<'a>(
 
 /// What they leave on its second side. Want of memory is its one refusal.
 pub fn seconds<'a>(
-    alloc: Global,
+    source: &Source,
     marks: &[Mark],
     context: &[Entry<'a>],
 ) -> Result<Vec<Entry<'a>>, Memory>
-    ensures { IfOk result (λ side. context_of side.items ≡ second marks.now (context_of context.now)) }
+    ensures { IfOk result (λ side. context_of (bounds_of source.now.vars.now) side.items ≡ second marks.now (context_of (bounds_of source.now.vars.now) context.now)) }
 {
     let count = marks.len().min(context.len());
-    let mut side = Vec::new(alloc);
+    let mut side = Vec::new(source.alloc);
     for i in 0..count {
         side.push(on_second(marks[i], context[i]))?;
     }
@@ -86,25 +110,26 @@ pub fn seconds<'a>(
 
 // An entry whose type is lent for as long as itself.
 fn lent<'a>(entry: &'a Entry) -> Entry<'a>
-    ensures { entry_of result ≡ entry_of entry.now }
+    ensures { (vars : List Kinds) → entry_of vars result ≡ entry_of vars entry.now }
 {
     match entry {
         Entry::Gone => Entry::Gone,
         Entry::Present(ty) => Entry::Present(&**ty),
+        Entry::Free(ty) => Entry::Free(&**ty),
         Entry::Observed(ty) => Entry::Observed(&**ty),
     }
 }
 
 // The second side, whose types are lent for as long as the context.
 fn seconds_lent<'a>(
-    alloc: Global,
+    source: &Source,
     marks: &[Mark],
     context: &'a [Entry],
 ) -> Result<Vec<Entry<'a>>, Memory>
-    ensures { IfOk result (λ side. context_of side.items ≡ second marks.now (context_of context.now)) }
+    ensures { IfOk result (λ side. context_of (bounds_of source.now.vars.now) side.items ≡ second marks.now (context_of (bounds_of source.now.vars.now) context.now)) }
 {
     let count = marks.len().min(context.len());
-    let mut side = Vec::new(alloc);
+    let mut side = Vec::new(source.alloc);
     for i in 0..count {
         side.push(on_second(marks[i], lent(&context[i])))?;
     }
@@ -113,36 +138,36 @@ fn seconds_lent<'a>(
 
 /// The second side with a new variable of this type. Want of memory is its one refusal.
 pub fn opened<'a>(
-    alloc: Global,
+    source: &Source,
     marks: &[Mark],
     context: &'a [Entry],
     ty: &'a Ty,
 ) -> Result<Vec<Entry<'a>>, Memory>
-    ensures { IfOk result (λ side. context_of side.items ≡ push (second marks.now (context_of context.now)) (Some (type_of ty.now))) }
+    ensures { IfOk result (λ side. context_of (bounds_of source.now.vars.now) side.items ≡ push (second marks.now (context_of (bounds_of source.now.vars.now) context.now)) (Some (type_of ty.now))) }
 {
-    let mut side = seconds_lent(alloc, marks, context)?;
-    side.push(Entry::Present(ty))?;
+    let mut side = seconds_lent(source, marks, context)?;
+    side.push(present(source, ty))?;
     Ok(side)
 }
 
 /// The second side with two new variables of these types. Want of memory is its one refusal.
 pub fn opened_twice<'a>(
-    alloc: Global,
+    source: &Source,
     marks: &[Mark],
     context: &'a [Entry],
     ty: &'a Ty,
     last: &'a Ty,
 ) -> Result<Vec<Entry<'a>>, Memory>
-    ensures { IfOk result (λ side. context_of side.items ≡ push (push (second marks.now (context_of context.now)) (Some (type_of ty.now))) (Some (type_of last.now))) }
+    ensures { IfOk result (λ side. context_of (bounds_of source.now.vars.now) side.items ≡ push (push (second marks.now (context_of (bounds_of source.now.vars.now) context.now)) (Some (type_of ty.now))) (Some (type_of last.now))) }
 {
-    let mut side = opened(alloc, marks, context, ty)?;
-    side.push(Entry::Present(last))?;
+    let mut side = opened(source, marks, context, ty)?;
+    side.push(present(source, last))?;
     Ok(side)
 }
 
 // What a context says of a variable; of one past its end, that it is gone.
 fn entry_at<'a>(context: &[Entry<'a>], var: usize) -> Entry<'a>
-    ensures { entry_of result ≡ look (context_of context.now) var }
+    ensures { (vars : List Kinds) → entry_of vars result ≡ look (context_of vars context.now) var }
 {
     if var < context.len() {
         context[var]
@@ -152,23 +177,37 @@ fn entry_at<'a>(context: &[Entry<'a>], var: usize) -> Entry<'a>
 }
 
 /// Whether a variable is present.
-pub fn is_present(context: &[Entry], var: usize) -> bool
-    ensures { result ≡ is_present_of (look (context_of context.now) var) }
+pub(crate) fn is_present(context: &[Entry], var: usize) -> bool
+    ensures { (vars : List Kinds) → result ≡ is_present_of (look (context_of vars context.now) var) }
 {
     match entry_at(context, var) {
         Entry::Gone => false,
         Entry::Present(_) => true,
+        Entry::Free(_) => true,
         Entry::Observed(_) => true,
     }
 }
 
+// A copy of a type that may be shared and dropped, and of any other as observed. Want of memory is its one refusal.
+fn free_copy(source: &Source, ty: &Ty) -> Result<Ty, Memory>
+    ensures { IfOk result (λ copy. type_of copy ≡ free_type (bounds_of source.now.vars.now) (type_of ty.now)) }
+{
+    let own = ty.copy(source.alloc)?;
+    if is_free(source, ty) {
+        Ok(own)
+    } else {
+        Ok(bang(own))
+    }
+}
+
 /// The type of a variable where it stands; unit, where it isn't present. Want of memory is its one refusal.
-pub fn type_at(alloc: Global, context: &[Entry], var: usize) -> Result<Ty, Memory>
-    ensures { IfOk result (λ ty. type_of ty ≡ or_unit (look (context_of context.now) var)) }
+pub fn type_at(source: &Source, context: &[Entry], var: usize) -> Result<Ty, Memory>
+    ensures { IfOk result (λ ty. type_of ty ≡ or_unit (look (context_of (bounds_of source.now.vars.now) context.now) var)) }
 {
     match entry_at(context, var) {
         Entry::Gone => Ok(Ty::Unit),
-        Entry::Present(ty) => ty.copy(alloc),
-        Entry::Observed(ty) => Ok(bang(ty.copy(alloc)?)),
+        Entry::Present(ty) => ty.copy(source.alloc),
+        Entry::Free(ty) => free_copy(source, ty),
+        Entry::Observed(ty) => Ok(bang(ty.copy(source.alloc)?)),
     }
 }

@@ -13,7 +13,7 @@ mod source;
 mod splits;
 mod tests;
 
-pub use context::{Entry, firsts, is_present, opened, opened_twice, seconds, type_at};
+pub use context::{Entry, firsts, opened, opened_twice, present, seconds, type_at};
 pub use fields::{Fields, no_fields, put_in_front, record_node, struct_node};
 pub use got::{Got, leaf_of};
 pub use nodes::{
@@ -25,4 +25,4 @@ pub use reached::{
     Split, Strings, reach_leaf, reach_literal, reach_observed, reach_record, reach_split, test_leaf,
 };
 pub use source::{Cursor, Source};
-pub use tests::{drops_all, drops_but, meets};
+pub use tests::{drops_all, ends_with, meets};

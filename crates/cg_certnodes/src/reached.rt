@@ -99,7 +99,7 @@ pub fn test_leaf(
 
 /// The same of a literal that stands left of its guide: C2 with its number also where a variable of its context may not be dropped.
 pub fn reach_literal(source: &Source, context: &[Entry], at: Cursor) -> Result<Cursor, CertFault>
-    ensures { Agrees (cursor_of source.now.nodes.now) result (steps.literal_reached (bounds_of source.now.vars.now) (context_of context.now) (cursor_of source.now.nodes.now at)) }
+    ensures { Agrees (cursor_of source.now.nodes.now) result (steps.literal_reached (bounds_of source.now.vars.now) (context_of (bounds_of source.now.vars.now) context.now) (cursor_of source.now.nodes.now at)) }
 {
     let behind = reach_leaf(source, Node::Lit, at)?;
     if drops_all(source, context) {
@@ -117,7 +117,7 @@ pub fn reach_split<'a>(
     node: Node,
     at: Cursor,
 ) -> Result<Split<'a>, CertFault>
-    ensures { Agrees (split_in source.now.nodes.now) result (steps.split_reached (bounds_of source.now.vars.now) [] (context_of context.now) node (cursor_of source.now.nodes.now at)) }
+    ensures { Agrees (split_in source.now.nodes.now) result (steps.split_reached (bounds_of source.now.vars.now) [] (context_of (bounds_of source.now.vars.now) context.now) node (cursor_of source.now.nodes.now at)) }
 {
     let strings = find(source, node, at)?;
     if strings.len() != 1 {
@@ -138,7 +138,7 @@ pub fn reach_observed<'a>(
     observers: &Items<Seen>,
     at: Cursor,
 ) -> Result<Split<'a>, CertFault>
-    ensures { Agrees (split_in source.now.nodes.now) result (steps.split_reached (bounds_of source.now.vars.now) observers.now (context_of context.now) LetBang (cursor_of source.now.nodes.now at)) }
+    ensures { Agrees (split_in source.now.nodes.now) result (steps.split_reached (bounds_of source.now.vars.now) observers.now (context_of (bounds_of source.now.vars.now) context.now) LetBang (cursor_of source.now.nodes.now at)) }
 {
     let strings = find(source, Node::LetBang, at)?;
     if strings.len() != 1 {
@@ -159,7 +159,7 @@ pub fn reach_record<'a>(
     fields: &Items<FieldTerm<Place>>,
     at: Cursor,
 ) -> Result<Strings<'a>, CertFault>
-    ensures { Agrees (strings_in source.now.nodes.now) result (steps.record_reached (bounds_of source.now.vars.now) (to_named (map the_field fields.now)) (context_of context.now) (cursor_of source.now.nodes.now at)) }
+    ensures { Agrees (strings_in source.now.nodes.now) result (steps.record_reached (bounds_of source.now.vars.now) (to_named (map the_field fields.now)) (context_of (bounds_of source.now.vars.now) context.now) (cursor_of source.now.nodes.now at)) }
 {
     let strings = find(source, Node::Struct, at)?;
     if !splits_fields(source, context, fields, strings)? {

@@ -1,7 +1,8 @@
 // Whether marks split a context.
 #![tactic(auto, using(crate::proofs::SplitSteps::split_steps))]
 
-ghost use Rattle.std.specs.Prelude.{◌≡◌, [], IfOk, None, map};
+ghost use Rattle.std.specs.Prelude.{◌≡◌, [], IfOk, None, Some, map};
+ghost use Rattle.cg_base.specs.Types.{type_of};
 ghost use Rattle.cg_certnodes.specs.Contexts.{context_of, entry_of, fits_present as fits_present_of, split_in_turn};
 ghost use Rattle.cg_pieces.specs.View.{bounds_of, is_seen_at as is_seen_at_of};
 ghost use Rattle.cg_core.specs.Kernels.{the_field};
@@ -11,7 +12,7 @@ ghost use Rattle.cg_certcheck_laws.specs.Tests.{fits as fits_of, splits as split
 
 use crate::context::{Entry, seconds};
 use crate::source::Source;
-use cg_base::{Items, Memory, Place};
+use cg_base::{Items, Memory, Place, Ty};
 use cg_core::{FieldTerm, Mark, Seen};
 use cg_kinds::kinds_of;
 use cg_pieces::is_seen_at;
@@ -29,6 +30,18 @@ fn fits_present(shared: bool, observed: bool, mark: Mark) -> bool
     }
 }
 
+// The same of one of this type, whose kinds are asked for where it goes to both sides alone.
+fn fits_type(source: &Source, observed: bool, mark: Mark, ty: &Ty) -> bool
+    ensures { result ≡ fits_of (bounds_of source.now.vars.now) observed mark (Some (type_of ty.now)) }
+{
+    match mark {
+        Mark::Gone => false,
+        Mark::Left | Mark::Right => !observed,
+        Mark::Both => kinds_of(ty, source.vars).share && !observed,
+        Mark::Seen => observed,
+    }
+}
+
 // Whether it fits one that is gone.
 fn fits_gone(observed: bool, mark: Mark) -> bool
     ensures { result ≡ fits_of [] observed mark None }
@@ -41,11 +54,12 @@ fn fits_gone(observed: bool, mark: Mark) -> bool
 
 // Whether it fits a variable.
 fn fits(source: &Source, observed: bool, mark: Mark, entry: Entry) -> bool
-    ensures { result ≡ fits_of (bounds_of source.now.vars.now) observed mark (entry_of entry.entry) }
+    ensures { result ≡ fits_of (bounds_of source.now.vars.now) observed mark (entry_of (bounds_of source.now.vars.now) entry.entry) }
 {
     match entry {
         Entry::Gone => fits_gone(observed, mark),
-        Entry::Present(ty) => fits_present(kinds_of(ty, source.vars).share, observed, mark),
+        Entry::Present(ty) => fits_type(source, observed, mark, ty),
+        Entry::Free(_) => fits_present(true, observed, mark),
         Entry::Observed(_) => fits_present(true, observed, mark),
     }
 }
@@ -53,7 +67,7 @@ fn fits(source: &Source, observed: bool, mark: Mark, entry: Entry) -> bool
 // Whether marks split a context where these variables are observed.
 #[tactic(auto, using(crate::proofs::SplitSteps::where_steps))]
 fn splits_seen(source: &Source, context: &[Entry], seen: &[Option<Place>], marks: &[Mark]) -> bool
-    ensures { result ≡ splits_where (bounds_of source.now.vars.now) (λ i. is_seen_at_of seen.now i) marks.now (context_of context.now) }
+    ensures { result ≡ splits_where (bounds_of source.now.vars.now) (λ i. is_seen_at_of seen.now i) marks.now (context_of (bounds_of source.now.vars.now) context.now) }
 {
     if marks.len() != context.len() {
         return false;
@@ -68,7 +82,7 @@ fn splits_seen(source: &Source, context: &[Entry], seen: &[Option<Place>], marks
 
 /// Whether marks split a context where nothing is observed.
 pub fn splits(source: &Source, context: &[Entry], marks: &[Mark]) -> bool
-    ensures { result ≡ splits_of (bounds_of source.now.vars.now) [] marks.now (context_of context.now) }
+    ensures { result ≡ splits_of (bounds_of source.now.vars.now) [] marks.now (context_of (bounds_of source.now.vars.now) context.now) }
 {
     splits_seen(source, context, &[], marks)
 }
@@ -80,7 +94,7 @@ pub fn splits_observed(
     observers: &Items<Seen>,
     marks: &[Mark],
 ) -> Result<bool, Memory>
-    ensures { IfOk result (λ fine. fine ≡ splits_of (bounds_of source.now.vars.now) observers.now marks.now (context_of context.now)) }
+    ensures { IfOk result (λ fine. fine ≡ splits_of (bounds_of source.now.vars.now) observers.now marks.now (context_of (bounds_of source.now.vars.now) context.now)) }
 {
     let seen = seen_places(source.alloc, context.len(), observers)?;
     Ok(splits_seen(source, context, &seen, marks))
@@ -89,7 +103,7 @@ pub fn splits_observed(
 // Whether each mark string splits what the one before it leaves. Want of memory is its one refusal.
 #[tactic(auto, using(crate::proofs::SplitSteps::turn_steps))]
 fn split_all(source: &Source, context: &[Entry], strings: &[Items<Mark>]) -> Result<bool, Memory>
-    ensures { IfOk result (λ fine. fine ≡ split_in_turn (bounds_of source.now.vars.now) strings.now (context_of context.now)) }
+    ensures { IfOk result (λ fine. fine ≡ split_in_turn (bounds_of source.now.vars.now) strings.now (context_of (bounds_of source.now.vars.now) context.now)) }
 {
     let mut rest = context.to_vec(source.alloc)?;
     for string in strings {
@@ -97,7 +111,7 @@ fn split_all(source: &Source, context: &[Entry], strings: &[Items<Mark>]) -> Res
         if !splits(source, &rest, marks) {
             return Ok(false);
         }
-        rest = seconds(source.alloc, marks, &rest)?;
+        rest = seconds(source, marks, &rest)?;
     }
     Ok(true)
 }
@@ -110,7 +124,7 @@ pub fn splits_fields(
     fields: &Items<FieldTerm<Place>>,
     strings: &[Items<Mark>],
 ) -> Result<bool, Memory>
-    ensures { IfOk result (λ fine. fine ≡ field_strings (bounds_of source.now.vars.now) (to_named (map the_field fields.now)) strings.now (context_of context.now)) }
+    ensures { IfOk result (λ fine. fine ≡ field_strings (bounds_of source.now.vars.now) (to_named (map the_field fields.now)) strings.now (context_of (bounds_of source.now.vars.now) context.now)) }
 {
     if strings.len() != fields.len().saturating_sub(1) {
         return Ok(false);

@@ -37,7 +37,7 @@ fn certificate_in(alloc: Global, name: &str, bytes: &[u8]) -> Result<Step<Cert>,
     }
 }
 
-/// What is said of a certificate that spells no derivation of a kernel within the limit on types.
+/// What is said of a certificate that was read and spells no derivation of a kernel within the limit on types. So C1 never comes here.
 fn not_certified(alloc: Global, name: &str, fault: CertFault) -> Result<Report, Memory>
     ensures { (fs : List Function) (cert : CertOf) → IsLawfulKernel fs → Refuses fs cert fault → IfOk result (Reports (RefusesCert name.now fs cert)) }
 {

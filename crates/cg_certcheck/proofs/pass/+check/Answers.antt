@@ -43,7 +43,7 @@ pub check_op-returns-in_default : goal.check_op-returns-in_default
 check_op-returns-in_default t c =
     let other : (length c.as_slice.result.now ≡ 1 → ⊥) × (length c.as_slice.result.now ≡ 2 → ⊥) =
     elim c.in_default.branch [ check_op-in_default-via-then-as_slice-lt1 w ↦ (λ one. grind (arith, one, w), λ two. grind (arith, two, w)) | check_op-in_default-via-else-as_slice-lt1+else-this-lt2+else-this-lt3 w ↦ (λ one. grind (arith, one, w), λ two. grind (arith, two, w)) ] in
-    let e = other_operands (map function_of c.args.source.now.functions.now) (bounds_of c.args.source.now.vars.now) (context_of c.args.context.now)
+    let e = other_operands (map function_of c.args.source.now.functions.now) (bounds_of c.args.source.now.vars.now) (context_of (bounds_of c.args.source.now.vars.now) c.args.context.now)
     (way_of (option_copied c.args.direction)) (cursor_of c.args.source.now.nodes.now c.args.at) c.args.place c.args.op c.as_slice.result.now other.0 other.1 in
     rw (sym c.as_slice.ensures) e
 
@@ -59,28 +59,28 @@ check_fields-check_more_fields-requires t c =
 
 pub check_fields-returns-in-empty : goal.check_fields-returns-in-empty
 check_fields-returns-in-empty t c =
-    fields_none (map function_of c.args.source.now.functions.now) (bounds_of c.args.source.now.vars.now) (context_of c.args.context.now)
+    fields_none (map function_of c.args.source.now.functions.now) (bounds_of c.args.source.now.vars.now) (context_of (bounds_of c.args.source.now.vars.now) c.args.context.now)
     (part_directions (to_parts (map part_of c.args.wanted.now))) c.args.strings.now (cursor_of c.args.source.now.nodes.now c.args.at) c.args.fields.now c.in-empty.len_below
     ∙ ap Ok (sym c.no_fields.ensures)
 
 pub check_fields-returns-in-len1 : goal.check_fields-returns-in-len1
 check_fields-returns-in-len1 t c =
     subst (λ o. Agrees (fields_in c.args.source.now.nodes.now) c.check_last_field.result o)
-    (sym (fields_last (map function_of c.args.source.now.functions.now) (bounds_of c.args.source.now.vars.now) (context_of c.args.context.now)
+    (sym (fields_last (map function_of c.args.source.now.functions.now) (bounds_of c.args.source.now.vars.now) (context_of (bounds_of c.args.source.now.vars.now) c.args.context.now)
     (part_directions (to_parts (map part_of c.args.wanted.now))) c.args.strings.now (cursor_of c.args.source.now.nodes.now c.args.at) c.args.fields.now c.field-item.result
     c.in-len1.len_at_least c.in-len1.len_below c.field-item.is)) c.check_last_field.ensures
 
 pub check_fields-returns-in-len1-up : goal.check_fields-returns-in-len1-up
 check_fields-returns-in-len1-up t c =
     subst (λ o. Agrees (fields_in c.args.source.now.nodes.now) c.check_more_fields.result o)
-    (sym (fields_more (map function_of c.args.source.now.functions.now) (bounds_of c.args.source.now.vars.now) (context_of c.args.context.now)
+    (sym (fields_more (map function_of c.args.source.now.functions.now) (bounds_of c.args.source.now.vars.now) (context_of (bounds_of c.args.source.now.vars.now) c.args.context.now)
     (part_directions (to_parts (map part_of c.args.wanted.now))) c.args.strings.now (cursor_of c.args.source.now.nodes.now c.args.at) c.args.fields.now c.field-item-2.result
     c.in-len1-up.len_at_least c.field-item-2.is)) c.check_more_fields.ensures
 
 pub check_term-returns-then-is_small_enough : goal.check_term-returns-then-is_small_enough
 check_term-returns-then-is_small_enough t c =
     let u = got_in c.args.source.now.nodes.now c.in_ok-got.got in
-    sym (check_is (map function_of c.args.source.now.functions.now) (bounds_of c.args.source.now.vars.now) (context_of c.args.context.now)
+    sym (check_is (map function_of c.args.source.now.functions.now) (bounds_of c.args.source.now.vars.now) (context_of (bounds_of c.args.source.now.vars.now) c.args.context.now)
     (way_of (option_copied c.args.direction)) (cursor_of c.args.source.now.nodes.now c.args.at) (the_term c.args.term.now))
     ∙ ap (λ o. bind {B = Got} o (λ u. test (Limit Ty) (is_small_enough u.ty) (Ok u))) c.in_ok-got.ensures
     ∙ ap (λ b. test (Limit Ty) b (Ok u)) (sym (c.is_small_enough.ensures ∙ ap is_small_enough c.ty.ensures) ∙ c.if-is_small_enough.true)
@@ -88,7 +88,7 @@ check_term-returns-then-is_small_enough t c =
 pub check_term-returns-else-is_small_enough : goal.check_term-returns-else-is_small_enough
 check_term-returns-else-is_small_enough t c =
     let u = got_in c.args.source.now.nodes.now c.in_ok-got.got in
-    sym (check_is (map function_of c.args.source.now.functions.now) (bounds_of c.args.source.now.vars.now) (context_of c.args.context.now)
+    sym (check_is (map function_of c.args.source.now.functions.now) (bounds_of c.args.source.now.vars.now) (context_of (bounds_of c.args.source.now.vars.now) c.args.context.now)
     (way_of (option_copied c.args.direction)) (cursor_of c.args.source.now.nodes.now c.args.at) (the_term c.args.term.now))
     ∙ ap (λ o. bind {B = Got} o (λ u. test (Limit Ty) (is_small_enough u.ty) (Ok u))) c.in_ok-got.ensures
     ∙ ap (λ b. test (Limit Ty) b (Ok u)) (sym (c.is_small_enough.ensures ∙ ap is_small_enough c.ty.ensures) ∙ c.if-is_small_enough.false)
@@ -97,7 +97,7 @@ pub check_term-returns-in_err-got : goal.check_term-returns-in_err-got
 check_term-returns-in_err-got t c =
     let f = map function_of c.args.source.now.functions.now in
     let v = bounds_of c.args.source.now.vars.now in
-    let g = context_of c.args.context.now in
+    let g = context_of (bounds_of c.args.source.now.vars.now) c.args.context.now in
     let d = way_of (option_copied c.args.direction) in
     let at = cursor_of c.args.source.now.nodes.now c.args.at in
     let e = the_term c.args.term.now in

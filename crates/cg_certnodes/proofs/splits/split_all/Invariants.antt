@@ -5,5 +5,5 @@ use Rattle.cg_certnodes.proofs.splits.split_all.Given as goal
 
 abbrev pub invariant-loop-string : goal.invariant-loop-string
 invariant-loop-string l =
-    split_in_turn (bounds_of l.source.vars.now) (drop l.string-index l.strings) (context_of l.rest.items)
-    ≡ split_in_turn (bounds_of l.source.vars.now) l.strings (context_of l.context)
+    split_in_turn (bounds_of l.source.vars.now) (drop l.string-index l.strings) (context_of (bounds_of l.source.vars.now) l.rest.items)
+    ≡ split_in_turn (bounds_of l.source.vars.now) l.strings (context_of (bounds_of l.source.vars.now) l.context)

@@ -10,7 +10,7 @@ returns-then-strings-saturating_sub c =
     let less = c.saturating_sub.ensures in
     let other = c.if-strings-saturating_sub.true in
     sym (fields_unless (bounds_of c.args.source.now.vars.now) c.args.fields.now c.args.strings.now
-    (context_of c.args.context.now) (λ e. other (omega (arith, e))))
+    (context_of (bounds_of c.args.source.now.vars.now) c.args.context.now) (λ e. other (omega (arith, e))))
 
 pub returns : goal.returns
 returns c =
@@ -19,4 +19,4 @@ returns c =
     let long : length c.args.strings.now ≡ length c.args.fields.now - 1 = omega arith in
     subst (λ b. IfOk c.split_all.result (λ fine. fine ≡ b))
     (sym (fields_when (bounds_of c.args.source.now.vars.now) c.args.fields.now c.args.strings.now
-    (context_of c.args.context.now) long)) c.split_all.ensures
+    (context_of (bounds_of c.args.source.now.vars.now) c.args.context.now) long)) c.split_all.ensures

@@ -12,7 +12,7 @@ returns-then-not-fits c =
     let m = get_or c.args.marks.now c.loop-i.i Gone in
     let e = c.index-context-i.result in
     sym (sym c.loop-i.invariant ∙ fits_stop vars c.args.seen.now c.args.marks.now c.args.context.now c.loop-i.i m e (omega arith) (omega arith)
-    refl c.index-context-i.is (sym (c.fits.ensures ∙ ap (λ b. fits vars b m (entry_of e)) c.is_seen_at.ensures) ∙ c.if-not-fits.true))
+    refl c.index-context-i.is (sym (c.fits.ensures ∙ ap (λ b. fits vars b m (entry_of vars e)) c.is_seen_at.ensures) ∙ c.if-not-fits.true))
 
 pub loop-i-preserved : goal.loop-i-preserved
 loop-i-preserved c =
@@ -20,4 +20,4 @@ loop-i-preserved c =
     let m = get_or c.args.marks.now c.loop-i.i Gone in
     let e = c.index-context-i.result in
     fits_more vars c.args.seen.now c.args.marks.now c.args.context.now c.loop-i.i m e (omega arith) (omega arith)
-    refl c.index-context-i.is (sym (c.fits.ensures ∙ ap (λ b. fits vars b m (entry_of e)) c.is_seen_at.ensures) ∙ c.if-not-fits.false) ∙ c.loop-i.invariant
+    refl c.index-context-i.is (sym (c.fits.ensures ∙ ap (λ b. fits vars b m (entry_of vars e)) c.is_seen_at.ensures) ∙ c.if-not-fits.false) ∙ c.loop-i.invariant

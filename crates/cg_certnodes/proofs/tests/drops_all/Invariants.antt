@@ -6,4 +6,4 @@ use Rattle.cg_certnodes.proofs.tests.drops_all.Given as goal
 
 abbrev pub invariant-loop-entry : goal.invariant-loop-entry
 invariant-loop-entry l =
-    drops_all (bounds_of l.source.vars.now) (context_of (drop l.entry-index l.context)) ≡ drops_all (bounds_of l.source.vars.now) (context_of l.context)
+    drops_all (bounds_of l.source.vars.now) (context_of (bounds_of l.source.vars.now) (drop l.entry-index l.context)) ≡ drops_all (bounds_of l.source.vars.now) (context_of (bounds_of l.source.vars.now) l.context)
