@@ -1,8 +1,10 @@
 -- The lines that are printed (docs/LANGUAGE.md, "Commands").
 use Rattle.std.specs.Prelude.{ℕ, List, ◌++◌, codes, count_by, decimal, is_some, length}
+use Rattle.cg_base.specs.declared.kind.Word.TheVariants.{U32}
 use Rattle.cg_base.specs.declared.limit.Limit.{Limit}
 use Rattle.cg_base.specs.declared.limit.Limit.TheVariants.{Source, Nesting, Functions, Fields, Ty, Depth, Instances, Core, Heap, Certificate}
 use Rattle.cg_base.specs.declared.place.Place.{Place}
+use Rattle.cg_base.specs.Types.{word}
 use Rattle.cg_core.specs.Kernels.{Function}
 use Rattle.cg_desugar.specs.Faults.{NameFault, unknown, twice, arguments}
 use Rattle.cg_faults.specs.declared.rule.Rule.{Rule}
@@ -100,8 +102,8 @@ limit_name Certificate = codes "certificate"
 abbrev pub step_limit_line : ℕ → List ℕ
 step_limit_line steps = codes "step limit " ++ decimal steps ++ codes " reached\n"
 
--- The seven lines of a run: what evaluation gives and what the C gives, what each costs, and how many cells were made, freed
+-- The seven lines of a run on words: what evaluation gives and what the C gives, what each costs, and how many cells were made, freed
 -- and kept.
 abbrev pub report : Val → Val → ℕ → ℕ → List ℕ → List ℕ → List ℕ → List ℕ
 report value result cost steps made freed kept =
-    codes "value: " ++ printed value ++ codes "\nc: " ++ printed result ++ codes "\ncost: " ++ decimal cost ++ codes "\nsteps: " ++ decimal steps ++ codes "\nnew: " ++ decimal (length made) ++ codes "\nfreed: " ++ decimal (length freed) ++ codes "\nkept: " ++ decimal (length kept) ++ codes "\n"
+    codes "value: " ++ printed value (word U32) ++ codes "\nc: " ++ printed result (word U32) ++ codes "\ncost: " ++ decimal cost ++ codes "\nsteps: " ++ decimal steps ++ codes "\nnew: " ++ decimal (length made) ++ codes "\nfreed: " ++ decimal (length freed) ++ codes "\nkept: " ++ decimal (length kept) ++ codes "\n"

@@ -1,5 +1,5 @@
-//! Tests that cross crates and that a case (docs/CASES.md) can't say: the two evaluations, C texts, orders of graphs, an outside that
-//! fails at some calls, and each call that takes memory once where there is plenty.
+//! Tests that cross crates and that a case (docs/CASES.md) can't say: the two evaluations, texts of values and of C, orders of graphs, an
+//! outside that fails at some calls, and each call that takes memory once where there is plenty.
 #![tactic(auto)]
 
 #[cfg(test)]
@@ -9,9 +9,13 @@ mod certificates;
 #[cfg(test)]
 mod evaluation;
 #[cfg(test)]
+mod library;
+#[cfg(test)]
 mod orders;
 #[cfg(test)]
 mod outside;
+#[cfg(test)]
+mod printing;
 #[cfg(test)]
 mod reading;
 #[cfg(test)]

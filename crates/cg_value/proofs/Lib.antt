@@ -1,0 +1,2 @@
+pub mod FormSteps
+mod Printing

@@ -1,7 +1,7 @@
-//! Values, as evaluation gives them, and their printed text, by [`print_value`]. docs/LANGUAGE.md, "Values", says what they are; this is
-//! the part that plain sources need: the text of a word.
+//! Values, as evaluation gives them, and their printed text, by [`print_value`]. docs/LANGUAGE.md, "Values", says what they are.
 #![tactic(auto)]
 
+mod forms;
 mod print;
 mod value;
 

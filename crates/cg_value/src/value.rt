@@ -1,7 +1,9 @@
 // Values.
 ghost use Rattle.std.specs.Prelude.{◌≡◌, map, IfOk};
+ghost use Rattle.cg_value.specs.Forms.{field, payload_in, with_element, without};
 ghost use Rattle.cg_value.specs.Values.{value_of};
 
+use crate::forms::{set_at, take_at};
 use cg_base::{Fun, Items, Memory, Name, Ty, copy_types};
 use std::alloc::Global;
 
@@ -37,6 +39,66 @@ impl Drop for Value {
 }
 
 impl Value {
+    /// The payload of an alternative; gone, where this is none.
+    #[tactic(auto, unfolding(crate::specs::Forms::payload_in))]
+    pub fn into_payload(self) -> Value
+        ensures { value_of result ≡ payload_in (value_of self) }
+    {
+        match self {
+            Value::Variant(name, payload) => {
+                drop(name);
+                Box::into_inner(payload)
+            }
+            other => {
+                drop(other);
+                Value::Gone
+            }
+        }
+    }
+
+    /// A field, by its position, and the record in which it is gone afterwards; gone, where there is none.
+    #[tactic(auto, unfolding(crate::specs::Forms::field, crate::specs::Forms::without), using(crate::proofs::FormSteps::form_steps))]
+    pub fn split_field(self, at: usize) -> (Value, Value)
+        ensures field { value_of result.0 ≡ field (value_of self) at }
+        ensures rest { value_of result.1 ≡ without (value_of self) at }
+    {
+        match self {
+            Value::Fields(fields) => {
+                let mut fields = fields;
+                let field = take_at(fields.as_mut_slice(), at);
+                (field, Value::Fields(fields))
+            }
+            other => (Value::Gone, other),
+        }
+    }
+
+    /// A field, by its position; gone, where there is none.
+    pub fn into_field(self, at: usize) -> Value
+        ensures { value_of result ≡ field (value_of self) at }
+    {
+        let (field, rest) = self.split_field(at);
+        drop(rest);
+        field
+    }
+
+    /// An array with another number for an element, where there is one at this position; gone, where this is no array.
+    #[tactic(auto, unfolding(crate::specs::Forms::with_element), using(crate::proofs::FormSteps::form_steps))]
+    pub fn with_element(self, at: u64, number: u64) -> Value
+        ensures { value_of result ≡ with_element (value_of self) at number }
+    {
+        match self {
+            Value::Array(elements) => {
+                let mut elements = elements;
+                set_at(elements.as_mut_slice(), at, number);
+                Value::Array(elements)
+            }
+            other => {
+                drop(other);
+                Value::Gone
+            }
+        }
+    }
+
     /// An equal value. The one error is want of memory.
     #[cycle(copy)]
     pub fn copy(&self, alloc: Global) -> Result<Value, Memory>

@@ -1,0 +1,2 @@
+mod LibrarySteps
+mod MadeSteps
