@@ -1,13 +1,16 @@
 #!/usr/bin/env python3
 """Times `recheck` beside `check` on growing sources, on one processor: small and deep functions and variables of large types with their
-certificates, with marks that hand all variables to both sides, certificates that are refused at their end, and one as long as the limit
-of certificates allows. Seconds, megabytes, the ratio at each doubling, and how many times the time of `check`.
+certificates, with marks that hand all variables to both sides, variables that are dropped at the end of many branches, certificates that
+are refused at their end, and one as long as the limit of certificates allows. Seconds, megabytes, the ratio at each doubling, and how many
+times the time of `check`.
 
 Each time is the least of three. Memory is what /usr/bin/time says.
 
 usage: bench/recheck.py [PROGRAM]     PROGRAM is the built program (crates/cg_cli/out/cg_cli by default)
 """
 
+import functools
+import operator
 import os
 import resource
 import subprocess
@@ -40,6 +43,18 @@ def call(name, x):
     return ("app", x[1], (("fun", 0, (), name), x), f"({name} {x[3]})")
 
 
+UNIT = ("unit", 0, (), "()")
+TRUE = ("bool", 0, (), "True")
+
+
+def applied(function, x):
+    return ("app", function[1] | x[1], (function, x), f"{function[3]} {x[3]}")
+
+
+def choice(condition, a, b):
+    return ("if", condition[1] | a[1] | b[1], (condition, a, b), f"if {condition[3]} then {a[3]} else\n {b[3]}")
+
+
 def let(count, name, value, body):
     """In a context of so many variables."""
     return ("let", value[1] | body[1] & ~(1 << count), (value, body), f"let {name} = {value[3]} in\n {body[3]}")
@@ -60,13 +75,14 @@ def lines(term, count, present, told, lavish):
     if not parts:
         told.append(word)
         return
-    first, second = parts
+    first, *later = parts
     new = 1 if word == "let" else 0
-    used = second[1] & ~(new << count)
+    used = functools.reduce(operator.or_, (part[1] for part in later)) & ~(new << count)
     left, right = (present, present) if lavish else (first[1], used)
     told.append(f"{word} {marks(count, present, left, right)}")
     lines(first, count, present & left, told, lavish)
-    lines(second, count + new, present & ~(left & ~right) | new << count, told, lavish)
+    for part in later:
+        lines(part, count + new, present & ~(left & ~right) | new << count, told, lavish)
 
 
 def written(functions, ty="U32 -> U32", first="", lavish=False):
@@ -128,6 +144,17 @@ def large_types(lavish):
     return made
 
 
+def branches(size):
+    """Functions of 280 variables, each of a type of 511 nodes that may only be dropped, and is at the end of each of 201 branches."""
+    body = lit(200)
+    for i in reversed(range(200)):
+        body = choice(TRUE, lit(i), body)
+    for i in reversed(range(280)):
+        body = let(i + 1, f"y{i}", applied(var(0, "x"), UNIT), body)
+    functions = [(f"f{i}", body) for i in range(-(-size // len(body[3])))]
+    return written(functions, "all (a :< D). (() -> T8 a) -> U32", LARGE)
+
+
 def a_part(most, kind):
     """The same of sources that are as many times shorter."""
     return lambda size: kind(size // most)
@@ -158,6 +185,7 @@ KINDS = {
     # each node holds its type as a tree
     "large types, a 16th": a_part(16, large_types(False)),
     "the same, all for both": a_part(16, large_types(True)),
+    "dropped, a 16th": a_part(16, branches),
     "C2 at the last node": changed(small_functions, "lit\n", "unit\n"),
     "C3 behind the last node": changed(small_functions, "end\n", "var\nend\n"),
     "C1 at the last line": changed(small_functions, "end\n", "ent\n"),

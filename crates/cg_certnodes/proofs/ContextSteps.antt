@@ -1,9 +1,10 @@
 -- Contexts that marks leave, and what stands in them.
-use Rattle.std.proofs.Common.{◌≡◌, Bool, true, false, ◌&&◌, cond, ◌<◌, ◌≤◌, ℕ, zero, suc, None, List, [], ◌∷◌, ◌++◌, length, drop, get_or, append-nil, refl, ap, ◌∙◌, arith}
+use Rattle.std.proofs.Common.{◌≡◌, Bool, true, false, ◌&&◌, ◌||◌, not, cond, ◌<◌, ◌≤◌, ℕ, zero, suc, None, List, [], ◌∷◌, ◌++◌, length, drop, get_or, append-nil, refl, ap, ◌∙◌, arith}
+use Rattle.std.proofs.lemmas.Bool.{false≢true}
 use Rattle.cg_base.specs.declared.kind.Kinds.{Kinds}
 use Rattle.cg_base.specs.declared.ty.Ty.{the_lemmas}
 use Rattle.cg_base.specs.Types.{Tau}
-use Rattle.cg_certnodes.specs.Contexts.{context_of, entry_of, free_type, is_free}
+use Rattle.cg_certnodes.specs.Contexts.{context_of, entry_of, found_type, is_found}
 use Rattle.cg_certnodes.specs.declared.context.Entry.{Entry}
 use Rattle.cg_core.specs.declared.derivation.Mark.{Mark}
 use Rattle.cg_kinds.proofs.Laws.{bang_free, bang_twice}
@@ -57,35 +58,48 @@ look_past vars [] i h = refl
 look_past vars (e ∷ es) zero h = absurd (omega (arith, h))
 look_past vars (e ∷ es) (suc i) h = look_past vars es i (omega (arith, h))
 
--- a type that may be shared and dropped
-pub free_when : (vs : List Kinds) (t : Tau) → is_free vs t ≡ true → free_type vs t ≡ t
-free_when vs t e = ap (λ b. cond b t (bang t)) e
-
-pub free_unless : (vs : List Kinds) (t : Tau) → is_free vs t ≡ false → free_type vs t ≡ bang t
-free_unless vs t e = ap (λ b. cond b t (bang t)) e
+-- a type that may be dropped, as it was found
+pub found_when : (vs : List Kinds) (t : Tau) → (kinds vs t).drop ≡ true → found_type vs (kinds vs t).share t ≡ t
+found_when vs t e = go (kinds vs t).share (kinds vs t).drop e
+  where
+    go : (a b : Bool) → b ≡ true → cond (b && (not a || a)) t (bang t) ≡ t
+    go true true e = refl
+    go false true e = refl
+    go a false e = absurd (false≢true e)
 
 -- as observed it is what the type itself is
-pub free_seen : (vs : List Kinds) (t : Tau) → bang (free_type vs t) ≡ bang t
-free_seen vs t = go (is_free vs t)
+pub found_seen : (vs : List Kinds) (shared : Bool) (t : Tau) → bang (found_type vs shared t) ≡ bang t
+found_seen vs shared t = go (is_found vs shared t)
   where
     go : (b : Bool) → bang (cond b t (bang t)) ≡ bang t
     go true = refl
     go false = bang_twice t
 
--- it may be shared and dropped
-free_kinds : (vs : List Kinds) (t : Tau) → ((kinds vs (free_type vs t)).drop ≡ true) × ((kinds vs (free_type vs t)).share ≡ true)
-free_kinds vs t = go (kinds vs t).share (kinds vs t).drop refl refl
+-- it may be dropped
+pub found_drops : (vs : List Kinds) (shared : Bool) (t : Tau) → (kinds vs (found_type vs shared t)).drop ≡ true
+found_drops vs shared t = go (kinds vs t).drop (not shared || (kinds vs t).share) refl
   where
-    go : (a b : Bool) → (kinds vs t).share ≡ a → (kinds vs t).drop ≡ b
-        → ((kinds vs (cond (a && b) t (bang t))).drop ≡ true) × ((kinds vs (cond (a && b) t (bang t))).share ≡ true)
-    go true true e f = (f, e)
-    go true false e f = bang_free vs t
-    go false b e f = bang_free vs t
+    go : (a b : Bool) → (kinds vs t).drop ≡ a → (kinds vs (cond (a && b) t (bang t))).drop ≡ true
+    go true true e = e
+    go true false e = (bang_free vs t).0
+    go false b e = (bang_free vs t).0
 
-pub free_drops : (vs : List Kinds) (t : Tau) → (kinds vs (free_type vs t)).drop ≡ true
-free_drops vs t = (free_kinds vs t).0
+-- it may be shared where that was found
+pub found_shares : (vs : List Kinds) (shared : Bool) (t : Tau) → shared ≡ true → (kinds vs (found_type vs shared t)).share ≡ true
+found_shares vs true t s = go (kinds vs t).drop (kinds vs t).share refl
+  where
+    go : (a b : Bool) → (kinds vs t).share ≡ b → (kinds vs (cond (a && b) t (bang t))).share ≡ true
+    go true true e = e
+    go true false e = (bang_free vs t).1
+    go false b e = (bang_free vs t).1
+found_shares vs false t s = absurd (false≢true s)
 
-pub free_shares : (vs : List Kinds) (t : Tau) → (kinds vs (free_type vs t)).share ≡ true
-free_shares vs t = (free_kinds vs t).1
+-- where it wasn't found, it is asked for
+pub droppable_share : (vs : List Kinds) (t : Tau) → (kinds vs (found_type vs false t)).share ≡ not (kinds vs t).drop || (kinds vs t).share
+droppable_share vs t = go (kinds vs t).drop
+  where
+    go : (a : Bool) → (kinds vs (cond (a && true) t (bang t))).share ≡ not a || (kinds vs t).share
+    go true = refl
+    go false = (bang_free vs t).1
 
-pub ruleset context_steps = (pushed, bang_twice, free_seen, look_at, look_past, the_lemmas)
+pub ruleset context_steps = (pushed, bang_twice, found_when, found_seen, look_at, look_past, the_lemmas)

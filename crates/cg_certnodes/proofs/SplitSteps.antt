@@ -4,7 +4,7 @@ use Rattle.std.proofs.lemmas.List.{at_drop_more, at_drop_all}
 use Rattle.cg_base.specs.declared.kind.Kinds.{Kinds}
 use Rattle.cg_base.specs.declared.place.Place.{Place}
 use Rattle.cg_base.specs.Types.{Tau}
-use Rattle.cg_certnodes.proofs.ContextSteps.{free_shares}
+use Rattle.cg_certnodes.proofs.ContextSteps.{droppable_share, found_shares}
 use Rattle.cg_certnodes.specs.Contexts.{context_of, entry_of, fits_present, split_in_turn}
 use Rattle.cg_pieces.specs.View.{is_seen_at}
 use Rattle.cg_certnodes.specs.declared.context.Entry.{Entry}
@@ -153,7 +153,7 @@ fields_unless vars (f ∷ e ∷ fs) (s ∷ ss) g h =
     nothing true = refl
     nothing false = refl
 
-pub ruleset split_steps = (present_fits, gone_fits, bang_shares, free_shares, splits_seen)
+pub ruleset split_steps = (present_fits, gone_fits, bang_shares, found_shares, droppable_share, splits_seen)
 
 pub ruleset where_steps = (fits_more, fits_stop, fits_past, not_as_long)
 

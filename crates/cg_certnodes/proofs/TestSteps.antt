@@ -4,7 +4,7 @@ use Rattle.std.proofs.lemmas.List.{at_drop_more, at_drop_all, take_all, length-d
 use Rattle.cg_base.specs.declared.kind.Kinds.{Kinds}
 use Rattle.cg_base.specs.declared.ty.Ty.{the_lemmas}
 use Rattle.cg_base.specs.Types.{Tau}
-use Rattle.cg_certnodes.proofs.ContextSteps.{free_drops}
+use Rattle.cg_certnodes.proofs.ContextSteps.{found_drops}
 use Rattle.cg_certnodes.specs.Contexts.{context_of, entry_of}
 use Rattle.cg_certnodes.specs.declared.context.Entry.{Entry}
 use Rattle.cg_check_laws.proofs.Basics.{bool_is}
@@ -74,6 +74,6 @@ module _ (vars : List Kinds) where
       k ∙ ap (λ l. drops_all vars (context_of vars l)) (rest_of es i h)
       ∙ sym (but_suc es i h ∙ ap (λ b. b && drops_all vars (context_of vars (drop (suc i) es))) (sym e ∙ f))
 
-pub ruleset test_steps = (same_when, same_unless, bang_drops, free_drops, the_lemmas)
+pub ruleset test_steps = (same_when, same_unless, bang_drops, found_drops, the_lemmas)
 
 pub ruleset drop_steps = (drops_more, drops_stop, drops_past, but_past)

@@ -1,28 +1,28 @@
 -- Contexts of the second checker, and what is asked of them.
-use Rattle.std.specs.Prelude.{Bool, true, false, ◌&&◌, not, cond, Option, Some, None, List, [], ◌∷◌, map}
+use Rattle.std.specs.Prelude.{Bool, true, false, ◌&&◌, ◌||◌, not, cond, Option, Some, None, List, [], ◌∷◌, map}
 use Rattle.cg_base.specs.declared.kind.Kinds.{Kinds}
 use Rattle.cg_base.specs.Types.{Tau, type_of}
 use Rattle.cg_certnodes.specs.declared.context.Entry.{Entry}
-use Rattle.cg_certnodes.specs.declared.context.Entry.TheVariants.{Gone as Absent, Present, Free, Observed}
+use Rattle.cg_certnodes.specs.declared.context.Entry.TheVariants.{Gone as Absent, Present, Droppable, Observed}
 use Rattle.cg_core.specs.declared.derivation.Mark.{Mark}
 use Rattle.cg_core.specs.declared.derivation.Mark.TheVariants.{Gone, Left, Right, Both, Seen}
 use Rattle.cg_kinds.specs.Kinds.{bang, kinds}
 use Rattle.cg_certcheck_laws.specs.Tests.{splits}
 use Rattle.cg_typing.specs.Contexts.{Context, second}
 
--- whether a type may be shared and dropped
-abbrev pub is_free : List Kinds → Tau → Bool
-is_free vars t = (kinds vars t).share && (kinds vars t).drop
+-- whether a type may be dropped, and shared too where that is said
+abbrev pub is_found : List Kinds → Bool → Tau → Bool
+is_found vars shared t = (kinds vars t).drop && (not shared || (kinds vars t).share)
 
--- a type that may be shared and dropped: this one if it may, else this one as observed
-abbrev pub free_type : List Kinds → Tau → Tau
-free_type vars t = cond (is_free vars t) t (bang t)
+-- a type of which this was found: this one if it is so, else this one as observed
+abbrev pub found_type : List Kinds → Bool → Tau → Tau
+found_type vars shared t = cond (is_found vars shared t) t (bang t)
 
--- a variable of a context: gone, or present with its own type, with one that may be shared and dropped, or as observed
+-- a variable of a context: gone, or present with its own type, with one that may be dropped, or as observed
 abbrev pub entry_of : List Kinds → Entry → Option Tau
 entry_of vars Absent = None
 entry_of vars (Present t) = Some (type_of t.now)
-entry_of vars (Free t) = Some (free_type vars (type_of t.now))
+entry_of vars (Droppable t shared) = Some (found_type vars shared (type_of t.now))
 entry_of vars (Observed t) = Some (bang (type_of t.now))
 
 abbrev pub context_of : List Kinds → List Entry → Context

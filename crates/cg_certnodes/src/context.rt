@@ -4,7 +4,7 @@
 ghost use Rattle.std.specs.Prelude.{◌≡◌, IfOk, List, Some};
 ghost use Rattle.cg_base.specs.declared.kind.Kinds.{Kinds};
 ghost use Rattle.cg_base.specs.Types.{type_of};
-ghost use Rattle.cg_certnodes.specs.Contexts.{context_of, entry_of, free_type, is_free as is_free_of};
+ghost use Rattle.cg_certnodes.specs.Contexts.{context_of, entry_of, found_type, is_found as is_found_of};
 ghost use Rattle.cg_core.specs.declared.derivation.Mark.TheVariants.{Seen};
 ghost use Rattle.cg_kinds.specs.Kinds.{or_unit};
 ghost use Rattle.cg_pieces.specs.View.{bounds_of};
@@ -16,30 +16,32 @@ use cg_base::{Memory, Ty};
 use cg_core::Mark;
 use cg_kinds::{bang, kinds_of};
 
-/// A variable of a context: gone, or present with its type; free, where it was found when it was bound that its type may be shared and
-/// dropped; or observed by a `let!`. Only of `Present` ones a node asks for the kinds, which cost the size of the type.
+/// A variable of a context: gone, or present with its type; droppable, where it was found when it was bound that its type may be dropped,
+/// and whether it may be shared too; or observed by a `let!`. Kinds cost the size of the type: a test asks for them of `Present` ones
+/// alone, and of droppable ones where it then refuses.
 #[derive(Clone, Copy)]
 pub enum Entry<'a> {
     Gone,
     Present(&'a Ty),
-    Free(&'a Ty),
+    Droppable(&'a Ty, bool),
     Observed(&'a Ty),
 }
 
-// Whether a type may be shared and dropped.
-fn is_free(source: &Source, ty: &Ty) -> bool
-    ensures { result ≡ is_free_of (bounds_of source.now.vars.now) (type_of ty.now) }
+// Whether a type may be dropped, and shared too where that is said.
+fn is_found(source: &Source, ty: &Ty, shared: bool) -> bool
+    ensures { result ≡ is_found_of (bounds_of source.now.vars.now) shared (type_of ty.now) }
 {
     let kinds = kinds_of(ty, source.vars);
-    kinds.share && kinds.drop
+    kinds.drop && (!shared || kinds.share)
 }
 
 /// A variable that is present with this type.
 pub fn present<'a>(source: &Source, ty: &'a Ty) -> Entry<'a>
     ensures { entry_of (bounds_of source.now.vars.now) result ≡ Some (type_of ty.now) }
 {
-    if is_free(source, ty) {
-        Entry::Free(ty)
+    let kinds = kinds_of(ty, source.vars);
+    if kinds.drop {
+        Entry::Droppable(ty, kinds.share)
     } else {
         Entry::Present(ty)
     }
@@ -62,7 +64,7 @@ fn observed(entry: Entry) -> Entry
     match entry {
         Entry::Gone => Entry::Gone,
         Entry::Present(ty) => Entry::Observed(ty),
-        Entry::Free(ty) => Entry::Observed(ty),
+        Entry::Droppable(ty, _) => Entry::Observed(ty),
         Entry::Observed(ty) => Entry::Observed(ty),
     }
 }
@@ -115,7 +117,7 @@ fn lent<'a>(entry: &'a Entry) -> Entry<'a>
     match entry {
         Entry::Gone => Entry::Gone,
         Entry::Present(ty) => Entry::Present(&**ty),
-        Entry::Free(ty) => Entry::Free(&**ty),
+        Entry::Droppable(ty, shared) => Entry::Droppable(&**ty, *shared),
         Entry::Observed(ty) => Entry::Observed(&**ty),
     }
 }
@@ -183,17 +185,18 @@ pub(crate) fn is_present(context: &[Entry], var: usize) -> bool
     match entry_at(context, var) {
         Entry::Gone => false,
         Entry::Present(_) => true,
-        Entry::Free(_) => true,
+        Entry::Droppable(_, _) => true,
         Entry::Observed(_) => true,
     }
 }
 
-// A copy of a type that may be shared and dropped, and of any other as observed. Want of memory is its one refusal.
-fn free_copy(source: &Source, ty: &Ty) -> Result<Ty, Memory>
-    ensures { IfOk result (λ copy. type_of copy ≡ free_type (bounds_of source.now.vars.now) (type_of ty.now)) }
+// A copy of a type that may be dropped, and shared too where that is said, and of any other as observed. Want of memory is its one
+// refusal.
+fn found_copy(source: &Source, ty: &Ty, shared: bool) -> Result<Ty, Memory>
+    ensures { IfOk result (λ copy. type_of copy ≡ found_type (bounds_of source.now.vars.now) shared (type_of ty.now)) }
 {
     let own = ty.copy(source.alloc)?;
-    if is_free(source, ty) {
+    if is_found(source, ty, shared) {
         Ok(own)
     } else {
         Ok(bang(own))
@@ -207,7 +210,7 @@ pub fn type_at(source: &Source, context: &[Entry], var: usize) -> Result<Ty, Mem
     match entry_at(context, var) {
         Entry::Gone => Ok(Ty::Unit),
         Entry::Present(ty) => ty.copy(source.alloc),
-        Entry::Free(ty) => free_copy(source, ty),
+        Entry::Droppable(ty, shared) => found_copy(source, ty, shared),
         Entry::Observed(ty) => Ok(bang(ty.copy(source.alloc)?)),
     }
 }

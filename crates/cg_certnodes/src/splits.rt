@@ -1,12 +1,13 @@
 // Whether marks split a context.
 #![tactic(auto, using(crate::proofs::SplitSteps::split_steps))]
 
-ghost use Rattle.std.specs.Prelude.{◌≡◌, [], IfOk, None, Some, map};
+ghost use Rattle.std.specs.Prelude.{◌≡◌, [], IfOk, None, Some, false, map};
 ghost use Rattle.cg_base.specs.Types.{type_of};
-ghost use Rattle.cg_certnodes.specs.Contexts.{context_of, entry_of, fits_present as fits_present_of, split_in_turn};
+ghost use Rattle.cg_certnodes.specs.Contexts.{context_of, entry_of, fits_present as fits_present_of, found_type, split_in_turn};
 ghost use Rattle.cg_pieces.specs.View.{bounds_of, is_seen_at as is_seen_at_of};
 ghost use Rattle.cg_core.specs.Kernels.{the_field};
 ghost use Rattle.cg_core.specs.Terms.{to_named};
+ghost use Rattle.cg_kinds.specs.Kinds.{kinds};
 ghost use Rattle.cg_certcheck_laws.specs.Events.{field_strings};
 ghost use Rattle.cg_certcheck_laws.specs.Tests.{fits as fits_of, splits as splits_of, splits_where};
 
@@ -42,6 +43,26 @@ fn fits_type(source: &Source, observed: bool, mark: Mark, ty: &Ty) -> bool
     }
 }
 
+// Whether a variable that may be dropped may be shared as well, where it wasn't found when it was bound.
+fn droppable_shares(source: &Source, ty: &Ty) -> bool
+    ensures { result ≡ (kinds (bounds_of source.now.vars.now) (found_type (bounds_of source.now.vars.now) false (type_of ty.now))).share }
+{
+    let kinds = kinds_of(ty, source.vars);
+    !kinds.drop || kinds.share
+}
+
+// The same of one that may be dropped.
+fn fits_droppable(source: &Source, observed: bool, mark: Mark, ty: &Ty, shared: bool) -> bool
+    ensures { result ≡ fits_of (bounds_of source.now.vars.now) observed mark (Some (found_type (bounds_of source.now.vars.now) shared (type_of ty.now))) }
+{
+    match mark {
+        Mark::Gone => false,
+        Mark::Left | Mark::Right => !observed,
+        Mark::Both => (shared || droppable_shares(source, ty)) && !observed,
+        Mark::Seen => observed,
+    }
+}
+
 // Whether it fits one that is gone.
 fn fits_gone(observed: bool, mark: Mark) -> bool
     ensures { result ≡ fits_of [] observed mark None }
@@ -59,7 +80,7 @@ fn fits(source: &Source, observed: bool, mark: Mark, entry: Entry) -> bool
     match entry {
         Entry::Gone => fits_gone(observed, mark),
         Entry::Present(ty) => fits_type(source, observed, mark, ty),
-        Entry::Free(_) => fits_present(true, observed, mark),
+        Entry::Droppable(ty, shared) => fits_droppable(source, observed, mark, ty, shared),
         Entry::Observed(_) => fits_present(true, observed, mark),
     }
 }

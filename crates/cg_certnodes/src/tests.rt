@@ -32,7 +32,7 @@ fn entry_drops(source: &Source, entry: Entry) -> bool
     match entry {
         Entry::Gone => true,
         Entry::Present(ty) => kinds_of(ty, source.vars).drop,
-        Entry::Free(_) => true,
+        Entry::Droppable(_, _) => true,
         Entry::Observed(_) => true,
     }
 }

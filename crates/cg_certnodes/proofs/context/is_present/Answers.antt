@@ -9,8 +9,8 @@ returns-in-Gone c vars = sym (ap (λ e. is_present (entry_of vars e)) c.in-Gone.
 pub returns-in-Present : goal.returns-in-Present
 returns-in-Present c vars = sym (ap (λ e. is_present (entry_of vars e)) c.in-Present.is) ∙ ap is_present (c.entry_at.ensures vars)
 
-pub returns-in-Free : goal.returns-in-Free
-returns-in-Free c vars = sym (ap (λ e. is_present (entry_of vars e)) c.in-Free.is) ∙ ap is_present (c.entry_at.ensures vars)
+pub returns-in-Droppable : goal.returns-in-Droppable
+returns-in-Droppable c vars = sym (ap (λ e. is_present (entry_of vars e)) c.in-Droppable.is) ∙ ap is_present (c.entry_at.ensures vars)
 
 pub returns-in-Observed : goal.returns-in-Observed
 returns-in-Observed c vars = sym (ap (λ e. is_present (entry_of vars e)) c.in-Observed.is) ∙ ap is_present (c.entry_at.ensures vars)
