@@ -1,14 +1,11 @@
 -- The library on values, one line a function, for those that take no function (docs/LANGUAGE.md, "The library").
-use Rattle.std.specs.Prelude.{ℕ, zero, suc, Bool, true, false, ◌&&◌, nat_le, List, [], ◌∷◌, codes, length, get_or, if◌then◌else◌}
+use Rattle.std.specs.Prelude.{ℕ, zero, Bool, true, false, ◌&&◌, nat_le, List, [], ◌∷◌, codes, length, get_or, replicate, if◌then◌else◌}
 use Rattle.cg_base.specs.declared.fun.Lib.{Lib}
 use Rattle.cg_base.specs.declared.fun.Lib.TheVariants.{New, Free, Create, FreeArray, Length, Get, Put}
-use Rattle.cg_base.specs.Types.{Tau, unit, fields, Parts, end, part}
+use Rattle.cg_base.specs.Types.{Tau, unit, fields, piece_list}
+use Rattle.cg_value.specs.Fits.{most_elements}
 use Rattle.cg_value.specs.Forms.{answers_in, elements_in, field, number_in, pair, with_element}
 use Rattle.cg_value.specs.Values.{Val, number, nothing, chosen, parts, elements, answers, gone, to_vals}
-
--- how many elements an array may have
-abbrev pub most_elements : ℕ
-most_elements = 1048576
 
 -- the next answer of an allocator, no where none is left, and those behind it
 unfoldable pub next_answer : List Bool → Bool
@@ -28,18 +25,9 @@ maybe false made = chosen (codes "None") nothing
 abbrev pub answered : List Bool → Bool → Val → Val
 answered bs granted made = pair (answers (later_answers bs)) (maybe granted made)
 
--- so many of one thing
-unfoldable pub repeated : {A : Type 0} → A → ℕ → List A
-repeated x zero = []
-repeated x (suc n) = x ∷ repeated x n
-
-unfoldable pub count_parts : Parts → ℕ
-count_parts end = zero
-count_parts (part x t taken ps) = suc (count_parts ps)
-
 -- a new record, of which all fields are gone
 unfoldable pub new_record : Tau → Val
-new_record (fields ps sigil) = parts (to_vals (repeated gone (count_parts ps)))
+new_record (fields ps sigil) = parts (to_vals (replicate (length (piece_list ps)) gone))
 new_record _ = gone
 
 -- a new array is made: the answer is yes, and it isn't too long
@@ -54,7 +42,7 @@ first_type args = get_or args zero unit
 abbrev pub library_value : Lib → List Tau → Val → Val
 library_value New args x = answered (answers_in x) (next_answer (answers_in x)) (new_record (first_type args))
 library_value Free args x = field x 0
-library_value Create args x = answered (answers_in (field x 0)) (makes_array (answers_in (field x 0)) (number_in (field x 1))) (elements (repeated 0 (number_in (field x 1))))
+library_value Create args x = answered (answers_in (field x 0)) (makes_array (answers_in (field x 0)) (number_in (field x 1))) (elements (replicate (number_in (field x 1)) 0))
 library_value FreeArray args x = field x 0
 library_value Length args x = number (length (elements_in x))
 library_value Get args x = number (get_or (elements_in (field x 0)) (number_in (field x 1)) 0)

@@ -1,14 +1,13 @@
 // What the library makes: records, arrays, and what an allocator answers.
-#![tactic(auto, unfolding(crate::specs::Library::next_answer, crate::specs::Library::later_answers, crate::specs::Library::new_record, crate::specs::Library::repeated, cg_value::specs::Values::to_vals), using(crate::proofs::MadeSteps::made_steps))]
+#![tactic(auto, unfolding(crate::specs::Library::next_answer, crate::specs::Library::later_answers, crate::specs::Library::new_record, cg_value::specs::Values::to_vals), using(crate::proofs::MadeSteps::made_steps))]
 
-ghost use Rattle.std.specs.Prelude.{◌≡◌, IfOk, map};
+ghost use Rattle.std.specs.Prelude.{◌≡◌, IfOk, map, replicate};
 ghost use Rattle.cg_base.specs.Types.{type_of};
 ghost use Rattle.cg_lib_value.specs.Library as library;
-ghost use Rattle.cg_lib_value.specs.Library.{repeated};
 ghost use Rattle.cg_value.specs.Values.{chosen, gone, value_of};
 
 use cg_base::{Items, Memory, Name, Ty};
-use cg_value::Value;
+use cg_value::{Value, copied};
 use std::alloc::Global;
 
 /// The next answer of an allocator; no, where none is left.
@@ -19,17 +18,6 @@ pub(crate) fn next_answer(answers: &[bool]) -> bool
         [] => false,
         [answer, ..] => *answer,
     }
-}
-
-// An equal list of answers.
-fn copied(alloc: Global, answers: &[bool]) -> Result<Items<bool>, Memory>
-    ensures { IfOk result (λ copies. copies ≡ answers.now) }
-{
-    let mut copies = Items::new(alloc);
-    for answer in answers {
-        copies.push(*answer)?;
-    }
-    Ok(copies)
 }
 
 // The answers behind the next one.
@@ -82,7 +70,7 @@ pub(crate) fn answered(
 
 // So many fields that are gone.
 fn gone_fields(alloc: Global, count: usize) -> Result<Items<Value>, Memory>
-    ensures { IfOk result (λ fields. map value_of fields ≡ repeated gone count) }
+    ensures { IfOk result (λ fields. map value_of fields ≡ replicate count gone) }
 {
     let mut fields = Items::new(alloc);
     for _ in 0..count {
@@ -103,7 +91,7 @@ pub(crate) fn new_record(alloc: Global, ty: &Ty) -> Result<Value, Memory>
 
 /// So many zeros. Want of memory is its one refusal.
 pub(crate) fn zeros(alloc: Global, count: u64) -> Result<Items<u64>, Memory>
-    ensures { IfOk result (λ ns. ns ≡ repeated 0 count) }
+    ensures { IfOk result (λ ns. ns ≡ replicate count 0) }
 {
     let mut numbers = Items::new(alloc);
     for _ in 0..count {

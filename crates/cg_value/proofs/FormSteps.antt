@@ -4,7 +4,7 @@ use Rattle.std.proofs.lemmas.List.{append-nil, drop_all, map-set, take_all}
 use Rattle.std.specs.Prelude.{slice_get, slice_set}
 use Rattle.cg_value.specs.declared.value.Value.{Value, the_lemmas}
 use Rattle.cg_value.specs.declared.value.Value.TheVariants.{Array, Fields, Gone}
-use Rattle.cg_value.specs.Forms.{field, maybe_value, with_element, without}
+use Rattle.cg_value.specs.Forms.{field, maybe_value, with_element, with_field, without}
 use Rattle.cg_value.specs.Values.{Val, elements, gone, parts, to_vals, val_list, value_of}
 
 pub listed_back : (vs : List Val) → val_list (to_vals vs) ≡ vs
@@ -19,15 +19,18 @@ gone_is = search (rules, the_lemmas)
 pub set_gone : (vs : List Value) (i : ℕ) → map value_of (slice_set vs i Gone) ≡ slice_set (map value_of vs) i gone
 set_gone vs i = map-set value_of vs i Gone ∙ ap (slice_set (map value_of vs) i) gone_is
 
+pub set_value : (vs : List Value) (i : ℕ) (w : Value) → map value_of (slice_set vs i w) ≡ slice_set (map value_of vs) i (value_of w)
+set_value vs i w = map-set value_of vs i w
+
 pub get_past : (vs : List Value) (i : ℕ) → length vs ≤ i → get_or (map value_of vs) i gone ≡ gone
 get_past [] i h = refl
 get_past (v ∷ vs) zero h = absurd (omega (arith, h))
 get_past (v ∷ vs) (suc i) h = get_past vs i (omega (arith, h))
 
-pub set_past : (vs : List Value) (i : ℕ) → length vs ≤ i → slice_set (map value_of vs) i gone ≡ map value_of vs
-set_past [] i h = refl
-set_past (v ∷ vs) zero h = absurd (omega (arith, h))
-set_past (v ∷ vs) (suc i) h = ap (λ l. value_of v ∷ l) (set_past vs i (omega (arith, h)))
+pub set_past : (vs : List Value) (i : ℕ) (w : Val) → length vs ≤ i → slice_set (map value_of vs) i w ≡ map value_of vs
+set_past [] i w h = refl
+set_past (v ∷ vs) zero w h = absurd (omega (arith, h))
+set_past (v ∷ vs) (suc i) w h = ap (λ l. value_of v ∷ l) (set_past vs i w (omega (arith, h)))
 
 -- one of a record's fields is taken out
 fields_is : (vs : List Value) → value_of (Fields vs) ≡ parts (to_vals (map value_of vs))
@@ -47,6 +50,17 @@ rest_is self olds shown news i whole same long left =
     ∙ ap (λ l. parts (to_vals l)) (left ∙ ap (λ l. slice_set (map value_of l) i gone) same)
     ∙ ap (λ l. parts (to_vals (slice_set l i gone))) (sym (listed_back (map value_of olds)))
     ∙ ap (λ v. without v i) (sym (ap value_of whole ∙ fields_is olds))
+
+-- a record with another value for a field
+pub fields_are : (self : Value) (olds shown news : List Value) (i : ℕ) (w : Val) → self ≡ Fields olds → shown ≡ olds → length news ≡ length shown
+    → map value_of news ≡ slice_set (map value_of shown) i w
+    → value_of (Fields (take (length olds) (news ++ drop (length news) olds))) ≡ with_field (value_of self) i w
+unfolding with_field
+fields_are self olds shown news i w whole same long put =
+    ap (λ l. value_of (Fields l)) (refilled_is olds news (long ∙ ap length same)) ∙ fields_is news
+    ∙ ap (λ l. parts (to_vals l)) (put ∙ ap (λ l. slice_set (map value_of l) i w) same)
+    ∙ ap (λ l. parts (to_vals (slice_set l i w))) (sym (listed_back (map value_of olds)))
+    ∙ ap (λ v. with_field v i w) (sym (ap value_of whole ∙ fields_is olds))
 
 pub elements_are : (self : Value) (olds shown news : List ℕ) (i n : ℕ) → self ≡ Array olds → shown ≡ olds → length news ≡ length shown
     → news ≡ slice_set shown i n
@@ -71,9 +85,22 @@ pub field_is : (self : Value) (fs : List Value) (i : ℕ) → self ≡ Fields fs
 unfolding field
 field_is self fs i e = ap (λ l. get_or l i gone) (sym (listed_back (map value_of fs))) ∙ ap (λ v. field v i) (sym (ap value_of e ∙ fields_is fs))
 
+-- a record without a field still has each other one
+pub field_without : (v : Val) (i j : ℕ) → (i ≡ j → ⊥) → field (without v i) j ≡ field v j
+unfolding field without
+field_without (parts vs) i j h = ap (λ l. get_or l j gone) (listed_back (slice_set (val_list vs) i gone)) ∙ go (val_list vs) i j h
+  where
+    go : (vs : List Val) (i j : ℕ) → (i ≡ j → ⊥) → get_or (slice_set vs i gone) j gone ≡ get_or vs j gone
+    go [] i j h = refl
+    go (v ∷ vs) zero zero h = absurd (h refl)
+    go (v ∷ vs) zero (suc j) h = refl
+    go (v ∷ vs) (suc i) zero h = refl
+    go (v ∷ vs) (suc i) (suc j) h = go vs i j (λ e. h (ap suc e))
+field_without _ i j h = refl
+
 pub numbers_past : (ns : List ℕ) (i n : ℕ) → length ns ≤ i → slice_set ns i n ≡ ns
 numbers_past [] i n h = refl
 numbers_past (m ∷ ns) zero n h = absurd (omega (arith, h))
 numbers_past (m ∷ ns) (suc i) n h = ap (λ l. m ∷ l) (numbers_past ns i n (omega (arith, h)))
 
-pub ruleset form_steps = (at_place, numbers_past, listed_back, set_gone, get_past, set_past, the_lemmas)
+pub ruleset form_steps = (at_place, numbers_past, listed_back, set_gone, set_value, get_past, set_past, the_lemmas)

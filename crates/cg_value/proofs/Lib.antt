@@ -1,2 +1,3 @@
+mod FitSteps
 pub mod FormSteps
 mod Printing

@@ -12,10 +12,10 @@ use Rattle.cg_value.specs.Printed.{are_components, component, field_text, fields
 use Rattle.cg_value.specs.Values.{Val, to_vals, value_of}
 
 -- the bytes of names, by what is known of them
-same_when : (x y : List ℕ) → x ≡ y → bytes_eq x y ≡ true
+pub same_when : (x y : List ℕ) → x ≡ y → bytes_eq x y ≡ true
 same_when x y e = (bytes_eq-Decides x y).1 e
 
-same_unless : (x y : List ℕ) → (x ≡ y → ⊥) → bytes_eq x y ≡ false
+pub same_unless : (x y : List ℕ) → (x ≡ y → ⊥) → bytes_eq x y ≡ false
 same_unless x y ne = go (bytes_eq x y) (λ e. ne ((bytes_eq-Decides x y).0 e))
   where
     go : (b : Bool) → (b ≡ true → ⊥) → b ≡ false

@@ -19,6 +19,11 @@ unfoldable pub without : Val → ℕ → Val
 without (parts vs) i = parts (to_vals (slice_set (val_list vs) i gone))
 without v i = v
 
+-- a record with another value for a field; of what is no record, that it is gone
+unfoldable pub with_field : Val → ℕ → Val → Val
+with_field (parts vs) i w = parts (to_vals (slice_set (val_list vs) i w))
+with_field _ i w = gone
+
 abbrev pub pair : Val → Val → Val
 pair v w = parts (more v (more w none))
 

@@ -1,3 +1,7 @@
+pub mod Fits
+pub mod Foreign
 pub mod Forms
+pub mod NoForeign
 pub mod Printed
+pub mod Same
 pub mod Values

@@ -73,7 +73,7 @@ payload_text v t text = if is_unit t then [] else codes " " ++ wrapped (is_wrapp
 abbrev pub field_text : Bool → List ℕ → Bool → List ℕ → List ℕ
 field_text tuple x taken text = label tuple x ++ (if taken then codes "_" else text)
 
--- the text of a value; nothing, where it hasn't the form of the type, or the type is one of the user's
+-- the text of a value, which means something where it fits the type, in which there is no function and no user's abstract type
 unfoldable mutual
   pub printed : Val → Tau → List ℕ
   printed (number n) (word w) = decimal n

@@ -40,6 +40,16 @@ impl Value {
         }
     }
 
+    /// Whether this is the alternative of the name of these bytes.
+    pub fn is_named(&self, name: &[u8]) -> bool
+        ensures { result ≡ forms.has_name name.now (value_of self.now) }
+    {
+        match self {
+            Value::Variant(own, _) => name == own.bytes(),
+            _ => false,
+        }
+    }
+
     /// The elements of an array; none, where this is no array.
     pub fn elements(&self) -> &[u64]
         ensures { result.now ≡ forms.elements_in (value_of self.now) }
@@ -92,6 +102,15 @@ pub(crate) fn take_at(values: &mut [Value], at: usize) -> Value
         std::mem::replace(&mut values[at], Value::Gone)
     } else {
         Value::Gone
+    }
+}
+
+/// Puts a value in the place of one in a list, where there is one.
+pub(crate) fn put_at(values: &mut [Value], at: usize, value: Value)
+    ensures { map value_of values.new ≡ slice_set (map value_of values.old) at (value_of value) }
+{
+    if at < values.len() {
+        drop(std::mem::replace(&mut values[at], value));
     }
 }
 

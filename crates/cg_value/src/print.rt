@@ -13,8 +13,8 @@ use cg_base::{Items, Memory, Name, Part, Sigil, Ty};
 use itoa::Buffer;
 use std::alloc::Global;
 
-/// The text of a value at its type (docs/LANGUAGE.md, "Values"); nothing where it hasn't the form of the type, or the type is one of the
-/// user's abstract types. The one error is want of memory.
+/// The text of a value at its type (docs/LANGUAGE.md, "Values"). It means something where the value fits the type, in which there is no
+/// function and no user's abstract type; elsewhere it is what the definition says. The one error is want of memory.
 pub fn print_value(alloc: Global, value: &Value, ty: &Ty) -> Result<Vec<u8>, Memory>
     ensures { IfOk result (λ text. text.items ≡ printed (value_of value.now) (type_of ty.now)) }
 {

@@ -1,9 +1,9 @@
 // Values.
 ghost use Rattle.std.specs.Prelude.{◌≡◌, map, IfOk};
-ghost use Rattle.cg_value.specs.Forms.{field, payload_in, with_element, without};
+ghost use Rattle.cg_value.specs.Forms.{field as field_of, payload_in, with_element, with_field, without};
 ghost use Rattle.cg_value.specs.Values.{value_of};
 
-use crate::forms::{set_at, take_at};
+use crate::forms::{put_at, set_at, take_at};
 use cg_base::{Fun, Items, Memory, Name, Ty, copy_types};
 use std::alloc::Global;
 
@@ -59,7 +59,7 @@ impl Value {
     /// A field, by its position, and the record in which it is gone afterwards; gone, where there is none.
     #[tactic(auto, unfolding(crate::specs::Forms::field, crate::specs::Forms::without), using(crate::proofs::FormSteps::form_steps))]
     pub fn split_field(self, at: usize) -> (Value, Value)
-        ensures field { value_of result.0 ≡ field (value_of self) at }
+        ensures field { value_of result.0 ≡ field_of (value_of self) at }
         ensures rest { value_of result.1 ≡ without (value_of self) at }
     {
         match self {
@@ -74,11 +74,30 @@ impl Value {
 
     /// A field, by its position; gone, where there is none.
     pub fn into_field(self, at: usize) -> Value
-        ensures { value_of result ≡ field (value_of self) at }
+        ensures { value_of result ≡ field_of (value_of self) at }
     {
         let (field, rest) = self.split_field(at);
         drop(rest);
         field
+    }
+
+    /// A record with another value for a field, where there is one at this position; gone, where this is no record.
+    #[tactic(auto, unfolding(crate::specs::Forms::with_field), using(crate::proofs::FormSteps::form_steps))]
+    pub fn with_field(self, at: usize, field: Value) -> Value
+        ensures { value_of result ≡ with_field (value_of self) at (value_of field) }
+    {
+        match self {
+            Value::Fields(fields) => {
+                let mut fields = fields;
+                put_at(fields.as_mut_slice(), at, field);
+                Value::Fields(fields)
+            }
+            other => {
+                drop(other);
+                drop(field);
+                Value::Gone
+            }
+        }
     }
 
     /// An array with another number for an element, where there is one at this position; gone, where this is no array.
@@ -113,8 +132,8 @@ impl Value {
                 Ok(Value::Variant(name.copy(alloc)?, payload))
             }
             Value::Fields(values) => Ok(Value::Fields(copy_values(alloc, values)?)),
-            Value::Array(numbers) => Ok(Value::Array(copy_plain(alloc, numbers)?)),
-            Value::Answers(answers) => Ok(Value::Answers(copy_plain(alloc, answers)?)),
+            Value::Array(numbers) => Ok(Value::Array(copied(alloc, numbers.as_slice())?)),
+            Value::Answers(answers) => Ok(Value::Answers(copied(alloc, answers.as_slice())?)),
             Value::Gone => Ok(Value::Gone),
         }
     }
@@ -131,12 +150,12 @@ fn copy_values(alloc: Global, values: &Items<Value>) -> Result<Items<Value>, Mem
     Ok(copies)
 }
 
-// The same list, of items that are copied as they are.
-fn copy_plain<T: Copy>(alloc: Global, items: &Items<T>) -> Result<Items<T>, Memory>
+/// An equal list, of items that are copied as they are. The one error is want of memory.
+pub fn copied<T: Copy>(alloc: Global, items: &[T]) -> Result<Items<T>, Memory>
     ensures { IfOk result (λ copies. copies ≡ items.now) }
 {
     let mut copies = Items::new(alloc);
-    for item in items.as_slice() {
+    for item in items {
         copies.push(*item)?;
     }
     Ok(copies)

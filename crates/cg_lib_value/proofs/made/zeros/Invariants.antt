@@ -1,6 +1,6 @@
 use Rattle.std.proofs.Common.{◌≡◌}
-use Rattle.cg_lib_value.specs.Library.{repeated}
+use Rattle.std.specs.Prelude.{replicate}
 use Rattle.cg_lib_value.proofs.made.zeros.Given as goal
 
 abbrev pub invariant-loop : goal.invariant-loop
-invariant-loop l = l.numbers ≡ repeated 0 l.counter
+invariant-loop l = l.numbers ≡ replicate l.counter 0
