@@ -14,13 +14,14 @@ use Rattle.cg_ctree.specs.declared.tree.CProgram.{CProgram}
 use Rattle.cg_ctree.specs.Spells.{CSpells}
 use Rattle.cg_ctree.specs.Trees.{Program, program_of}
 use Rattle.cg_eval.specs.Evaluation.{Table, evaluation, IsSpent}
-use Rattle.cg_eval.specs.Machine.{table_of}
+use Rattle.cg_eval.specs.Foreigns.{table_of, table_over}
 use Rattle.cg_lower.specs.Lowered.{lowered}
 use Rattle.cg_lower.specs.Plainly.{Simulates}
 use Rattle.cg_lower.specs.Ranks.{bodies_of}
 use Rattle.cg_typing.specs.declared.checked.Checked.{Checked}
 use Rattle.cg_typing.specs.Holds.{kernel_in, cores_in, kept_at}
 use Rattle.cg_typing.specs.Kept.{maybe_core}
+use Rattle.cg_value.specs.NoForeign.{no_foreign}
 use Rattle.cg_value.specs.declared.value.Value.{the_lemmas}
 use Rattle.cg_value.specs.declared.value.Value.TheVariants.{Num}
 use Rattle.cg_value.specs.Values.{Val, value_of, number, function}
@@ -47,8 +48,8 @@ body_same (c ∷ cores) (suc i) = body_same cores i
 bodies_same : (cores : List (Option (Term Typed))) → bodies_of cores ≡ bodies_in (map maybe_core cores)
 bodies_same cores = λ j i. body_same cores i j
 
-table_same : (cores : List (Option (Term Typed))) → table_of cores ≡ table_in (map maybe_core cores)
-table_same cores = λ j. record (table_of cores) { body = bodies_same cores j }
+table_same : (checked : Checked) → table_of no_foreign checked ≡ table_in (functions_in checked) (cores_of checked)
+table_same checked = ap (table_over no_foreign (functions_in checked)) (bodies_same (cores_in checked))
 
 -- ---- the text
 
@@ -86,7 +87,7 @@ runs checked at arg v cost result taken n cores m is r line steps gives =
       record {
         cores = cores_of checked;
         derived = cores;
-        gives = ap (λ (t : Table). evaluation t steps (function (User at) []) (number arg)) (sym (table_same (cores_in checked))) ∙ gives ∙ ap (λ x. Some (x, cost)) (m.equal ∙ ap number (sym same));
+        gives = ap (λ (t : Table). evaluation t steps (function (User at) []) (number arg)) (sym (table_same checked)) ∙ gives ∙ ap (λ x. Some (x, cost)) (m.equal ∙ ap number (sym same));
       },
       record {
         cores = cores_of checked;
@@ -103,13 +104,13 @@ runs checked at arg v cost result taken n cores m is r line steps gives =
       },
     )
 
-pub runs_out : (checked : Checked) (at arg steps : ℕ) → HoldsCores checked → IsSpent (table_of (cores_in checked)) steps (function (User at) []) (value_of (Num arg))
+pub runs_out : (checked : Checked) (at arg steps : ℕ) → HoldsCores checked → IsSpent (table_of no_foreign checked) steps (function (User at) []) (value_of (Num arg))
     → Executes (functions_in checked) at arg steps StepLimit (step_limit_line steps)
 runs_out checked at arg steps cores out = (
   record {
     cores = cores_of checked;
     derived = cores;
-    spent = subst (λ (t : Table). IsSpent t steps (function (User at) []) (number arg)) (table_same (cores_in checked)) (subst (IsSpent (table_of (cores_in checked)) steps (function (User at) [])) (word_value arg) out);
+    spent = subst (λ (t : Table). IsSpent t steps (function (User at) []) (number arg)) (table_same checked) (subst (IsSpent (table_of no_foreign checked) steps (function (User at) [])) (word_value arg) out);
   },
   refl,
 )

@@ -162,14 +162,14 @@ given_same v w k l o a b =
 evaluates_once : (fs : List Function) (at arg steps v k w l : ℕ) → Evaluates fs at arg steps v k → Evaluates fs at arg steps w l → SameGiven v w k l
 evaluates_once fs at arg steps v k w l a b =
     let same : b.cores ≡ a.cores = one_list fs b.cores a.cores b.derived a.derived in
-    given_same v w k l (evaluation (table_in a.cores) steps (function (User at) []) (number arg)) a.gives
-    (subst (λ c. evaluation (table_in c) steps (function (User at) []) (number arg) ≡ Some (number w, l)) same b.gives)
+    given_same v w k l (evaluation (table_in fs a.cores) steps (function (User at) []) (number arg)) a.gives
+    (subst (λ c. evaluation (table_in fs c) steps (function (User at) []) (number arg) ≡ Some (number w, l)) same b.gives)
 
 not_both : (fs : List Function) (at arg steps v k : ℕ) → Evaluates fs at arg steps v k → RunsOut fs at arg steps → ⊥
 not_both fs at arg steps v k a b =
     let same : b.cores ≡ a.cores = one_list fs b.cores a.cores b.derived a.derived in
-    let none : evaluation (table_in a.cores) steps (function (User at) []) (number arg) ≡ None = subst (λ c. evaluation (table_in c) steps (function (User at) []) (number arg) ≡ None) same b.spent.none in
-    let some : evaluation (table_in a.cores) steps (function (User at) []) (number arg) ≡ Some (number v, k) = a.gives in
+    let none : evaluation (table_in fs a.cores) steps (function (User at) []) (number arg) ≡ None = subst (λ c. evaluation (table_in fs c) steps (function (User at) []) (number arg) ≡ None) same b.spent.none in
+    let some : evaluation (table_in fs a.cores) steps (function (User at) []) (number arg) ≡ Some (number v, k) = a.gives in
     absurd (cc)
 
 -- ---- the judgements

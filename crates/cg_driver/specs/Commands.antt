@@ -18,7 +18,7 @@ use Rattle.cg_desugar.specs.Faults.{NameFault, program_faults}
 use Rattle.cg_desugar.specs.Mentions.{mentions}
 use Rattle.cg_desugar.specs.Order.{AreOrdered, AreGrowing}
 use Rattle.cg_desugar.specs.Takes.{missing_fields}
-use Rattle.cg_eval.specs.Plain.{plain_kernel}
+use Rattle.cg_plain.specs.Plain.{plain_kernel}
 use Rattle.cg_faults.specs.declared.rule.Rule.{Rule}
 use Rattle.cg_faults.specs.Fails.{Fails}
 use Rattle.cg_faults.specs.Rule.{rule, type_limit}

@@ -9,12 +9,13 @@ use Rattle.cg_ctree.specs.Runs.{crun, done, typed}
 use Rattle.cg_ctree.specs.Spells.{CSpells}
 use Rattle.cg_ctree.specs.Trees.{Program, program_of}
 use Rattle.cg_eval.specs.Evaluation.{evaluation}
-use Rattle.cg_eval.specs.Machine.{table_of}
+use Rattle.cg_eval.specs.Foreigns.{table_of}
 use Rattle.cg_lower.specs.Lowered.{function_name}
 use Rattle.cg_lower.specs.Plainly.{Simulates}
 use Rattle.cg_typing.specs.declared.checked.Checked.{Checked}
 use Rattle.cg_typing.specs.Holds.{cores_in}
 use Rattle.cg_typing.specs.Kept.{maybe_core}
+use Rattle.cg_value.specs.NoForeign.{no_foreign}
 use Rattle.cg_value.specs.Values.{Val, number, function}
 use Rattle.cg_steps.specs.declared.status.Status.{Status}
 use Rattle.cg_steps.specs.declared.status.Status.TheVariants.{Done, StepLimit}
@@ -33,7 +34,7 @@ pub record Emits (checked : Checked) (program : CProgram) : Type 0 where
 
 -- evaluation gives this value at this cost, within the steps
 abbrev pub Gives : Checked → ℕ → ℕ → ℕ → Val → ℕ → Type 0
-Gives checked at arg steps value cost = evaluation (table_of (cores_in checked)) steps (function (User at) []) (number arg) ≡ Some (value, cost)
+Gives checked at arg steps value cost = evaluation (table_of no_foreign checked) steps (function (User at) []) (number arg) ≡ Some (value, cost)
 
 -- the run of the C text ends within its budget with this number, which is what evaluation gave
 pub record Machines (checked : Checked) (at arg : ℕ) (value : Val) (cost result taken : ℕ) : Type 0 where

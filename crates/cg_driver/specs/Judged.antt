@@ -9,7 +9,7 @@ use Rattle.cg_desugar.specs.Desugar.{functions_of, functions_limit, NamesStand, 
 use Rattle.cg_desugar.specs.Faults.{program_faults}
 use Rattle.cg_desugar.specs.Order.{AreOrdered, AreGrowing}
 use Rattle.cg_desugar.specs.Takes.{missing_fields}
-use Rattle.cg_eval.specs.Plain.{plain_kernel}
+use Rattle.cg_plain.specs.Plain.{plain_kernel}
 use Rattle.cg_heaptext.specs.HeapText.{HeapText}
 use Rattle.cg_lawful.specs.Lawful.{IsLawfulKernel}
 use Rattle.cg_steps.specs.declared.status.Status.{Status}

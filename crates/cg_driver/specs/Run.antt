@@ -1,5 +1,5 @@
 -- What a run of a plain source says, and why (docs/LANGUAGE.md, "Commands").
-use Rattle.std.specs.Prelude.{◌≡◌, ℕ, ◌+◌, ◌*◌, List, [], ◌∷◌, length, false, Option, Some}
+use Rattle.std.specs.Prelude.{◌≡◌, ℕ, ◌+◌, ◌*◌, List, [], ◌∷◌, length, Option, Some}
 use Rattle.cg_base.specs.declared.fun.Fun.TheVariants.{User}
 use Rattle.cg_base.specs.declared.kind.Word.TheVariants.{U32}
 use Rattle.cg_core.specs.Derivations.{Derivation}
@@ -10,10 +10,12 @@ use Rattle.cg_ctree.specs.Runs.{crun, done, typed}
 use Rattle.cg_ctree.specs.Spells.{CSpells}
 use Rattle.cg_ctree.specs.Trees.{Program}
 use Rattle.cg_eval.specs.Evaluation.{Table, evaluation, IsSpent}
+use Rattle.cg_eval.specs.Foreigns.{table_over}
 use Rattle.cg_lower.specs.Lowered.{lowered, function_name}
 use Rattle.cg_typing.specs.Holds.{kept_at}
 use Rattle.cg_typing.specs.Kept.{AreKept}
-use Rattle.cg_value.specs.Values.{number, function, gone}
+use Rattle.cg_value.specs.NoForeign.{no_foreign}
+use Rattle.cg_value.specs.Values.{number, function}
 use Rattle.cg_driver.specs.Lines.{report}
 
 -- The cores of an accepted kernel, one for each function with a body: each erases to its body, and the typing rules derive it.
@@ -25,9 +27,9 @@ AreCores functions cores = (trees : List (Option Derivation)) × AreKept functio
 abbrev pub bodies_in : List (Option (Tree Note)) → ℕ → Option (Tree Note)
 bodies_in cores i = kept_at cores i
 
--- the functions of a source, by their cores; none is abstract yet
-abbrev pub table_in : List (Option (Tree Note)) → Table
-table_in cores = record { body = bodies_in cores; takes = λ i x. false; cost = λ i x. 0; value = λ i x. gone }
+-- the functions of a source, by their cores, over no table of abstract functions
+abbrev pub table_in : List Function → List (Option (Tree Note)) → Table
+table_in functions cores = table_over no_foreign functions (bodies_in cores)
 
 -- the C text of a source
 abbrev pub emitted : List Function → List (Option (Tree Note)) → List ℕ
@@ -41,13 +43,13 @@ budget k = 32 * k + 32
 pub record Evaluates (functions : List Function) (at arg steps value cost : ℕ) : Type 0 where
   pub cores : List (Option (Tree Note))
   pub derived : AreCores functions cores
-  pub gives : evaluation (table_in cores) steps (function (User at) []) (number arg) ≡ Some (number value, cost)
+  pub gives : evaluation (table_in functions cores) steps (function (User at) []) (number arg) ≡ Some (number value, cost)
 
 -- evaluation runs out of steps: it is not stuck, and gives nothing within them
 pub record RunsOut (functions : List Function) (at arg steps : ℕ) : Type 0 where
   pub cores : List (Option (Tree Note))
   pub derived : AreCores functions cores
-  pub spent : IsSpent (table_in cores) steps (function (User at) []) (number arg)
+  pub spent : IsSpent (table_in functions cores) steps (function (User at) []) (number arg)
 
 -- The seven lines of a run of the function at a position on a word, where evaluation gives this value at this cost: the program that the C
 -- text spells, run from the same word, ends within the budget, and gives the result; the two are equal. Words have no cells, so none is

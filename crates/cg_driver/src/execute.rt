@@ -1,6 +1,6 @@
 // Running a function of a plain source twice: by evaluation, and by the steps of its C.
 ghost use Rattle.std.specs.Prelude.{◌≡◌, ◌<◌, ◌≤◌, ◌^◌, ◌+◌, ℕ, IfOk, IsTrue, length};
-ghost use Rattle.cg_eval.specs.Plain.{plain_kernel};
+ghost use Rattle.cg_plain.specs.Plain.{plain_kernel};
 ghost use Rattle.cg_value.specs.Values.{number, value_of};
 ghost use Rattle.cg_driver.specs.Executed.{Emits, Gives, Machines, Executes};
 ghost use Rattle.cg_driver.specs.Judged.{functions_in, HoldsCores};
@@ -12,7 +12,7 @@ use cg_cmachine::{RunFault, run_words};
 use cg_cread::{CFault, read_c};
 use cg_ctext::print_c;
 use cg_ctree::CProgram;
-use cg_eval::{EvalFault, eval, more_budget};
+use cg_eval::{EvalFault, eval, more_budget, plain_is_never_stuck};
 use cg_lower::{function_name, lower};
 use cg_steps::Report;
 use cg_typing::Checked;
@@ -108,6 +108,7 @@ pub(crate) fn execute(
     requires cores { HoldsCores checked.now }
     ensures { IfOk result (Reports (Executes (functions_in checked.now) at arg steps)) }
 {
+    plain_is_never_stuck();
     match eval(alloc, checked, at, Value::Num(arg), steps) {
         Ok((value, cost)) => run_c(alloc, checked, at, arg, value, cost),
         Err(EvalFault::StepLimit) => step_limit(alloc, steps),

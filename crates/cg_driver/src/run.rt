@@ -1,6 +1,6 @@
 // The command `run`.
 ghost use Rattle.std.specs.Prelude.{◌≡◌, ◌≤◌, ◌<◌, ◌^◌, ℕ, List, [], ◌∷◌, IfOk, IsTrue, length, position, bytes_eq};
-ghost use Rattle.cg_eval.specs.Plain.{plain_kernel};
+ghost use Rattle.cg_plain.specs.Plain.{plain_kernel};
 ghost use Rattle.cg_steps.specs.World.{world};
 ghost use Rattle.cg_steps.specs.Steps.{judged_first};
 ghost use Rattle.cg_steps.specs.Parts.{Concludes, Rules, Steps};
@@ -13,9 +13,9 @@ use crate::judge::{SOURCE_LIMIT, judge};
 use crate::lines::{beyond, no_entry, no_heap_text, not_built, out_of_range};
 use cg_base::Memory;
 use cg_core::KFun;
-use cg_eval::is_plain;
 use cg_heaptext::{HeapFault, read_argument};
 use cg_outside::Files;
+use cg_plain::is_plain;
 use cg_steps::{Report, Step, read_file};
 use cg_typing::Checked;
 use std::alloc::Global;

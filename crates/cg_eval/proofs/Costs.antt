@@ -3,7 +3,7 @@ use Rattle.std.proofs.Common.{◌≡◌, ℕ, zero, suc, ◌+◌, ◌-◌, ◌�
 use Rattle.std.proofs.lemmas.Bool.{ltb-false, le-ltb}
 use Rattle.cg_core.specs.Terms.{Note, Tree}
 use Rattle.cg_value.specs.Values.{Val}
-use Rattle.cg_eval.specs.Evaluation.{Outcome, spent, stuck, gives, bind, pay_for, Table, Context, apply, node, evaluate, evaluation, with_fuel, fuelled, cost_of}
+use Rattle.cg_eval.specs.Evaluation.{Outcome, spent, stuck, gives, bind, pay, pay_for, Table, Context, apply, node, evaluate, evaluation, with_fuel, fuelled, cost_of}
 use Rattle.cg_eval.specs.Laws.{MoreBudget, FuelIsFree}
 use Rattle.cg_eval.proofs.Fixed.{at_node, at_none, node_within, Within}
 use Rattle.cg_eval.proofs.Lifts.{Lifts, node_lifts, apply_lifts}
@@ -48,10 +48,18 @@ cost_shift b l m c w v j e =
           cost_at m c w i d ∙ ap (λ z. gives z i) one.0,
     )
 
+pay_shift : (b n l m : ℕ) (h k : ℕ → Outcome) → l ≤ n → ((x y : ℕ) → x ≤ n → Shift b x y (h x) (k y)) → Shift b l m (pay l h) (pay m k)
+pay_shift b n zero m h k w f v j e = absurd (cc)
+pay_shift b n (suc l) zero h k w f v j e =
+    let r = f l 0 (omega arith) v j e in (omega (arith, r.0), λ t i q. absurd (omega (arith, r.0, q)))
+pay_shift b n (suc l) (suc m) h k w f v j e =
+    let r = f l m (omega arith) v j e in (omega (arith, r.0), λ t i q. r.1 (omega (arith, t)) i (omega (arith, q)))
+
 shift_lifts : (b n : ℕ) → Lifts n (λ l r. Unit {0}) (Shift b)
 shift_lifts b n = record {
   on_gives = λ v l r w d. gives_shift b v l r;
   on_bind = λ l r o p h k w e f. bind_shift b l r o p h k e (λ v x y u. f v x y (omega (arith, u, w)) (tt {0}));
+  on_pay = λ l r h k w d f. pay_shift b n l r h k w (λ x y u. f x y u (tt {0}));
   on_stuck = λ l r w d v j e. absurd (cc);
   on_cost = λ l r c w h d. cost_shift b l r c w;
 }
@@ -119,10 +127,16 @@ cost_under n l r c w h d v j e =
     let one : (w ≡ v) × (l ≡ c + j) = cost_by l c w v j (nat_lt l c) refl e in
     (omega (arith, h, one.1), ap (λ z. pay_for c z (λ y. gives w y)) (sym d) ∙ e)
 
+pay_under : (n l r : ℕ) (h k : ℕ → Outcome) → l ≤ n → l ≡ r → ((x : ℕ) → x ≤ n → Under n (h x) (k x)) → Under n (pay l h) (pay r k)
+pay_under n zero r h k w d f v j e = absurd (cc)
+pay_under n (suc l) r h k w d f v j e =
+    let one = f l (omega arith) v j e in (one.0, ap (λ z. pay z k) (sym d) ∙ one.1)
+
 under_lifts : (n : ℕ) → Lifts n (λ l r. l ≡ r) (λ l r o p. Under n o p)
 under_lifts n = record {
   on_gives = λ v l r w d. gives_under n l r v w d;
   on_bind = λ l r o p h k w e f. bind_under n o p h k e (λ v x u. f v x x u refl);
+  on_pay = λ l r h k w d f. pay_under n l r h k w d (λ x u. f x x u refl);
   on_stuck = λ l r w d v j e. absurd (cc);
   on_cost = λ l r c w h d. cost_under n l r c w h d;
 }

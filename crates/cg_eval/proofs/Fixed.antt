@@ -2,7 +2,7 @@
 use Rattle.std.proofs.Common.{◌≡◌, ℕ, zero, suc, ◌-◌, ◌≤◌, Bool, true, false, cond, nat_lt, refl, ap, ◌∙◌, arith}
 use Rattle.cg_core.specs.Terms.{Note, Tree}
 use Rattle.cg_value.specs.Values.{Val}
-use Rattle.cg_eval.specs.Evaluation.{Outcome, spent, stuck, gives, bind, pay_for, Table, Context, Run, apply, node, with_fuel, evaluate}
+use Rattle.cg_eval.specs.Evaluation.{Outcome, spent, stuck, gives, bind, pay, pay_for, Table, Context, Run, apply, node, with_fuel, evaluate}
 use Rattle.cg_eval.proofs.Lifts.{Lifts, Both, node_lifts, apply_lifts}
 
 -- no more than n is left
@@ -41,10 +41,16 @@ cost_like : (n l c : ℕ) (w : Val) (b : Bool) → l ≤ n → Like n (cond b sp
 cost_like n l c w true h = record { same = refl; within = tt }
 cost_like n l c w false h = record { same = refl; within = omega arith }
 
+pay_like : (n l : ℕ) (h k : ℕ → Outcome) → l ≤ n → ((a : ℕ) → a ≤ n → Like n (h a) (k a)) → Like n (pay l h) (pay l k)
+pay_like n zero h k w f = record { same = refl; within = tt }
+pay_like n (suc l) h k w f = f l (omega arith)
+
 like_lifts : (n : ℕ) → Lifts n (λ l r. l ≡ r) (λ l r o p. Like n o p)
 like_lifts n = record {
   on_gives = λ v l r w d. record { same = ap (gives v) d; within = w };
   on_bind = λ l r o p h k w e f. bind_like n o p h k e (λ v m u. f v m m u refl);
+  on_pay = λ l r h k w d f. let q = pay_like n l h k w (λ a u. f a a u refl) in
+      record { same = q.same ∙ ap (λ z. pay z k) d; within = q.within };
   on_stuck = λ l r w d. record { same = refl; within = tt };
   on_cost = λ l r c w h d. let q = cost_like n l c w (nat_lt l c) h in
       record { same = q.same ∙ ap (λ z. pay_for c z (λ y. gives w y)) d; within = q.within };

@@ -1,7 +1,7 @@
+mod AskSteps
 pub mod Costs
+mod EvaluationRows
 pub mod Fixed
 pub mod Lifts
 pub mod NotStuck
-pub mod PlainSteps
 pub mod Steps
-pub mod WordSums

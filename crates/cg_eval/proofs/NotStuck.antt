@@ -14,13 +14,14 @@ use Rattle.cg_core.specs.Kernels.{Function, Body, kernel_of, the_core}
 use Rattle.cg_core.specs.Terms.{Note, Tree, term, Shape, var, lit, fun, op, app, lets, Trees, none, more, erased, erased_shape, erased_trees}
 use Rattle.cg_typing.specs.Accepted.{kinds_of_vars}
 use Rattle.cg_typing.specs.declared.checked.Checked.{Checked}
-use Rattle.cg_typing.specs.Holds.{kernel_in, cores_in, trees_in}
+use Rattle.cg_typing.specs.Holds.{kernel_in, cores_in, kept_at, trees_in}
 use Rattle.cg_typing.specs.Kept.{maybe_core, maybe_tree, IsKeptMaybe, AreKept}
+use Rattle.cg_value.specs.Foreign.{Foreign}
 use Rattle.cg_value.specs.Values.{Val, function}
 use Rattle.cg_eval.specs.Evaluation.{Outcome, spent, stuck, gives, bind, Table, Context, only, Run, enter, apply, node_shape, with_fuel, evaluate, outcome, evaluation, cost_of}
 use Rattle.cg_eval.specs.Laws.{PlainIsNeverStuck}
-use Rattle.cg_eval.specs.Machine.{table_of}
-use Rattle.cg_eval.specs.Plain.{plain, plain_shape, plain_operands, plain_called, plain_body, plain_function, plain_kernel, is_word_to_word}
+use Rattle.cg_eval.specs.Foreigns.{table_of, table_over}
+use Rattle.cg_plain.specs.Plain.{plain, plain_shape, plain_operands, plain_called, plain_body, plain_function, plain_kernel, is_word_to_word}
 
 abbrev pub Fine : Outcome → Type 0
 Fine o = o ≡ stuck → ⊥
@@ -67,7 +68,7 @@ mutual
 -- the functions of a plain table have plain bodies
 pub record IsPlainTable (n : ℕ) (table : Table) (i : ℕ) : Type 0 where
   pub core : Tree Note
-  pub there : table.body i ≡ Some core
+  pub there : table.body i [] ≡ Some (record { term = core; types = [] })
   pub plain : plain n core ≡ true
 
 module _ (n : ℕ) (table : Table) (bodies : (i : ℕ) → i < n → IsPlainTable n table i) where
@@ -80,7 +81,7 @@ module _ (n : ℕ) (table : Table) (bodies : (i : ℕ) → i < n → IsPlainTabl
   enter_fine : (run : Run) → FineRun run → (i : ℕ) (x : Val) (l : ℕ) → i < n → Fine (apply table run (function (User i) []) x l)
   enter_fine run f i x l h e =
       let b = bodies i h in
-      f b.core (only x) l b.plain (sym (ap (enter table run i x l) b.there) ∙ e)
+      f b.core (only [] x) l b.plain (sym (ap (enter table run i x l) b.there) ∙ e)
 
   call_fine : (run : Run) → FineRun run → FineMention run → (f x : Tree Note) (c : Context) (l : ℕ) → plain_called n f ≡ true → plain n x ≡ true
       → Fine (bind (run f c l) (λ v m. bind (run x c m) (λ w k. apply table run v w k)))
@@ -117,36 +118,42 @@ module _ (n : ℕ) (table : Table) (bodies : (i : ℕ) → i < n → IsPlainTabl
   unfolding evaluate
   apply_fine i x l h e = enter_fine (evaluate table) (λ t c m. fuel_fine m t c m) i x l h e
 
+-- the functions of a source by the cores that are kept of it, whatever the table of abstract functions
+abbrev pub table_by : Foreign → List Function → List (Option (Term Typed)) → Table
+table_by x functions cores = table_over x functions (λ i. maybe_core (kept_at cores i))
+
 -- the core that is kept of a plain function
-table_next : (n : ℕ) (c : Option (Term Typed)) (cores : List (Option (Term Typed))) (i : ℕ) → IsPlainTable n (table_of cores) i → IsPlainTable n (table_of (c ∷ cores)) (suc i)
-table_next n c cores i t = record { core = t.core; there = t.there; plain = t.plain }
+module _ (x : Foreign) (n : ℕ) (functions : List Function) where
+  table_next : (c : Option (Term Typed)) (cores : List (Option (Term Typed))) (i : ℕ) → IsPlainTable n (table_by x functions cores) i → IsPlainTable n (table_by x functions (c ∷ cores)) (suc i)
+  table_next c cores i t = record { core = t.core; there = t.there; plain = t.plain }
 
-kept_one : (n : ℕ) (functions : List Function) (vars : List Kinds) (argument result : Tau) (body : Option Body) (c : Option (Term Typed)) (d : Option Deriv) (cores : List (Option (Term Typed)))
-    → IsKeptMaybe functions vars argument result body (maybe_core c) (maybe_tree d) → plain_body n body ≡ true → IsPlainTable n (table_of (c ∷ cores)) zero
-kept_one n functions vars argument result None c d cores k p = absurd (cc)
-kept_one n functions vars argument result (Some body) None d cores k p = absurd k
-kept_one n functions vars argument result (Some body) (Some c) None cores k p = absurd k
-kept_one n functions vars argument result (Some body) (Some c) (Some d) cores k p =
-    record { core = the_core c; there = refl; plain = sym (core_plain n (the_core c)) ∙ ap (plain n) k.erases ∙ p }
+  kept_one : (vars : List Kinds) (argument result : Tau) (body : Option Body) (c : Option (Term Typed)) (d : Option Deriv) (cores : List (Option (Term Typed)))
+      → IsKeptMaybe functions vars argument result body (maybe_core c) (maybe_tree d) → plain_body n body ≡ true → IsPlainTable n (table_by x functions (c ∷ cores)) zero
+  kept_one vars argument result None c d cores k p = absurd (cc)
+  kept_one vars argument result (Some body) None d cores k p = absurd k
+  kept_one vars argument result (Some body) (Some c) None cores k p = absurd k
+  kept_one vars argument result (Some body) (Some c) (Some d) cores k p =
+      record { core = the_core c; there = refl; plain = sym (core_plain n (the_core c)) ∙ ap (plain n) k.erases ∙ p }
 
-pub kept_plain : (n : ℕ) (functions fs : List Function) (cores : List (Option (Term Typed))) (trees : List (Option Deriv)) (i : ℕ)
-    → AreKept functions fs (map maybe_core cores) (map maybe_tree trees) → list_all (plain_function n) fs ≡ true → i < length fs → IsPlainTable n (table_of cores) i
-unfolding plain_function
-kept_plain n functions [] cores trees i k p h = absurd (omega arith)
-kept_plain n functions (f ∷ fs) [] trees i k p h = absurd k
-kept_plain n functions (f ∷ fs) (c ∷ cores) [] i k p h = absurd k
-kept_plain n functions (f ∷ fs) (c ∷ cores) (d ∷ trees) (suc i) k p h =
-    table_next n c cores i (kept_plain n functions fs cores trees i k.1 (and_right (plain_function n f) (list_all (plain_function n) fs) p) (omega arith))
-kept_plain n functions (f ∷ fs) (c ∷ cores) (d ∷ trees) zero k p h =
-    let one : plain_function n f ≡ true = and_left (plain_function n f) (list_all (plain_function n) fs) p in
-    kept_one n functions (kinds_of_vars f) k.0.argument k.0.result f.body c d cores k.0.kept (and_right (is_word_to_word f.ty.ty) (plain_body n f.body) one)
+  pub kept_plain : (fs : List Function) (cores : List (Option (Term Typed))) (trees : List (Option Deriv)) (i : ℕ)
+      → AreKept functions fs (map maybe_core cores) (map maybe_tree trees) → list_all (plain_function n) fs ≡ true → i < length fs → IsPlainTable n (table_by x functions cores) i
+  unfolding plain_function
+  kept_plain [] cores trees i k p h = absurd (omega arith)
+  kept_plain (f ∷ fs) [] trees i k p h = absurd k
+  kept_plain (f ∷ fs) (c ∷ cores) [] i k p h = absurd k
+  kept_plain (f ∷ fs) (c ∷ cores) (d ∷ trees) (suc i) k p h =
+      table_next c cores i (kept_plain fs cores trees i k.1 (and_right (plain_function n f) (list_all (plain_function n) fs) p) (omega arith))
+  kept_plain (f ∷ fs) (c ∷ cores) (d ∷ trees) zero k p h =
+      let one : plain_function n f ≡ true = and_left (plain_function n f) (list_all (plain_function n) fs) p in
+      kept_one (kinds_of_vars f) k.0.argument k.0.result f.body c d cores k.0.kept (and_right (is_word_to_word f.ty.ty) (plain_body n f.body) one)
 
 -- a checked source that is plain
-pub never_stuck : (checked : Checked) (i : ℕ) (x : Val) (l : ℕ) → plain_kernel (kernel_of (kernel_in checked)) ≡ true → i < length (kernel_of (kernel_in checked))
-    → apply (table_of (cores_in checked)) (evaluate (table_of (cores_in checked))) (function (User i) []) x l ≡ stuck → ⊥
-never_stuck checked i x l p h e =
+pub never_stuck : (foreign : Foreign) (checked : Checked) (i : ℕ) (x : Val) (l : ℕ) → plain_kernel (kernel_of (kernel_in checked)) ≡ true → i < length (kernel_of (kernel_in checked))
+    → apply (table_of foreign checked) (evaluate (table_of foreign checked)) (function (User i) []) x l ≡ stuck → ⊥
+never_stuck foreign checked i x l p h e =
     let functions = kernel_of (kernel_in checked) in
-    not_there checked.kept (λ k. apply_fine (length functions) (table_of (cores_in checked)) (λ j w. kept_plain (length functions) functions functions (cores_in checked) (trees_in checked) j k p w) i x l h e)
+    not_there checked.kept (λ k. apply_fine (length functions) (table_of foreign checked)
+    (λ j w. kept_plain foreign (length functions) functions functions (cores_in checked) (trees_in checked) j k p w) i x l h e)
 
 -- what gives no value and isn't stuck is spent
 only_spent : (table : Table) (n : ℕ) (o : Outcome) → Fine o → cost_of table n o ≡ None → o ≡ spent
@@ -159,5 +166,5 @@ unfolding evaluation
 none_is_spent table n f x fine = (only_spent table n (outcome table n f x) fine, λ e. ap (cost_of table n) e)
 
 pub plain_is_never_stuck : PlainIsNeverStuck
-plain_is_never_stuck checked i n x p h =
-    let fine = never_stuck checked i x n p h in (fine, none_is_spent (table_of (cores_in checked)) n (function (User i) []) x fine)
+plain_is_never_stuck foreign checked i n x p h =
+    let fine = never_stuck foreign checked i x n p h in (fine, none_is_spent (table_of foreign checked) n (function (User i) []) x fine)

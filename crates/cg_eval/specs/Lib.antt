@@ -1,4 +1,4 @@
 pub mod Evaluation
+pub mod Foreigns
 pub mod Laws
 pub mod Machine
-pub mod Plain

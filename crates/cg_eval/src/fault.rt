@@ -13,7 +13,7 @@ pub enum EvalFault {
 }
 
 /// The machine halts without a value: the steps are too few, what is asked for has no meaning, or memory is wanting.
-#[derive(Clone, Copy, Debug, PartialEq, Eq)]
+#[derive(Clone, Copy)]
 pub(crate) enum Halt {
     StepLimit,
     Stuck,

@@ -5,7 +5,9 @@ use Rattle.cg_base.specs.declared.place.Place.{Place}
 use Rattle.cg_core.specs.declared.op.Op.TheVariants.{Add}
 use Rattle.cg_core.specs.Terms.{Note, Tree, term, fun, op, app, lets, none, more}
 use Rattle.cg_value.specs.Values.{Val, function}
-use Rattle.cg_eval.specs.Evaluation.{Outcome, spent, stuck, gives, bind, Table, Context, push, sum_at, evaluate, node, node_shape, apply}
+use Rattle.cg_eval.specs.Evaluation.{Outcome, spent, stuck, gives, bind, Table, Context, push, evaluate, node, node_shape, apply}
+use Rattle.cg_operations.specs.Operators.{operated_both}
+use Rattle.cg_typing.specs.Rules.{type_at}
 use Rattle.cg_eval.proofs.Fixed.{at_node, at_none}
 
 pub gives_is : (u v : Val) (i j : ℕ) → gives u i ≡ gives v j → (u ≡ v) × (i ≡ j)
@@ -41,13 +43,13 @@ module _ (table : Table) where
     pub left : ℕ
     pub first_gives : evaluate table a c l ≡ gives first left
     pub second_gives : evaluate table b c left ≡ gives second e
-    pub is : v ≡ sum_at note.ty first second
+    pub is : v ≡ operated_both Add (type_at a) first second
 
   pub sum_is : (note : Note) (a b : Tree Note) (c : Context) (l : ℕ) (v : Val) (e : ℕ) → node_shape table (evaluate table) note (op Add (more a (more b none))) c l ≡ gives v e → Sum note a b c l v e
   sum_is note a b c l v e q =
       let x = two_is (evaluate table a c l) _ v e q in
       let y = two_is (evaluate table b c x.left) _ v e x.second in
-      let z = gives_is (sum_at note.ty x.value y.value) v y.left e y.second in
+      let z = gives_is (operated_both Add (type_at a) x.value y.value) v y.left e y.second in
       record { first = x.value; second = y.value; left = x.left; first_gives = x.first; second_gives = y.first ∙ ap (gives y.value) z.1; is = sym z.0 }
 
   -- a `let`

@@ -1,6 +1,7 @@
 -- Lowered functions, and programs of them.
 use Rattle.std.proofs.Common.{◌≡◌, ℕ, zero, suc, ◌+◌, ◌*◌, ◌-◌, ◌^◌, ◌<◌, ◌≤◌, false, Option, Some, None, List, [], ◌∷◌, ◌++◌, refl, sym, ap, ◌∙◌, subst, arith, bytes_eq, ⊎_elim}
 use Rattle.std.specs.List.{Contains}
+use Rattle.std.specs.Option.{option_map}
 use Rattle.std.proofs.lemmas.Bool.{cases_lt}
 use Rattle.cg_base.specs.declared.fun.Fun.TheVariants.{User}
 use Rattle.cg_base.specs.declared.kind.Word.TheVariants.{U32}
@@ -11,7 +12,7 @@ use Rattle.cg_ctree.specs.Trees.{Program, Function, Block, return', to_block}
 use Rattle.cg_value.specs.Values.{Val, number, function}
 use Rattle.cg_eval.specs.Evaluation.{Outcome as Result, spent, stuck, gives, Table, enter as enters, evaluate, apply, evaluation, cost_of, only}
 use Rattle.cg_lower.specs.Lowered.{local, locals, declared, argument, path, word, function_name, low_body, function_at, with_function, functions_at, program_in}
-use Rattle.cg_lower.specs.Simulated.{AreWordBodies, AreNamedApart, LoweringSimulates}
+use Rattle.cg_lower.specs.Simulated.{AreBodiesOf, AreWordBodies, AreNamedApart, LoweringSimulates}
 use Rattle.cg_lower.proofs.Names.{split, itself, number_is, argument_old}
 use Rattle.cg_lower.proofs.Frames.{HasVar, Has, Holds, holds_found}
 use Rattle.cg_lower.proofs.Steps.{Runs, runs_return, Answers}
@@ -117,25 +118,27 @@ cost_is table n (gives u e) v k q =
     let a : Val × ℕ = (u, n - e) in let b : Val × ℕ = (v, k) in let r : a ≡ b = cc in
     (e, ap (λ z. gives z e) (ap (λ z. z.0) r), ap (λ z. z.1) r)
 
-module _ (table : Table) (n : ℕ) (order : List ℕ) (bodies : AreWordBodies table.body n) (there : (i : ℕ) → i < n → Contains order i) (names : AreNamedApart table.body n order) where
+module _ (table : Table) (cores : ℕ → Option (Tree Note)) (n : ℕ) (order : List ℕ) (same : AreBodiesOf table cores) (bodies : AreWordBodies cores n)
+    (there : (i : ℕ) → i < n → Contains order i) (names : AreNamedApart cores n order) where
   abbrev program : Program
-  program = program_in table.body order
+  program = program_in cores order
 
   -- one function, where the calls inside are right
   record Body (i x : ℕ) (v : Val) (l e : ℕ) : Type 0 where
     core : Tree Note
-    found : find (function_name i) (functions_at table.body order) ≡ Some (function_at i core)
+    found : find (function_name i) (functions_at cores order) ≡ Some (function_at i core)
     ran : Ran program 0 (begins x (low_body core).count) (low_body core) v l e
 
   body_ran : (most : ℕ) → CallsRun program table n most → (i x l e : ℕ) (v : Val) → i < n → x < 2 ^ 32 → l ≤ most → apply table (evaluate table) (function (User i) []) (number x) l ≡ gives v e → Body i x v l e
   body_ran most calls i x l e v hi hx hl q =
       let b = bodies i hi in
       let t = b.0 in
-      let given : evaluate table t (only (number x)) l ≡ gives v e = sym (ap (enters table (evaluate table) i (number x) l) b.1) ∙ q in
+      let body = same i ∙ ap (option_map (λ core. record { term = core; types = [] })) b.1 in
+      let given : evaluate table t (only [] (number x)) l ≡ gives v e = sym (ap (enters table (evaluate table) i (number x) l) body) ∙ q in
       record {
         core = t;
-        found = find_at table.body order i t names.0 (there i hi) b.1;
-        ran = simulate program table n most calls t 0 1 (Path (path argument) ∷ []) (only (number x)) (begins x (low_body t).count) l e v b.2
+        found = find_at cores order i t names.0 (there i hi) b.1;
+        ran = simulate program table n most calls t 0 1 (Path (path argument) ∷ []) (only [] (number x)) (begins x (low_body t).count) l e v b.2
             (x, refl, begins_holds x (low_body t).count hx, argument_old 0, tt) (begins_has x (low_body t).count) (omega (arith, names.1 i t hi b.1)) hl given;
       }
 
@@ -170,4 +173,4 @@ module _ (table : Table) (n : ℕ) (order : List ℕ) (bodies : AreWordBodies ta
       )
 
 pub lowering_simulates : LoweringSimulates
-lowering_simulates table n order bodies there names = simulates table n order bodies there names
+lowering_simulates table cores n order same bodies there names = simulates table cores n order same bodies there names

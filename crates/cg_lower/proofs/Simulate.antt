@@ -13,7 +13,8 @@ use Rattle.cg_ctree.specs.declared.tree.CRhs.TheVariants.{Call}
 use Rattle.cg_ctree.specs.Runs.{Frame, set}
 use Rattle.cg_ctree.specs.Trees.{assign, Program}
 use Rattle.cg_value.specs.Values.{Val, number, function, gone}
-use Rattle.cg_eval.specs.Evaluation.{gives, Table, Context, push, sum_at, evaluate, apply}
+use Rattle.cg_eval.specs.Evaluation.{gives, Table, Context, push, evaluate, apply}
+use Rattle.cg_operations.specs.Operators.{operated_both}
 use Rattle.cg_lower.specs.Lowered.{local, path, function_name, Low, leaf, low_sum, low_let, low_call, low}
 use Rattle.cg_lower.specs.Simulated.{IsWordTerm}
 use Rattle.cg_lower.proofs.Names.{older}
@@ -65,15 +66,15 @@ module _ (p : Program) where
         under = under_more k (k + 0) o (omega arith) u;
       }
 
-  sum_value : (u w v : Val) (x y : ℕ) → v ≡ sum_at (word_type U32) u w → u ≡ number x → w ≡ number y → v ≡ number ((x + y) % 2 ^ 32)
-  unfolding sum_at
-  sum_value u w v x y e f g = e ∙ ap (λ z. sum_at (word_type U32) z w) f ∙ ap (λ z. sum_at (word_type U32) (number x) z) g
+  sum_value : (u w v : Val) (x y : ℕ) → v ≡ operated_both Plus (word_type U32) u w → u ≡ number x → w ≡ number y → v ≡ number ((x + y) % 2 ^ 32)
+  unfolding operated_both
+  sum_value u w v x y e f g = e ∙ ap (λ z. operated_both Plus (word_type U32) z w) f ∙ ap (λ z. operated_both Plus (word_type U32) (number x) z) g
 
   sum_small : (x y : ℕ) → (x + y) % 2 ^ 32 < 2 ^ 32
   sum_small x y = mod-lt (x + y) (omega arith)
 
   sum_ran : (k : ℕ) (fr : Frame) (A B : Low) (u w v : Val) (l i e : ℕ) → (a : Ran p k fr A u l i) → Ran p (k + A.count) a.frame B w i e
-      → v ≡ sum_at (word_type U32) u w → Has fr k (A.count + B.count + 1) → k + (A.count + B.count + 1) < 2 ^ 64 → Ran p k fr (low_sum k A B) v (suc l) e
+      → v ≡ operated_both Plus (word_type U32) u w → Has fr k (A.count + B.count + 1) → k + (A.count + B.count + 1) < 2 ^ 64 → Ran p k fr (low_sum k A B) v (suc l) e
   sum_ran k fr A B u w v l i e a b q has bound =
       let to = k + (A.count + B.count) in
       let r = (a.result + b.result) % 2 ^ 32 in
@@ -176,7 +177,7 @@ module _ (p : Program) where
         let rb : Ran p (k + A.count) ra.frame B s.second s.left e =
         hb (k + A.count) depth os c ra.frame s.left e s.second w.2 (env_later k (k + A.count) fr ra.frame depth os c.values (omega arith) ra.grows env)
         (λ j i h. ra.grows.vars (local j) (has j (omega arith) (omega arith))) (omega (arith, bound)) (omega (arith, le, t.paid, ra.paid)) s.second_gives in
-        let value : v ≡ sum_at (word_type U32) s.first s.second = s.is ∙ ap (λ z. sum_at z s.first s.second) w.0 in
+        let value : v ≡ operated_both Plus (word_type U32) s.first s.second = s.is ∙ ap (λ z. operated_both Plus z s.first s.second) w.0 in
         subst (λ z. Ran p k fr (low_sum k A B) v z e) (sym t.paid) (sum_ran k fr A B s.first s.second v t.left s.left e ra rb value has bound)
 
     sim_let : (note : Note) (place : Place) (a b : Tree Note) → Sim a → Sim b → Sim (term note (lets place a b))

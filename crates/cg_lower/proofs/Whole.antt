@@ -1,10 +1,11 @@
 -- The C program of a plain source gives what evaluation gives.
-use Rattle.std.proofs.Common.{◌≡◌, ℕ, ◌+◌, ◌<◌, ◌^◌, List, length, sym, ap, subst, ◌∙◌, arith}
+use Rattle.std.proofs.Common.{◌≡◌, ℕ, ◌+◌, ◌<◌, ◌^◌, List, length, refl, sym, ap, subst, ◌∙◌, arith}
 use Rattle.cg_core.specs.Kernels.{kernel_of}
 use Rattle.cg_ctree.specs.Trees.{Program}
-use Rattle.cg_eval.specs.Machine.{table_of}
+use Rattle.cg_eval.specs.Foreigns.{table_of}
 use Rattle.cg_typing.specs.declared.checked.Checked.{Checked}
 use Rattle.cg_typing.specs.Holds.{kernel_in, cores_in}
+use Rattle.cg_value.specs.NoForeign.{no_foreign}
 use Rattle.cg_lower.specs.Lowered.{lowered, in_order}
 use Rattle.cg_lower.specs.Plainly.{Simulates}
 use Rattle.cg_lower.specs.Ranks.{bodies_of, AllFew, by_rank, ranks_at}
@@ -19,7 +20,7 @@ simulated_at : (checked : Checked) (n : ℕ) → n ≡ length (kernel_of (kernel
 simulated_at checked n e few all p i m k x v h l g =
     let bodies = bodies_of (cores_in checked) in
     let functions = length (kernel_of (kernel_in checked)) in
-    lowering_simulates (table_of (cores_in checked)) functions (in_order bodies functions) (plain_bodies_are_words checked p) (stands bodies functions (no_more checked))
+    lowering_simulates (table_of no_foreign checked) bodies functions (in_order bodies functions) (λ j. refl) (plain_bodies_are_words checked p) (stands bodies functions (no_more checked))
     ((λ j c. omega (arith, few, e, stands_below bodies functions (no_more checked) j c)), λ j t w b. few_at bodies (in_order bodies functions) j all (stands bodies functions (no_more checked) j w) t b)
     i m k x v h l g
 

@@ -18,8 +18,9 @@ use Rattle.cg_core.specs.Derivations.{Derivation}
 use Rattle.cg_core.specs.Kernels.{Function, Body, kernel_of}
 use Rattle.cg_core.specs.Terms.{Note, Tree, term, Shape, var, lit, fun, op, app, lets, none, more}
 use Rattle.cg_kinds.specs.Kinds.{bang, subst as with_args}
-use Rattle.cg_eval.proofs.NotStuck.{and_left, and_right, core_plain, kept_plain}
+use Rattle.cg_eval.proofs.NotStuck.{and_left, and_right, core_plain, kept_plain, table_by, IsPlainTable}
 use Rattle.cg_typing.specs.Accepted.{kinds_of_vars}
+use Rattle.cg_value.specs.NoForeign.{no_foreign}
 use Rattle.cg_typing.specs.Holds.{kernel_in, cores_in, trees_in, kept_at}
 use Rattle.cg_typing.specs.Kept.{maybe_core, maybe_tree, IsKeptMaybe, AreKept}
 use Rattle.cg_lower.specs.Plainly.{PlainBodiesAreWords}
@@ -29,7 +30,7 @@ use Rattle.cg_typing.specs.Functions.{fun_type}
 use Rattle.cg_typing.specs.Operators.{arithmetic, operand}
 use Rattle.cg_typing.specs.Rules.{Meets, type_at, is_literal, InRange, Derives, DerivesShape}
 use Rattle.cg_typing.specs.Trees.{sub, marks_of}
-use Rattle.cg_eval.specs.Plain.{plain, plain_shape, plain_body, plain_function, is_word_to_word}
+use Rattle.cg_plain.specs.Plain.{plain, plain_shape, plain_body, plain_function, is_word_to_word}
 use Rattle.cg_lower.specs.Simulated.{IsWordTerm, IsWordShape}
 
 u32 : Tau
@@ -160,7 +161,7 @@ module _ (functions : List Function) (vars : List Kinds) (n : ℕ) (signatures :
         let right : Asks (operand arithmetic direction (is_literal x) (type_at y)) → IsWordTerm n (length (second (marks_of d) g)) y × (type_at y ≡ word U32) =
         λ b. term_words (second (marks_of d) g) (sub d 1) (operand arithmetic direction (is_literal x) (type_at y)) y r.right (and_right (plain n x) (plain n y) p) (second_words (marks_of d) g w) b in
         let both = sum_words direction note.ty (type_at x) (type_at y) (is_literal x) r.meets a left right r.alike r.is in
-        ((both.2, deeper n _ (length g) x (first_long (marks_of d) g r.splits.long) both.0, deeper n _ (length g) y (second_long (marks_of d) g r.splits.long) both.1), both.2)
+        ((sym r.is ∙ both.2, deeper n _ (length g) x (first_long (marks_of d) g r.splits.long) both.0, deeper n _ (length g) y (second_long (marks_of d) g r.splits.long) both.1), both.2)
     shape_words g d direction note (app (term at (fun (User i) [])) x) r p w a =
         let s : at.ty ≡ arrow (word U32) (word U32) = signatures i at.ty r.function.is in
         let parts = arrow_parts (word U32) (word U32) (type_at x) note.ty (sym s ∙ r.is_arrow) in
@@ -205,7 +206,7 @@ mutual
   shape_stable n depth note (var i) h = less_stable i depth h
   shape_stable n depth note (lit (Some value)) h = less_stable value (2 ^ 32) h
   shape_stable n depth note (op Add (more a (more b none))) h =
-      three_stable (note.ty ≡ word U32) (IsWordTerm n depth a) (IsWordTerm n depth b) (type_stable note.ty) (term_stable n depth a) (term_stable n depth b) h
+      three_stable (type_at a ≡ word U32) (IsWordTerm n depth a) (IsWordTerm n depth b) (type_stable (type_at a)) (term_stable n depth a) (term_stable n depth b) h
   shape_stable n depth note (lets binder e k) h = pair_stable (IsWordTerm n depth e) (IsWordTerm n (suc depth) k) (term_stable n depth e) (term_stable n (suc depth) k) h
   shape_stable n depth note (app (term at (fun (User f) [])) x) h = pair_stable (f < n) (IsWordTerm n depth x) (less_stable f n) (term_stable n depth x) h
   shape_stable n depth note _ h = absurd (h (λ x. x))
@@ -259,8 +260,10 @@ there : (o : Option (Tree Note)) → ((o ≡ None) → ⊥) → (t : Tree Note) 
 there None h = absurd (h refl)
 there (Some t) h = (t, refl)
 
-no_core : (o : Option (Tree Note)) (t : Tree Note) → o ≡ Some t → o ≡ None → ⊥
-no_core o t e h = absurd (cc)
+no_core : (functions : List Function) (n i : ℕ) (cores : List (Option (Term Typed))) (o : Option (Tree Note)) → IsPlainTable n (table_by no_foreign functions cores) i → o ≡ maybe_core (kept_at cores i) → o ≡ None → ⊥
+no_core functions n i cores o t same h =
+    let bad : (table_by no_foreign functions cores).body i [] ≡ None = ap (option_map (λ core. record { term = core; types = [] })) (sym same ∙ h) in
+    let good = t.there in absurd (cc)
 
 pub plain_bodies_are_words : PlainBodiesAreWords
 plain_bodies_are_words checked p i h =
@@ -268,7 +271,7 @@ plain_bodies_are_words checked p i h =
     let n = length functions in
     let signatures : (j : ℕ) (t : Tau) → fun_type functions (User j) [] ≡ Some t → t ≡ arrow (word U32) (word U32) = λ j t e. signature_is n functions j t p e in
     let found = there (bodies_of (cores_in checked) i) (λ e. not_there checked.kept (λ k.
-    let b = kept_plain n functions functions (cores_in checked) (trees_in checked) i k p h in no_core (bodies_of (cores_in checked) i) b.core b.there e)) in (
+    let b = kept_plain no_foreign n functions functions (cores_in checked) (trees_in checked) i k p h in no_core functions n i (cores_in checked) (bodies_of (cores_in checked) i) b refl e)) in (
       found.0,
       found.1,
       term_stable n 1 found.0 (λ no. not_there checked.kept (λ k.

@@ -5,10 +5,11 @@ use Rattle.cg_base.specs.declared.kind.Word.TheVariants.{U32}
 use Rattle.cg_core.specs.Kernels.{kernel_of}
 use Rattle.cg_typing.specs.declared.checked.Checked.{Checked}
 use Rattle.cg_typing.specs.Holds.{kernel_in, cores_in}
+use Rattle.cg_value.specs.NoForeign.{no_foreign}
 use Rattle.cg_value.specs.Values.{Val, number, function}
 use Rattle.cg_eval.specs.Evaluation.{evaluation}
-use Rattle.cg_eval.specs.Machine.{table_of}
-use Rattle.cg_eval.specs.Plain.{plain_kernel}
+use Rattle.cg_eval.specs.Foreigns.{table_of}
+use Rattle.cg_plain.specs.Plain.{plain_kernel}
 use Rattle.cg_ctree.specs.Runs.{crun, done, typed}
 use Rattle.cg_ctree.specs.Trees.{Program}
 use Rattle.cg_lower.specs.Lowered.{function_name}
@@ -26,5 +27,5 @@ abbrev pub Simulates : Checked → Program → Type 0
 Simulates checked program =
     plain_kernel (kernel_of (kernel_in checked)) ≡ true
     → (i m k x : ℕ) (v : Val) → i < length (kernel_of (kernel_in checked)) → x < 2 ^ 32
-    → evaluation (table_of (cores_in checked)) m (function (User i) []) (number x) ≡ Some (v, k)
+    → evaluation (table_of no_foreign checked) m (function (User i) []) (number x) ≡ Some (v, k)
     → (r : ℕ) × (v ≡ number r) × (r < 2 ^ 32) × (left : ℕ) × (crun (32 * k + 32) program (function_name i) (x ∷ []) ≡ done (typed U32 r) left)

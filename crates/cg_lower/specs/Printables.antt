@@ -4,7 +4,7 @@ use Rattle.cg_core.specs.Kernels.{kernel_of}
 use Rattle.cg_core.specs.Terms.{Note, Tree}
 use Rattle.cg_ctree.specs.Spells.{IsPrintable}
 use Rattle.cg_ctree.specs.Trees.{Program}
-use Rattle.cg_eval.specs.Plain.{plain_kernel}
+use Rattle.cg_plain.specs.Plain.{plain_kernel}
 use Rattle.cg_typing.specs.declared.checked.Checked.{Checked}
 use Rattle.cg_typing.specs.Holds.{kernel_in}
 use Rattle.cg_lower.specs.Lowered.{program_in}

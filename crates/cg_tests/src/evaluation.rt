@@ -2,7 +2,7 @@
 ghost use Rattle.std.specs.Prelude.{IfOk, IsTrue};
 ghost use Rattle.cg_core.specs.Kernels.{kernel_of};
 ghost use Rattle.cg_ctree.specs.Trees.{program_of as c_program_of};
-ghost use Rattle.cg_eval.specs.Plain.{plain_kernel};
+ghost use Rattle.cg_plain.specs.Plain.{plain_kernel};
 ghost use Rattle.cg_lower.specs.Printables.{CanBePrinted};
 ghost use Rattle.cg_typing.specs.Holds.{kernel_in};
 
@@ -11,8 +11,9 @@ use cg_base::{Items, Name, Ty, Word};
 use cg_cmachine::{RunFault, run_words};
 use cg_ctext::print_c;
 use cg_ctree::CProgram;
-use cg_eval::{EvalFault, eval, is_plain};
+use cg_eval::{EvalFault, eval, plain_is_never_stuck};
 use cg_lower::{lower, lower_function};
+use cg_plain::is_plain;
 use cg_typing::Checked;
 use cg_value::{Value, print_value};
 use std::alloc::Global;
@@ -34,6 +35,7 @@ fn expect(
     if !is_plain(kernel) || fun as usize >= kernel.funs.len() {
         panic!(rt; "not a function of a plain source");
     }
+    plain_is_never_stuck();
     match &eval(alloc, checked, fun, Value::Num(arg), steps) {
         Ok((Value::Num(value), cost)) => assert_eq!(rt; Some((*value, *cost)), expected),
         Ok(_) => panic!(rt; "not a word"),

@@ -1,0 +1,4 @@
+mod OperationRows
+mod PartSteps
+mod TurnSteps
+mod WordSums

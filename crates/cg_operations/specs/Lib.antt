@@ -1,0 +1,3 @@
+pub mod Iterators
+pub mod Operators
+pub mod Positions
