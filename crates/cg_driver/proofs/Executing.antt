@@ -13,8 +13,8 @@ use Rattle.cg_ctext.specs.Printed.{printed}
 use Rattle.cg_ctree.specs.declared.tree.CProgram.{CProgram}
 use Rattle.cg_ctree.specs.Spells.{CSpells}
 use Rattle.cg_ctree.specs.Trees.{Program, program_of}
-use Rattle.cg_eval.specs.Evaluation.{Table, evaluation, IsSpent}
-use Rattle.cg_eval.specs.Foreigns.{table_of, table_over}
+use Rattle.cg_machine.specs.Evaluation.{Table, evaluation, IsSpent}
+use Rattle.cg_machine.specs.Foreigns.{table_of, table_over}
 use Rattle.cg_lower.specs.Lowered.{lowered}
 use Rattle.cg_lower.specs.Plainly.{Simulates}
 use Rattle.cg_lower.specs.Ranks.{bodies_of}

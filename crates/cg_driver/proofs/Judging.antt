@@ -15,7 +15,7 @@ use Rattle.cg_ctree.specs.Runs.{crun, done, typed as typed_result}
 use Rattle.cg_ctree.specs.Spells.{CSpells}
 use Rattle.cg_desugar.specs.Desugar.{entry_at as name_at}
 use Rattle.cg_desugar.specs.Faults.{NameFault, program_faults}
-use Rattle.cg_eval.specs.Evaluation.{evaluation}
+use Rattle.cg_machine.specs.Evaluation.{evaluation}
 use Rattle.cg_faults.specs.declared.rule.Rule.{Rule}
 use Rattle.cg_faults.specs.Events.{kernel_events, first_failing}
 use Rattle.cg_faults.specs.Fails.{Fails}

@@ -8,8 +8,8 @@ use Rattle.cg_ctree.specs.declared.tree.CProgram.{CProgram}
 use Rattle.cg_ctree.specs.Runs.{crun, done, typed}
 use Rattle.cg_ctree.specs.Spells.{CSpells}
 use Rattle.cg_ctree.specs.Trees.{Program, program_of}
-use Rattle.cg_eval.specs.Evaluation.{evaluation}
-use Rattle.cg_eval.specs.Foreigns.{table_of}
+use Rattle.cg_machine.specs.Evaluation.{evaluation}
+use Rattle.cg_machine.specs.Foreigns.{table_of}
 use Rattle.cg_lower.specs.Lowered.{function_name}
 use Rattle.cg_lower.specs.Plainly.{Simulates}
 use Rattle.cg_typing.specs.declared.checked.Checked.{Checked}

@@ -9,8 +9,8 @@ use Rattle.cg_ctext.specs.Printed.{printed}
 use Rattle.cg_ctree.specs.Runs.{crun, done, typed}
 use Rattle.cg_ctree.specs.Spells.{CSpells}
 use Rattle.cg_ctree.specs.Trees.{Program}
-use Rattle.cg_eval.specs.Evaluation.{Table, evaluation, IsSpent}
-use Rattle.cg_eval.specs.Foreigns.{table_over}
+use Rattle.cg_machine.specs.Evaluation.{Table, evaluation, IsSpent}
+use Rattle.cg_machine.specs.Foreigns.{table_over}
 use Rattle.cg_lower.specs.Lowered.{lowered, function_name}
 use Rattle.cg_typing.specs.Holds.{kept_at}
 use Rattle.cg_typing.specs.Kept.{AreKept}

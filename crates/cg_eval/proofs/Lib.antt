@@ -1,7 +1,7 @@
 mod AskSteps
+pub mod Begins
 pub mod Costs
+mod Ends
 mod EvaluationRows
-pub mod Fixed
-pub mod Lifts
+mod GroupSteps
 pub mod NotStuck
-pub mod Steps

@@ -18,9 +18,9 @@ use Rattle.cg_typing.specs.Holds.{kernel_in, cores_in, kept_at, trees_in}
 use Rattle.cg_typing.specs.Kept.{maybe_core, maybe_tree, IsKeptMaybe, AreKept}
 use Rattle.cg_value.specs.Foreign.{Foreign}
 use Rattle.cg_value.specs.Values.{Val, function}
-use Rattle.cg_eval.specs.Evaluation.{Outcome, spent, stuck, gives, bind, Table, Context, only, Run, enter, apply, node_shape, with_fuel, evaluate, outcome, evaluation, cost_of}
+use Rattle.cg_machine.specs.Evaluation.{Outcome, spent, stuck, gives, bind, Table, Context, only, Run, enter, apply, node_shape, with_fuel, evaluate, outcome, evaluation, cost_of}
 use Rattle.cg_eval.specs.Laws.{PlainIsNeverStuck}
-use Rattle.cg_eval.specs.Foreigns.{table_of, table_over}
+use Rattle.cg_machine.specs.Foreigns.{table_of, table_over}
 use Rattle.cg_plain.specs.Plain.{plain, plain_shape, plain_operands, plain_called, plain_body, plain_function, plain_kernel, is_word_to_word}
 
 abbrev pub Fine : Outcome → Type 0

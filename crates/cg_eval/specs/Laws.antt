@@ -6,8 +6,8 @@ use Rattle.cg_typing.specs.declared.checked.Checked.{Checked}
 use Rattle.cg_typing.specs.Holds.{kernel_in}
 use Rattle.cg_value.specs.Foreign.{Foreign}
 use Rattle.cg_value.specs.Values.{Val, function}
-use Rattle.cg_eval.specs.Evaluation.{spent, stuck, Table, outcome, evaluation, fuelled}
-use Rattle.cg_eval.specs.Foreigns.{table_of}
+use Rattle.cg_machine.specs.Evaluation.{spent, stuck, Table, outcome, evaluation, fuelled}
+use Rattle.cg_machine.specs.Foreigns.{table_of}
 use Rattle.cg_plain.specs.Plain.{plain_kernel}
 
 -- a result is within its budget, and every budget from its cost on gives the same at the same cost

@@ -1,4 +1,3 @@
-pub mod Evaluation
-pub mod Foreigns
+pub mod Answers
+pub mod Groups
 pub mod Laws
-pub mod Machine

@@ -1,23 +1,55 @@
 // Evaluation of a function.
-#![tactic(auto, using(crate::proofs::Steps::machine_steps))]
+#![tactic(auto, using(cg_machine::proofs::Steps::machine_steps))]
 
 ghost use Rattle.std.specs.Prelude.{◌≢◌, []};
 ghost use Rattle.cg_base.specs.declared.fun.Fun.TheVariants.{User};
-ghost use Rattle.cg_eval.specs.Evaluation.{outcome, stuck};
-ghost use Rattle.cg_eval.specs.Foreigns.{table_of};
-ghost use Rattle.cg_eval.specs.Machine.{Answers, Exact};
+ghost use Rattle.cg_machine.specs.Evaluation.{outcome, stuck};
+ghost use Rattle.cg_machine.specs.Foreigns.{table_of};
+ghost use Rattle.cg_machine.specs.Machine.{Gave, said};
+ghost use Rattle.cg_eval.specs.Answers.{Answers, Exact};
 ghost use Rattle.cg_value.specs.NoForeign.{no_foreign};
 ghost use Rattle.cg_value.specs.Values.{value_of, function};
 
 use crate::EvalFault;
-use crate::calls::{apply, run};
-use crate::fault::Halt;
-use crate::machine::Machine;
+use crate::asking::ask;
+use crate::nodes::want;
 use cg_base::Items;
 use cg_core::Fun;
+use cg_machine::{Focus, Halt, Machine, apply};
 use cg_typing::Checked;
 use cg_value::{Extern, NoExtern, Value};
 use std::alloc::Global;
+
+// Runs to the end: the value, and the budget that is left.
+fn run<'a, X: Extern>(
+    alloc: Global,
+    externs: &X,
+    checked: &'a Checked,
+    start: Machine<'a>,
+    first: Focus<'a>,
+) -> Result<(Value, u64), Halt>
+    requires { said (table_of (X.foreign externs.now) checked.now) start first ≢ stuck }
+    ensures { Gave (said (table_of (X.foreign externs.now) checked.now) start.entry first.entry) result }
+{
+    let mut m = start;
+    let mut focus = first;
+    loop {
+        match focus {
+            Focus::Want(term) => {
+                focus = want(alloc, &mut m, term)?;
+            }
+            Focus::Ask(fun, arg) => {
+                focus = ask(alloc, externs, checked, &mut m, fun, arg)?;
+            }
+            Focus::Have(value) => match m.frames.pop() {
+                None => return Ok((value, m.left)),
+                Some(frame) => {
+                    focus = frame.resume(alloc, checked, &mut m, value)?;
+                }
+            },
+        }
+    }
+}
 
 // The value of a call and its cost, or why there is none.
 fn call<X: Extern>(

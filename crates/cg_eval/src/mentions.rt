@@ -1,5 +1,5 @@
 // Mentions of functions, at type arguments.
-#![tactic(auto, using(crate::proofs::Steps::machine_steps))]
+#![tactic(auto)]
 
 ghost use Rattle.std.specs.Prelude.{◌≡◌, IfOk, map};
 ghost use Rattle.cg_base.specs.Types.{type_of};

@@ -13,9 +13,9 @@ use Rattle.cg_base.specs.Types.{Tau, arrow}
 use Rattle.cg_core.specs.Derivations.{Derivation}
 use Rattle.cg_core.specs.Kernels.{Function, Body as Written}
 use Rattle.cg_core.specs.Terms.{Note, Tree}
-use Rattle.cg_eval.specs.Evaluation.{stuck, gives, pay_for, Table, Run, apply, call, enter, iterated, only}
+use Rattle.cg_machine.specs.Evaluation.{stuck, gives, pay_for, Table, Run, apply, call, enter, iterated, only}
 use Rattle.cg_operations.specs.Iterators.{is_iterator}
-use Rattle.cg_eval.specs.Foreigns.{IsClosed, as_arguments, cost_at, has_vars, is_among, is_closed, is_empty, is_instance, is_known, is_taken, table_over, value_at, world_of}
+use Rattle.cg_machine.specs.Foreigns.{IsClosed, as_arguments, cost_at, has_vars, is_among, is_closed, is_empty, is_instance, is_known, is_taken, table_over, value_at, world_of}
 use Rattle.cg_kinds.specs.Kinds.{subst}
 use Rattle.cg_lawful.specs.Lawful.{IsLawfulBody, IsLawfulFunction, IsLawfulTerm, body_mentions, term_mentions}
 use Rattle.cg_lib_value.specs.Library.{library_cost, library_value}

@@ -4,7 +4,7 @@ use Rattle.std.proofs.lemmas.Bool.{and_parts, and_from}
 use Rattle.std.specs.List.{list_all}
 use Rattle.std.specs.Prelude.{slice_get}
 use Rattle.cg_base.specs.Types.{Tau, var, seen, unit, word, bool, arrow, abs, variant, fields, Taus, none, more, Parts, end, part}
-use Rattle.cg_eval.specs.Foreigns.{is_closed}
+use Rattle.cg_machine.specs.Foreigns.{is_closed}
 use Rattle.cg_kinds.specs.Kinds.{bang, bang_all, bang_parts, or_unit, subst, subst_all, subst_parts, width, width_all, width_parts}
 use Rattle.cg_lawful.specs.Lawful.{IsLawfulType, AreLawfulTypes, AreLawfulParts}
 

@@ -10,9 +10,9 @@ use Rattle.cg_base.specs.declared.kind.Word.{Word}
 use Rattle.cg_base.specs.declared.kind.Word.TheVariants.{U32, U64}
 use Rattle.cg_base.specs.Types.{Tau, arrow, fields, word, Parts, end, part}
 use Rattle.cg_base.specs.Words.{bits}
-use Rattle.cg_eval.specs.Evaluation.{Outcome, Table, Run, call, iterated}
+use Rattle.cg_machine.specs.Evaluation.{Outcome, Table, Run, call, iterated}
 use Rattle.cg_operations.specs.Iterators.{asked, indices, indices_from, is_iterator}
-use Rattle.cg_eval.specs.Foreigns.{as_arguments}
+use Rattle.cg_machine.specs.Foreigns.{as_arguments}
 use Rattle.cg_kinds.specs.Kinds.{bang, is_word}
 use Rattle.cg_lawful.specs.Lawful.{library_arity}
 use Rattle.cg_typing.specs.Functions.{asked_by_library, are_good_arguments}

@@ -10,7 +10,7 @@ use Rattle.cg_base.specs.declared.kind.Kinds.{Kinds}
 use Rattle.cg_base.specs.Types.{Tau}
 use Rattle.cg_core.specs.Kernels.{Function}
 use Rattle.cg_core.specs.Terms.{Arg}
-use Rattle.cg_eval.specs.Foreigns.{as_arguments, is_closed, is_instance, is_this, takes_as_many}
+use Rattle.cg_machine.specs.Foreigns.{as_arguments, is_closed, is_instance, is_this, takes_as_many}
 use Rattle.cg_kinds.specs.Kinds.{subst}
 use Rattle.cg_typing.specs.Functions.{Asked, are_good_arguments, arg_types, asked_by, fun_type, later_asked, meets_asked, next_asked}
 use Rattle.cg_typing.specs.Library.{library_type}

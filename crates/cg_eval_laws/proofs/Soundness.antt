@@ -14,8 +14,8 @@ use Rattle.cg_core.specs.declared.term.Typed.{Typed}
 use Rattle.cg_core.specs.Derivations.{Derivation}
 use Rattle.cg_core.specs.Kernels.{Function, kernel_of}
 use Rattle.cg_core.specs.Terms.{Note, Tree, term}
-use Rattle.cg_eval.specs.Evaluation.{Outcome, spent, stuck, gives, evaluate, outcome, with_fuel}
-use Rattle.cg_eval.specs.Foreigns.{IsClosed, has_vars, table_of, table_over, world_of}
+use Rattle.cg_machine.specs.Evaluation.{Outcome, spent, stuck, gives, evaluate, outcome, with_fuel}
+use Rattle.cg_machine.specs.Foreigns.{IsClosed, has_vars, table_of, table_over, world_of}
 use Rattle.cg_kinds.specs.Kinds.{subst}
 use Rattle.cg_lawful.specs.Lawful.{IsLawfulFunction, IsLawfulType}
 use Rattle.cg_typing.specs.declared.checked.Checked.{Checked}

@@ -3,7 +3,7 @@ use Rattle.std.proofs.Common.{ℕ, true, IsTrue, List, [], ◌∷◌, refl, subs
 use Rattle.std.specs.List.{list_all}
 use Rattle.cg_base.specs.declared.fun.Fun.TheVariants.{User}
 use Rattle.cg_core.specs.Kernels.{Function, kernel_of}
-use Rattle.cg_eval.specs.Foreigns.{IsClosed, world_of}
+use Rattle.cg_machine.specs.Foreigns.{IsClosed, world_of}
 use Rattle.cg_lawful.specs.Lawful.{body_mentions}
 use Rattle.cg_eval_laws.proofs.Soundness.{calls_are_sound, functions_fit}
 use Rattle.cg_eval_laws.proofs.Widening.{fits_wider}

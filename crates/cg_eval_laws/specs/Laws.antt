@@ -3,8 +3,8 @@ use Rattle.std.specs.Prelude.{◌≡◌, ℕ, Bool, true, IsTrue, List, [], Some
 use Rattle.cg_base.specs.declared.fun.Fun.TheVariants.{User}
 use Rattle.cg_base.specs.Types.{Tau, arrow}
 use Rattle.cg_core.specs.Kernels.{Function, kernel_of}
-use Rattle.cg_eval.specs.Evaluation.{Outcome, spent, stuck, gives, outcome}
-use Rattle.cg_eval.specs.Foreigns.{IsClosed, table_of, world_of}
+use Rattle.cg_machine.specs.Evaluation.{Outcome, spent, stuck, gives, outcome}
+use Rattle.cg_machine.specs.Foreigns.{IsClosed, table_of, world_of}
 use Rattle.cg_typing.specs.declared.checked.Checked.{Checked}
 use Rattle.cg_typing.specs.Holds.{kernel_in}
 use Rattle.cg_value.specs.Fits.{World, fits}

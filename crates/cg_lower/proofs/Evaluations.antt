@@ -5,10 +5,10 @@ use Rattle.cg_base.specs.declared.place.Place.{Place}
 use Rattle.cg_core.specs.declared.op.Op.TheVariants.{Add}
 use Rattle.cg_core.specs.Terms.{Note, Tree, term, fun, op, app, lets, none, more}
 use Rattle.cg_value.specs.Values.{Val, function}
-use Rattle.cg_eval.specs.Evaluation.{Outcome, spent, stuck, gives, bind, Table, Context, push, evaluate, node, node_shape, apply}
+use Rattle.cg_machine.specs.Evaluation.{Outcome, spent, stuck, gives, bind, Table, Context, push, evaluate, node, node_shape, apply}
 use Rattle.cg_operations.specs.Operators.{operated_both}
 use Rattle.cg_typing.specs.Rules.{type_at}
-use Rattle.cg_eval.proofs.Fixed.{at_node, at_none}
+use Rattle.cg_machine.proofs.Fixed.{at_node, at_none}
 
 pub gives_is : (u v : Val) (i j : ℕ) → gives u i ≡ gives v j → (u ≡ v) × (i ≡ j)
 gives_is u v i j e = (cc, cc)

@@ -10,7 +10,7 @@ use Rattle.cg_ctree.specs.declared.tree.COpnd.TheVariants.{Path}
 use Rattle.cg_ctree.specs.Runs.{ok, Value, typed, Variable, Frame, give, done, returned, run_block, unset, find, enter, lift, run_function, start, calls_in, crun}
 use Rattle.cg_ctree.specs.Trees.{Program, Function, Block, return', to_block}
 use Rattle.cg_value.specs.Values.{Val, number, function}
-use Rattle.cg_eval.specs.Evaluation.{Outcome as Result, spent, stuck, gives, Table, enter as enters, evaluate, apply, evaluation, cost_of, only}
+use Rattle.cg_machine.specs.Evaluation.{Outcome as Result, spent, stuck, gives, Table, enter as enters, evaluate, apply, evaluation, cost_of, only}
 use Rattle.cg_lower.specs.Lowered.{local, locals, declared, argument, path, word, function_name, low_body, function_at, with_function, functions_at, program_in}
 use Rattle.cg_lower.specs.Simulated.{AreBodiesOf, AreWordBodies, AreNamedApart, LoweringSimulates}
 use Rattle.cg_lower.proofs.Names.{split, itself, number_is, argument_old}

@@ -13,7 +13,7 @@ use Rattle.cg_ctree.specs.declared.tree.CRhs.TheVariants.{Call}
 use Rattle.cg_ctree.specs.Runs.{Frame, set}
 use Rattle.cg_ctree.specs.Trees.{assign, Program}
 use Rattle.cg_value.specs.Values.{Val, number, function, gone}
-use Rattle.cg_eval.specs.Evaluation.{gives, Table, Context, push, evaluate, apply}
+use Rattle.cg_machine.specs.Evaluation.{gives, Table, Context, push, evaluate, apply}
 use Rattle.cg_operations.specs.Operators.{operated_both}
 use Rattle.cg_lower.specs.Lowered.{local, path, function_name, Low, leaf, low_sum, low_let, low_call, low}
 use Rattle.cg_lower.specs.Simulated.{IsWordTerm}

@@ -2,7 +2,7 @@
 use Rattle.std.proofs.Common.{◌≡◌, ℕ, ◌+◌, ◌<◌, ◌^◌, List, length, refl, sym, ap, subst, ◌∙◌, arith}
 use Rattle.cg_core.specs.Kernels.{kernel_of}
 use Rattle.cg_ctree.specs.Trees.{Program}
-use Rattle.cg_eval.specs.Foreigns.{table_of}
+use Rattle.cg_machine.specs.Foreigns.{table_of}
 use Rattle.cg_typing.specs.declared.checked.Checked.{Checked}
 use Rattle.cg_typing.specs.Holds.{kernel_in, cores_in}
 use Rattle.cg_value.specs.NoForeign.{no_foreign}

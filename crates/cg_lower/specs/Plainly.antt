@@ -7,8 +7,8 @@ use Rattle.cg_typing.specs.declared.checked.Checked.{Checked}
 use Rattle.cg_typing.specs.Holds.{kernel_in, cores_in}
 use Rattle.cg_value.specs.NoForeign.{no_foreign}
 use Rattle.cg_value.specs.Values.{Val, number, function}
-use Rattle.cg_eval.specs.Evaluation.{evaluation}
-use Rattle.cg_eval.specs.Foreigns.{table_of}
+use Rattle.cg_machine.specs.Evaluation.{evaluation}
+use Rattle.cg_machine.specs.Foreigns.{table_of}
 use Rattle.cg_plain.specs.Plain.{plain_kernel}
 use Rattle.cg_ctree.specs.Runs.{crun, done, typed}
 use Rattle.cg_ctree.specs.Trees.{Program}

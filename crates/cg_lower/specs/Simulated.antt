@@ -8,7 +8,7 @@ use Rattle.cg_core.specs.declared.op.Op.TheVariants.{Add}
 use Rattle.cg_core.specs.Terms.{Note, Tree, term, Shape, var, lit, fun, op, app, lets, none, more}
 use Rattle.cg_ctree.specs.Runs.{crun, done, typed}
 use Rattle.cg_value.specs.Values.{Val, number, function}
-use Rattle.cg_eval.specs.Evaluation.{Table, evaluation}
+use Rattle.cg_machine.specs.Evaluation.{Table, evaluation}
 use Rattle.cg_typing.specs.Rules.{type_at}
 use Rattle.cg_lower.specs.Lowered.{program_in, function_name, low_body}
 

@@ -1,8 +1,8 @@
 use Rattle.std.proofs.Common.{◌≡◌, arith, Err, subst, sym, ◌∙◌}
-use Rattle.cg_eval.specs.Foreigns.{table_of}
-use Rattle.cg_eval.specs.Machine.{Exact}
+use Rattle.cg_machine.specs.Foreigns.{table_of}
+use Rattle.cg_eval.specs.Answers.{Exact}
 use Rattle.cg_value.specs.Values.{value_of}
-use Rattle.cg_eval.proofs.Steps as steps
+use Rattle.cg_eval.proofs.Ends as steps
 use Rattle.cg_eval.proofs.evaluator.call.Goals as goal
 
 pub returns-in_err-focus : goal.returns-in_err-focus

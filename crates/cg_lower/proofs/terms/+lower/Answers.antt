@@ -2,7 +2,7 @@ use Rattle.std.proofs.Common.{arith, map}
 use Rattle.cg_core.specs.Kernels.{the_core}
 use Rattle.cg_lower.specs.Lowered.{low}
 use Rattle.cg_lower.specs.Places.{operand_of}
-use Rattle.cg_eval.proofs.Steps.{two_terms}
+use Rattle.cg_eval.proofs.Begins.{two_terms}
 use Rattle.cg_lower.proofs.LowerSteps.{size_two, after_sum, after_let, after_call, not_two, pushed}
 use Rattle.cg_lower.proofs.terms.+lower.Goals as goal
 

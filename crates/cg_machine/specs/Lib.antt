@@ -1,0 +1,3 @@
+pub mod Evaluation
+pub mod Foreigns
+pub mod Machine
