@@ -9,6 +9,8 @@ mod certificates;
 #[cfg(test)]
 mod evaluation;
 #[cfg(test)]
+mod halving;
+#[cfg(test)]
 mod library;
 #[cfg(test)]
 mod orders;
@@ -20,3 +22,5 @@ mod printing;
 mod reading;
 #[cfg(test)]
 mod sources;
+#[cfg(test)]
+mod tables;
