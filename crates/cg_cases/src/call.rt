@@ -1,6 +1,7 @@
 // What a case's call answers, as a text.
 use crate::case::{Called, Case};
 use crate::ctext;
+use crate::evaluation::eval_text;
 use crate::kernel::kernel_text;
 use cg_base::{Limit, Name, Place};
 use cg_declared::Declarations;
@@ -140,6 +141,7 @@ fn called(
         b"words" => words_text(alloc, words),
         b"cread" => ctext::read_text(alloc, source),
         b"crun" => ctext::run_text(alloc, words, source),
+        b"eval" => eval_text(alloc, words, source),
         b"read" => read_text(alloc, source),
         b"names" => names_text(alloc, source),
         b"resolve" => resolve_text(alloc, source, false),

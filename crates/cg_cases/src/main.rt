@@ -6,9 +6,11 @@ mod answer;
 mod call;
 mod case;
 mod ctext;
+mod evaluation;
 mod kernel;
 mod reader;
 mod text;
+mod value;
 
 use crate::reader::run_all;
 use std::process::ExitCode;
