@@ -1,6 +1,4 @@
 // What the fields of a record come to.
-#![tactic(auto, using(cg_pieces::proofs::FieldSteps::field_steps))]
-
 ghost use Rattle.std.specs.Prelude.{◌≡◌, ◌∷◌, [], IfOk, Ok, cond, length, map, reverse};
 ghost use Rattle.cg_base.specs.declared.kind.Sigil.TheVariants.{U};
 ghost use Rattle.cg_base.specs.Types.{fields as record_of, part_of, to_parts, type_of};
@@ -77,6 +75,7 @@ impl Fields {
 }
 
 // The marks between a field and the later ones; none for the last field.
+#[tactic(auto, using(cg_pieces::proofs::FieldSteps::field_steps))]
 fn add_string(
     alloc: Global,
     alone: bool,

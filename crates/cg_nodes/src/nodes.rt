@@ -1,6 +1,4 @@
 // What each form of node comes to. Want of memory is the one refusal of each of these.
-#![tactic(auto, using(cg_pieces::proofs::CoreSteps::core_steps))]
-
 ghost use Rattle.std.specs.Prelude.{◌≡◌, IfOk, Ok};
 ghost use Rattle.cg_base.specs.Types.{type_of};
 ghost use Rattle.cg_core.specs.declared.derivation.Node.TheVariants.{LetBang};
@@ -29,6 +27,7 @@ use cg_uses::{
 use std::alloc::Global;
 
 /// An operator with one operand.
+#[tactic(auto, using(cg_pieces::proofs::CoreSteps::core_steps))]
 pub fn operated(alloc: Global, op: Op, place: Place, ty: Box<Ty>, part: Got) -> Result<Got, Stop>
     ensures { Agrees got_of result (Ok (operated_of op place (in_box ty) (got_of part))) }
 {
@@ -38,6 +37,7 @@ pub fn operated(alloc: Global, op: Op, place: Place, ty: Box<Ty>, part: Got) -> 
 }
 
 /// An operator with two operands.
+#[tactic(auto, using(cg_pieces::proofs::CoreSteps::core_steps))]
 pub fn operated_both(
     alloc: Global,
     op: Op,
