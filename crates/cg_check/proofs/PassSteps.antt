@@ -2,9 +2,7 @@
 use Rattle.std.proofs.Common.{ℕ, ◌+◌}
 use Rattle.cg_base.specs.declared.place.Place.{Place}
 use Rattle.cg_context.proofs.ObservedSteps.{restored, seen_types}
-use Rattle.cg_context.proofs.ScopeSteps.{arguments_go, arguments_stop}
 use Rattle.cg_context.proofs.SourceSteps.{types_pushed}
-use Rattle.cg_context.proofs.TestSteps.{same_when, same_unless}
 use Rattle.cg_core.specs.Terms.{Tree, term, Shape, var, unit, bool, lit, fun, op, app, lets, let_bang, if_else, con, case_of, esac, struct, member, take_field, put, cast, annot, Trees, none, more, Named, end, field}
 
 -- the size of a term
@@ -41,4 +39,4 @@ unfoldable mutual
   size_fields end = 0
   size_fields (field name e fs) = size e + size_fields fs + 1
 
-pub ruleset pass_steps = (types_pushed, same_when, same_unless, arguments_go, arguments_stop, restored, seen_types)
+pub ruleset pass_steps = (types_pushed, restored, seen_types)

@@ -1,6 +1,4 @@
 // Forms behind their parts: the tests that are left there, and the node.
-#![tactic(auto, unfolding(cg_check_laws::specs::Pass::check), using(crate::proofs::PassSteps::pass_steps))]
-
 ghost use Rattle.std.specs.Prelude.{◌≡◌, IfOk, Ok, map};
 ghost use Rattle.std.specs.Option.{option_copied};
 ghost use Rattle.cg_base.specs.Types.{type_of};

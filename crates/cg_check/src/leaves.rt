@@ -1,6 +1,4 @@
 // Leaves of a body: variables, literals, functions that are mentioned, and operators without operands.
-#![tactic(auto, unfolding(cg_check_laws::specs::Pass::check), using(crate::proofs::PassSteps::pass_steps))]
-
 ghost use Rattle.std.specs.Prelude.{◌≡◌, IfOk, length, map, None};
 ghost use Rattle.std.specs.Option.{option_copied};
 ghost use Rattle.cg_base.specs.Types.{type_of, unit as unit_type};
@@ -35,7 +33,7 @@ fn plain(place: Place, ty: Ty, form: Form<Typed>) -> Term<Typed>
 }
 
 // A leaf that uses no variable.
-#[tactic(auto, using(cg_context::proofs::SourceSteps::types_long, crate::proofs::PassSteps::pass_steps))]
+#[tactic(auto, using(cg_context::proofs::SourceSteps::types_long))]
 fn check_leaf(
     source: &Source,
     context: &Vec<Known>,
@@ -53,14 +51,13 @@ fn check_leaf(
 /// A variable.
 pub(crate) fn check_var(
     source: &Source,
-    context: &mut Vec<Known>,
+    context: &Vec<Known>,
     before: &Vec<bool>,
     direction: Option<&Ty>,
     place: Place,
     at: u32,
 ) -> Result<Got, Stop>
-    ensures answer { Agrees got_of result (check_shape (map function_of source.now.functions.now) (bounds_of source.now.vars.now) (types_in (entries_of context.old.items)) before.now.items (way_of (option_copied direction.entry)) place (terms.var at)) }
-    ensures same { IfOk result (λ _. entries_of context.new.items ≡ entries_of context.old.items) }
+    ensures { Agrees got_of result (check_shape (map function_of source.now.functions.now) (bounds_of source.now.vars.now) (types_in (entries_of context.now.items)) before.now.items (way_of (option_copied direction.entry)) place (terms.var at)) }
 {
     let var = at as usize;
     if !may_touch(source, context, before, var) {
@@ -76,14 +73,13 @@ pub(crate) fn check_var(
 /// A truth value.
 pub(crate) fn check_bool(
     source: &Source,
-    context: &mut Vec<Known>,
+    context: &Vec<Known>,
     before: &Vec<bool>,
     direction: Option<&Ty>,
     place: Place,
     value: bool,
 ) -> Result<Got, Stop>
-    ensures answer { Agrees got_of result (check_shape (map function_of source.now.functions.now) (bounds_of source.now.vars.now) (types_in (entries_of context.old.items)) before.now.items (way_of (option_copied direction.entry)) place (terms.bool value)) }
-    ensures same { IfOk result (λ _. entries_of context.new.items ≡ entries_of context.old.items) }
+    ensures { Agrees got_of result (check_shape (map function_of source.now.functions.now) (bounds_of source.now.vars.now) (types_in (entries_of context.now.items)) before.now.items (way_of (option_copied direction.entry)) place (terms.bool value)) }
 {
     let core = plain(place, Ty::Bool, Form::Bool(value));
     check_leaf(source, context, direction, core, Node::Bool)
@@ -92,13 +88,12 @@ pub(crate) fn check_bool(
 /// Unit.
 pub(crate) fn check_unit(
     source: &Source,
-    context: &mut Vec<Known>,
+    context: &Vec<Known>,
     before: &Vec<bool>,
     direction: Option<&Ty>,
     place: Place,
 ) -> Result<Got, Stop>
-    ensures answer { Agrees got_of result (check_shape (map function_of source.now.functions.now) (bounds_of source.now.vars.now) (types_in (entries_of context.old.items)) before.now.items (way_of (option_copied direction.entry)) place (terms.unit)) }
-    ensures same { IfOk result (λ _. entries_of context.new.items ≡ entries_of context.old.items) }
+    ensures { Agrees got_of result (check_shape (map function_of source.now.functions.now) (bounds_of source.now.vars.now) (types_in (entries_of context.now.items)) before.now.items (way_of (option_copied direction.entry)) place (terms.unit)) }
 {
     let core = plain(place, Ty::Unit, Form::Unit);
     check_leaf(source, context, direction, core, Node::Unit)
@@ -107,14 +102,13 @@ pub(crate) fn check_unit(
 /// A literal.
 pub(crate) fn check_literal(
     source: &Source,
-    context: &mut Vec<Known>,
+    context: &Vec<Known>,
     before: &Vec<bool>,
     direction: Option<&Ty>,
     place: Place,
     value: Option<u64>,
 ) -> Result<Got, Stop>
-    ensures answer { Agrees got_of result (check_shape (map function_of source.now.functions.now) (bounds_of source.now.vars.now) (types_in (entries_of context.old.items)) before.now.items (way_of (option_copied direction.entry)) place (terms.lit value)) }
-    ensures same { IfOk result (λ _. entries_of context.new.items ≡ entries_of context.old.items) }
+    ensures { Agrees got_of result (check_shape (map function_of source.now.functions.now) (bounds_of source.now.vars.now) (types_in (entries_of context.now.items)) before.now.items (way_of (option_copied direction.entry)) place (terms.lit value)) }
 {
     let Some(ty) = direction else {
         return Err(Stop::Rule(Rule::T2, place));
@@ -127,17 +121,17 @@ pub(crate) fn check_literal(
 }
 
 /// A function that is mentioned.
+#[tactic(auto, using(cg_context::proofs::ScopeSteps::arguments_go, cg_context::proofs::ScopeSteps::arguments_stop))]
 pub(crate) fn check_mention(
     source: &Source,
-    context: &mut Vec<Known>,
+    context: &Vec<Known>,
     before: &Vec<bool>,
     direction: Option<&Ty>,
     place: Place,
     fun: Fun,
     args: &Items<TyArg>,
 ) -> Result<Got, Stop>
-    ensures answer { Agrees got_of result (check_shape (map function_of source.now.functions.now) (bounds_of source.now.vars.now) (types_in (entries_of context.old.items)) before.now.items (way_of (option_copied direction.entry)) place (terms.fun fun (map arg_of args.now))) }
-    ensures same { IfOk result (λ _. entries_of context.new.items ≡ entries_of context.old.items) }
+    ensures { Agrees got_of result (check_shape (map function_of source.now.functions.now) (bounds_of source.now.vars.now) (types_in (entries_of context.now.items)) before.now.items (way_of (option_copied direction.entry)) place (terms.fun fun (map arg_of args.now))) }
 {
     match arguments_fault(source.functions, source.vars, fun, args) {
         Some((rule, at)) => Err(Stop::Rule(rule, at)),

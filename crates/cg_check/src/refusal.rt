@@ -4,7 +4,7 @@ use cg_faults::Rule;
 use std::alloc::{AllocError, AllocFailed};
 
 /// Why a kernel is refused: a rule that fails, and where; a type that passes the limit; or want of memory.
-#[derive(Clone, Copy, Debug, PartialEq, Eq)]
+#[derive(Clone, Copy, PartialEq, Eq)]
 pub enum Refusal {
     Rule(Rule, Place),
     Limit(Limit),
