@@ -4,6 +4,7 @@ pub mod Lists
 pub mod Numbers
 pub mod Places
 pub mod Reader
+pub mod Same
 pub mod Types
 pub mod formers
 pub mod Words

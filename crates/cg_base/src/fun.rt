@@ -1,7 +1,7 @@
 // Functions, as terms mention them.
 
 /// A function of the library.
-#[derive(Clone, Copy, Debug, PartialEq, Eq)]
+#[derive(Clone, Copy, Debug, PartialEq, Eq, Hash)]
 pub enum Lib {
     New,
     Free,
@@ -18,7 +18,7 @@ pub enum Lib {
 }
 
 /// A function: one of the source, by its position in the order of signatures, or one of the library.
-#[derive(Clone, Copy, Debug, PartialEq, Eq)]
+#[derive(Clone, Copy, Debug, PartialEq, Eq, Hash)]
 pub enum Fun {
     User(u32),
     Lib(Lib),

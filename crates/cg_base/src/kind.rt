@@ -2,7 +2,7 @@
 use crate::Name;
 
 /// A word: an unsigned number of 8, 16, 32 or 64 bits.
-#[derive(Clone, Copy, Debug, PartialEq, Eq)]
+#[derive(Clone, Copy, Debug, PartialEq, Eq, Hash)]
 pub enum Word {
     U8,
     U16,
@@ -12,7 +12,7 @@ pub enum Word {
 
 /// How a record or an abstract type is held: behind a pointer to read, behind one to write, or unboxed
 /// (the paper's sigils, section 2).
-#[derive(Clone, Copy, Debug, PartialEq, Eq)]
+#[derive(Clone, Copy, Debug, PartialEq, Eq, Hash)]
 pub enum Sigil {
     R,
     W,

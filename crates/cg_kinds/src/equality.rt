@@ -39,8 +39,9 @@ pub fn same(a: &Ty, b: &Ty) -> bool
     }
 }
 
+/// Whether two lists of types are the same, type by type. It takes no memory.
 #[cycle(same)]
-fn same_types(a: &Items<Ty>, b: &Items<Ty>) -> bool
+pub fn same_types(a: &Items<Ty>, b: &Items<Ty>) -> bool
     ensures { IsTrue result ↔ (map type_of a.now ≡ map type_of b.now) }
 {
     let xs = a.as_slice();

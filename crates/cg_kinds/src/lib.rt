@@ -9,6 +9,6 @@ pub mod law;
 mod replace;
 
 pub use change::bang;
-pub use equality::same;
+pub use equality::{same, same_types};
 pub use kind::kinds_of;
 pub use replace::subst;

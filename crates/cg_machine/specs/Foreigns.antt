@@ -18,7 +18,7 @@ use Rattle.cg_typing.specs.Kept.{maybe_core}
 use Rattle.cg_typing.specs.Parts.{taken_by}
 use Rattle.cg_value.specs.Fits.{World, fits}
 use Rattle.cg_value.specs.Foreign.{Foreign, first_order}
-use Rattle.cg_value.specs.Same.{same_type}
+use Rattle.cg_base.specs.Same.{same_type}
 use Rattle.cg_value.specs.Values.{Val, gone}
 
 -- ---- values of functions

@@ -3,5 +3,4 @@ pub mod Foreign
 pub mod Forms
 pub mod NoForeign
 pub mod Printed
-pub mod Same
 pub mod Values
