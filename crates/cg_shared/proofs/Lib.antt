@@ -1,0 +1,11 @@
+mod Built
+mod Entered
+mod Fronts
+mod Growth
+mod Layered
+mod Listed
+mod NodeEquality
+mod Observed
+mod Searches
+mod Sizes
+mod Sound
