@@ -2,6 +2,7 @@ pub mod Accepted
 pub mod Contexts
 pub mod Functions
 pub mod Holds
+pub mod Instances
 pub mod Kept
 pub mod Laws
 pub mod Library

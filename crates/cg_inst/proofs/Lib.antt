@@ -1,0 +1,12 @@
+pub mod FoundSteps
+pub mod FrontSteps
+pub mod KeySteps
+pub mod LimitSteps
+pub mod ListSteps
+pub mod MakeSteps
+pub mod Names
+pub mod NodeSteps
+pub mod SameInstance
+pub mod SameType
+pub mod SearchSteps
+pub mod Standing
