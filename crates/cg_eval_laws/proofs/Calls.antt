@@ -15,7 +15,8 @@ use Rattle.cg_core.specs.Kernels.{Function, Body as Written}
 use Rattle.cg_core.specs.Terms.{Note, Tree}
 use Rattle.cg_machine.specs.Evaluation.{stuck, gives, pay_for, Table, Run, apply, call, enter, iterated, only}
 use Rattle.cg_operations.specs.Iterators.{is_iterator}
-use Rattle.cg_machine.specs.Foreigns.{IsClosed, as_arguments, cost_at, has_vars, is_among, is_closed, is_empty, is_instance, is_known, is_taken, table_over, value_at, world_of}
+use Rattle.cg_machine.specs.Foreigns.{IsClosed, cost_at, is_among, is_empty, is_instance, is_known, is_taken, table_over, value_at, world_of}
+use Rattle.cg_typing.specs.Instances.{as_arguments, has_vars, is_closed}
 use Rattle.cg_kinds.specs.Kinds.{subst}
 use Rattle.cg_lawful.specs.Lawful.{IsLawfulBody, IsLawfulFunction, IsLawfulTerm, body_mentions, term_mentions}
 use Rattle.cg_lib_value.specs.Library.{library_cost, library_value}
@@ -35,8 +36,9 @@ use Rattle.cg_eval_laws.proofs.FirstOrder.{plain_fits, plain_stays}
 use Rattle.cg_eval_laws.proofs.FitContexts.{only_fits}
 use Rattle.cg_eval_laws.proofs.FitLibrary.{library_fits}
 use Rattle.cg_eval_laws.proofs.Iterators.{is_turn, iterators_sound, no_turn}
-use Rattle.cg_eval_laws.proofs.Mentions.{IsValueOf, types_back, value_made, value_parts}
-use Rattle.cg_eval_laws.proofs.Names.{by_cases, never}
+use Rattle.cg_eval_laws.proofs.Mentions.{IsValueOf, value_made, value_parts}
+use Rattle.cg_inst_laws.proofs.Mentions.{types_back}
+use Rattle.cg_inst.proofs.Names.{by_cases, never}
 use Rattle.cg_eval_laws.proofs.Nodes.{CallsSound, MentionsFit, SoundRun}
 use Rattle.cg_eval_laws.proofs.Outcomes.{cost_sound}
 use Rattle.cg_eval_laws.proofs.Reached.{arities, reached}

@@ -12,7 +12,7 @@ use Rattle.cg_typing.specs.Library.{array}
 use Rattle.cg_value.specs.Fits.{World, fits, most_elements}
 use Rattle.cg_value.specs.Forms.{elements_in, number_in, with_element}
 use Rattle.cg_value.specs.Values.{Val, number, elements}
-use Rattle.cg_eval_laws.proofs.Names.{never}
+use Rattle.cg_inst.proofs.Names.{never}
 
 module _ (m : ℕ) where
   abbrev Below : List ℕ → Type 0

@@ -8,7 +8,7 @@ use Rattle.cg_base.specs.declared.kind.Sigil.TheVariants.{W, U}
 use Rattle.cg_base.specs.declared.kind.Word.TheVariants.{U32}
 use Rattle.cg_base.specs.Types.{Tau, word, fields, Parts, end, part, piece_list}
 use Rattle.cg_operations.specs.Iterators.{is_iterator}
-use Rattle.cg_machine.specs.Foreigns.{as_arguments}
+use Rattle.cg_typing.specs.Instances.{as_arguments}
 use Rattle.cg_kinds.specs.Kinds.{bang, is_word}
 use Rattle.cg_lawful.specs.Lawful.{library_arity}
 use Rattle.cg_lib_value.specs.Library.{answered, later_answers, library_value, makes_array, maybe as made_or_not, new_record, next_answer}
@@ -21,7 +21,7 @@ use Rattle.cg_value.specs.Values.{Val, number, answers, elements, gone, to_vals}
 use Rattle.cg_eval_laws.proofs.FitArrays.{changed_fits, element_fits, few_elements, zeros_fit}
 use Rattle.cg_eval_laws.proofs.FitFields.{field_fits, pair_fits}
 use Rattle.cg_eval_laws.proofs.FitObserved.{fits_observed}
-use Rattle.cg_eval_laws.proofs.Names.{never}
+use Rattle.cg_inst.proofs.Names.{never}
 
 -- ---- the parts of tuples
 

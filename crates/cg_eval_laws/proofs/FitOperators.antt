@@ -14,7 +14,7 @@ use Rattle.cg_kinds.specs.Kinds.{subst}
 use Rattle.cg_typing.specs.Operators.{Sort, arithmetic, equality, order, logic, sort_of, takes, gives}
 use Rattle.cg_value.specs.Fits.{World, fits}
 use Rattle.cg_value.specs.Values.{Val, number}
-use Rattle.cg_eval_laws.proofs.Names.{by_cases, never}
+use Rattle.cg_inst.proofs.Names.{by_cases, never}
 
 -- ---- numbers
 

@@ -12,7 +12,7 @@ use Rattle.cg_base.specs.Types.{Tau, arrow, fields, word, Parts, end, part}
 use Rattle.cg_base.specs.Words.{bits}
 use Rattle.cg_machine.specs.Evaluation.{Outcome, Table, Run, call, iterated}
 use Rattle.cg_operations.specs.Iterators.{asked, indices, indices_from, is_iterator}
-use Rattle.cg_machine.specs.Foreigns.{as_arguments}
+use Rattle.cg_typing.specs.Instances.{as_arguments}
 use Rattle.cg_kinds.specs.Kinds.{bang, is_word}
 use Rattle.cg_lawful.specs.Lawful.{library_arity}
 use Rattle.cg_typing.specs.Functions.{asked_by_library, are_good_arguments}
@@ -24,7 +24,7 @@ use Rattle.cg_value.specs.Values.{Val, number, nothing, chosen, parts, to_vals}
 use Rattle.cg_eval_laws.specs.Laws.{IsSound}
 use Rattle.cg_eval_laws.proofs.FitFields.{field_fits, pair_fits}
 use Rattle.cg_eval_laws.proofs.FitLibrary.{first_is_word, get_fits, pair_parts, seen_array, set_fits}
-use Rattle.cg_eval_laws.proofs.Names.{never}
+use Rattle.cg_inst.proofs.Names.{never}
 use Rattle.cg_eval_laws.proofs.Turns.{Each, any_of, each_so, indices_below, TurnsFit, turns_sound}
 
 -- ---- the function of a turn

@@ -1,6 +1,5 @@
 pub mod Calls
 pub mod Checked
-pub mod Closed
 pub mod FirstOrder
 pub mod FitArrays
 pub mod FitContexts
@@ -11,11 +10,9 @@ pub mod FitOperators
 pub mod FitParts
 pub mod Iterators
 pub mod Mentions
-pub mod Names
 pub mod Nodes
 pub mod Outcomes
 pub mod Reached
-pub mod SameType
 pub mod Soundness
 pub mod Turns
 pub mod Whole

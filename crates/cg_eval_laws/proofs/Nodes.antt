@@ -17,7 +17,8 @@ use Rattle.cg_core.specs.Kernels.{Function}
 use Rattle.cg_core.specs.Terms.{Note, Tree, Shape, var, unit, bool, lit, fun, op, app, lets, let_bang, if_else, con, case_of, esac, struct, member, take_field, put, cast, annot, none, more, Named, end, field}
 use Rattle.cg_machine.specs.Evaluation.{Outcome, spent, stuck, gives, bind, Context, Table, Run, all_of, apply, node_shape}
 use Rattle.cg_operations.specs.Operators.{literal, truth}
-use Rattle.cg_machine.specs.Foreigns.{is_among, is_closed}
+use Rattle.cg_machine.specs.Foreigns.{is_among}
+use Rattle.cg_typing.specs.Instances.{is_closed}
 use Rattle.cg_kinds.specs.Kinds.{is_word, subst, subst_parts}
 use Rattle.cg_typing.specs.Contexts.{Context as Entries, push, first, second, Splits}
 use Rattle.cg_typing.specs.Functions.{arg_types}
@@ -36,7 +37,7 @@ use Rattle.cg_eval_laws.proofs.FitContexts.{FitContext, first_fits, second_fits,
 use Rattle.cg_eval_laws.proofs.FitOperators.{operated_fits, operated_both_fit}
 use Rattle.cg_eval_laws.proofs.FitParts.{con_fits, last_fits, member_fits, others_fit, payload_fits, put_fits, without_fits}
 use Rattle.cg_eval_laws.proofs.Mentions.{IsValueOf, mention_is_value}
-use Rattle.cg_eval_laws.proofs.Names.{by_cases, either_way, never}
+use Rattle.cg_inst.proofs.Names.{by_cases, either_way, never}
 use Rattle.cg_eval_laws.proofs.Outcomes.{bind_sound, pay_sound}
 use Rattle.cg_eval_laws.proofs.Reached.{Reaches, ReachesIn, ReachesFields}
 

@@ -5,7 +5,7 @@ use Rattle.cg_machine.specs.Evaluation.{Outcome, spent, stuck, gives, bind, cost
 use Rattle.cg_value.specs.Fits.{World, fits}
 use Rattle.cg_value.specs.Values.{Val, gone}
 use Rattle.cg_eval_laws.specs.Laws.{IsSound}
-use Rattle.cg_eval_laws.proofs.Names.{either_way}
+use Rattle.cg_inst.proofs.Names.{either_way}
 
 -- the value of a result
 abbrev value_in : Option (Val × ℕ) → Val

@@ -15,7 +15,8 @@ use Rattle.cg_core.specs.Derivations.{Derivation}
 use Rattle.cg_core.specs.Kernels.{Function, kernel_of}
 use Rattle.cg_core.specs.Terms.{Note, Tree, term}
 use Rattle.cg_machine.specs.Evaluation.{Outcome, spent, stuck, gives, evaluate, outcome, with_fuel}
-use Rattle.cg_machine.specs.Foreigns.{IsClosed, has_vars, table_of, table_over, world_of}
+use Rattle.cg_machine.specs.Foreigns.{IsClosed, table_of, table_over, world_of}
+use Rattle.cg_typing.specs.Instances.{has_vars}
 use Rattle.cg_kinds.specs.Kinds.{subst}
 use Rattle.cg_lawful.specs.Lawful.{IsLawfulFunction, IsLawfulType}
 use Rattle.cg_typing.specs.declared.checked.Checked.{Checked}
@@ -26,7 +27,7 @@ use Rattle.cg_value.specs.Foreign.{Foreign, IsLawful}
 use Rattle.cg_value.specs.Values.{function}
 use Rattle.cg_eval_laws.specs.Laws.{CallsAreSound, FunctionsFit, IsSound}
 use Rattle.cg_eval_laws.proofs.Calls.{AreTyped, calls_sound, mentions_fit}
-use Rattle.cg_eval_laws.proofs.Closed.{lawful_stays}
+use Rattle.cg_inst_laws.proofs.Closed.{lawful_stays}
 use Rattle.cg_eval_laws.proofs.Nodes.{CallsSound, SoundRun, node_sound}
 use Rattle.cg_eval_laws.proofs.Outcomes.{pay_sound}
 use Rattle.cg_eval_laws.proofs.Reached.{arities}

@@ -8,7 +8,7 @@ use Rattle.cg_operations.specs.Iterators.{changed, carried, counted, ended, indi
 use Rattle.cg_value.specs.Fits.{World, fits}
 use Rattle.cg_value.specs.Values.{Val}
 use Rattle.cg_eval_laws.specs.Laws.{IsSound}
-use Rattle.cg_eval_laws.proofs.Names.{by_cases, either_way}
+use Rattle.cg_inst.proofs.Names.{by_cases, either_way}
 use Rattle.cg_eval_laws.proofs.Outcomes.{bind_sound, pay_sound}
 
 -- each of some numbers

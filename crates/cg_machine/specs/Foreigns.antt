@@ -1,19 +1,18 @@
 -- The functions of a source over a table of abstract functions: of which types they are as values, and how calls are evaluated.
-use Rattle.std.specs.Prelude.{◌≡◌, ℕ, Bool, true, false, ◌&&◌, IsTrue, nat_eq, List, [], ◌∷◌, length, map, Option, Some, None, slice_get}
+use Rattle.std.specs.Prelude.{◌≡◌, ℕ, Bool, true, false, ◌&&◌, IsTrue, List, [], ◌∷◌, length, Option, Some, None, slice_get}
 use Rattle.std.specs.List.{list_all}
 use Rattle.std.specs.Option.{option_map}
 use Rattle.cg_base.specs.declared.fun.Fun.{Fun}
 use Rattle.cg_base.specs.declared.fun.Fun.TheVariants.{User, Lib as OfLib}
-use Rattle.cg_base.specs.Places.{first_place}
 use Rattle.cg_base.specs.Types.{Tau}
 use Rattle.cg_core.specs.Kernels.{Function, kernel_of}
-use Rattle.cg_core.specs.Terms.{Arg, Note, Tree}
+use Rattle.cg_core.specs.Terms.{Note, Tree}
 use Rattle.cg_machine.specs.Evaluation.{Table}
-use Rattle.cg_kinds.specs.Kinds.{width}
-use Rattle.cg_lawful.specs.Lawful.{body_mentions, library_arity}
+use Rattle.cg_lawful.specs.Lawful.{body_mentions}
 use Rattle.cg_typing.specs.Functions.{are_good_arguments, asked_by, fun_type}
 use Rattle.cg_typing.specs.declared.checked.Checked.{Checked}
 use Rattle.cg_typing.specs.Holds.{cores_in, kept_at, kernel_in}
+use Rattle.cg_typing.specs.Instances.{as_arguments, is_closed, takes_as_many}
 use Rattle.cg_typing.specs.Kept.{maybe_core}
 use Rattle.cg_typing.specs.Parts.{taken_by}
 use Rattle.cg_value.specs.Fits.{World, fits}
@@ -22,24 +21,6 @@ use Rattle.cg_base.specs.Same.{same_type}
 use Rattle.cg_value.specs.Values.{Val, gone}
 
 -- ---- values of functions
-
--- a function has so many type variables; none has, where there is no such function
-abbrev pub has_vars : Option Function → ℕ → Bool
-has_vars None n = false
-has_vars (Some f) n = nat_eq (length f.vars) n
-
--- so many type arguments are what a function takes
-abbrev pub takes_as_many : List Function → Fun → ℕ → Bool
-takes_as_many functions (User i) n = has_vars (slice_get functions i) n
-takes_as_many functions (OfLib lib) n = nat_eq (library_arity lib) n
-
--- a type without type variables
-abbrev pub is_closed : Tau → Bool
-is_closed t = nat_eq (width t) 0
-
--- types as type arguments, which are written nowhere
-abbrev pub as_arguments : List Tau → List Arg
-as_arguments types = map (λ t. record { place = first_place; ty = t }) types
 
 abbrev pub is_this : Option Tau → Tau → Bool
 is_this None t = false

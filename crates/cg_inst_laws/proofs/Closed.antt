@@ -4,7 +4,7 @@ use Rattle.std.proofs.lemmas.Bool.{and_parts, and_from}
 use Rattle.std.specs.List.{list_all}
 use Rattle.std.specs.Prelude.{slice_get}
 use Rattle.cg_base.specs.Types.{Tau, var, seen, unit, word, bool, arrow, abs, variant, fields, Taus, none, more, Parts, end, part}
-use Rattle.cg_machine.specs.Foreigns.{is_closed}
+use Rattle.cg_typing.specs.Instances.{is_closed}
 use Rattle.cg_kinds.specs.Kinds.{bang, bang_all, bang_parts, or_unit, subst, subst_all, subst_parts, width, width_all, width_parts}
 use Rattle.cg_lawful.specs.Lawful.{IsLawfulType, AreLawfulTypes, AreLawfulParts}
 
@@ -128,3 +128,8 @@ mutual
 
 pub closed_stays : (given : List Tau) (t : Tau) → IsTrue (is_closed t) → subst given t ≡ t
 closed_stays given t h = narrow_stays given t (eqb-true (width t) 0 h)
+
+-- so what closed arguments make of types other arguments leave as it is
+pub given_stay : (given : List Tau) → IsTrue (list_all is_closed given) → (other : List Tau) (ts : List Tau) → map (subst other) (map (subst given) ts) ≡ map (subst given) ts
+given_stay given closed other [] = refl
+given_stay given closed other (t ∷ ts) = let p = closed_stays other (subst given t) (closed_subst given closed t) in let q = given_stay given closed other ts in cc

@@ -1,0 +1,9 @@
+pub mod Bodies
+pub mod Circles
+pub mod Closed
+pub mod Each
+pub mod Entries
+pub mod Growth
+pub mod Mentions
+pub mod Nodes
+pub mod Sources
