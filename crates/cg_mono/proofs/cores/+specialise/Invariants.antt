@@ -1,0 +1,61 @@
+use Rattle.std.proofs.Common.{◌≡◌, ◌+◌, ◌*◌, max, map, take}
+use Rattle.cg_core.specs.declared.term.Term.{size-Term}
+use Rattle.cg_core.specs.declared.term.Form.{size-Form}
+use Rattle.cg_core.specs.declared.term.FieldTerm.{size-FieldTerm}
+use Rattle.cg_mono.specs.Fields.{subst_field}
+use Rattle.cg_typing_laws.specs.Subst.{subst_core}
+use Rattle.cg_base.specs.Types.{type_of}
+use Rattle.cg_core.specs.Kernels.{the_core, the_core_field}
+use Rattle.cg_core.specs.declared.term.Typed.{Typed}
+use denote.Param.Weighed.{most}
+use Rattle.cg_mono.proofs.cores.+specialise.Given as goal
+
+abbrev pub invariant-in_terms-loop-term : goal.invariant-in_terms-loop-term
+invariant-in_terms-loop-term l = map the_core l.made ≡ map (subst_core (map type_of l.types)) (map the_core (take l.term-index l.term-items))
+
+abbrev pub invariant-in_fields-loop-field : goal.invariant-in_fields-loop-field
+invariant-in_fields-loop-field l = map the_core_field l.made ≡ map (subst_field (map type_of l.types)) (map the_core_field (take l.field-index l.field-items))
+
+-- ---- what gets less: the size of what is gone down, and then how many calls are left before the next term
+
+abbrev pub decreases-specialise : goal.decreases-specialise
+decreases-specialise l = 4 * (size-Term Typed l.core.now)
+
+abbrev pub decreases-in_form : goal.decreases-in_form
+decreases-in_form l = 4 * (size-Form Typed l.form.now)
+
+abbrev pub decreases-in_boxed : goal.decreases-in_boxed
+decreases-in_boxed l = 4 * (size-Term Typed l.core.now) + 1
+
+abbrev pub decreases-in_two : goal.decreases-in_two
+decreases-in_two l = 4 * (max (size-Term Typed l.first.now) (size-Term Typed l.second.now)) + 2
+
+abbrev pub decreases-in_named : goal.decreases-in_named
+decreases-in_named l = 4 * (size-Term Typed l.term.now) + 2
+
+abbrev pub decreases-in_at : goal.decreases-in_at
+decreases-in_at l = 4 * (size-Term Typed l.term.now) + 2
+
+abbrev pub decreases-in_typed : goal.decreases-in_typed
+decreases-in_typed l = 4 * (size-Term Typed l.term.now) + 2
+
+abbrev pub decreases-in_let_bang : goal.decreases-in_let_bang
+decreases-in_let_bang l = 4 * (max (size-Term Typed l.value.now) (size-Term Typed l.body.now)) + 3
+
+abbrev pub decreases-in_if : goal.decreases-in_if
+decreases-in_if l = 4 * (max (size-Term Typed l.test.now) (max (size-Term Typed l.yes.now) (size-Term Typed l.no.now))) + 3
+
+abbrev pub decreases-in_case : goal.decreases-in_case
+decreases-in_case l = 4 * (max (size-Term Typed l.subject.now) (max (size-Term Typed l.first.now) (size-Term Typed l.rest.now))) + 3
+
+abbrev pub decreases-in_take : goal.decreases-in_take
+decreases-in_take l = 4 * (max (size-Term Typed l.whole.now) (size-Term Typed l.body.now)) + 3
+
+abbrev pub decreases-in_put : goal.decreases-in_put
+decreases-in_put l = 4 * (max (size-Term Typed l.whole.now) (size-Term Typed l.value.now)) + 3
+
+abbrev pub decreases-in_terms : goal.decreases-in_terms
+decreases-in_terms l = 4 * (most (size-Term Typed) l.terms.now) + 1
+
+abbrev pub decreases-in_fields : goal.decreases-in_fields
+decreases-in_fields l = 4 * (most (size-FieldTerm Typed) l.fields.now) + 1

@@ -1,0 +1,3 @@
+pub mod Copies
+pub mod Fields
+pub mod Monos

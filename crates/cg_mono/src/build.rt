@@ -1,0 +1,93 @@
+// How copies are made.
+#![tactic(auto, using(crate::proofs::Entries::entry_steps))]
+
+ghost use Rattle.std.specs.Prelude.{◌≡◌, None, Some, map, slice_get, IfOk, MatchOption};
+ghost use Rattle.std.specs.Option.{option_map};
+ghost use Rattle.cg_base.specs.Types.{type_of};
+ghost use Rattle.cg_core.specs.Kernels.{function_of};
+ghost use Rattle.cg_inst.specs.Judged.{core_in, functions_in};
+ghost use Rattle.cg_inst.specs.Lists.{core_of};
+ghost use Rattle.cg_inst.specs.Views.{instance_of};
+ghost use Rattle.cg_inst_laws.specs.Laws.{entry_of};
+ghost use Rattle.cg_kinds.specs.Kinds.{or_unit};
+ghost use Rattle.cg_mono.specs.Copies.{copy_of};
+ghost use Rattle.cg_mono.specs.Monos.{copies_in};
+ghost use Rattle.cg_typing.specs.Functions.{fun_type};
+ghost use Rattle.cg_typing.specs.Instances.{as_arguments};
+ghost use Rattle.cg_typing.specs.Kept.{maybe_core};
+ghost use Rattle.cg_typing_laws.specs.Subst.{subst_core};
+
+use crate::copies::{Copy, Mono};
+use crate::cores::specialise;
+use cg_base::{Fun, Items, Memory, Ty};
+use cg_core::{KFun, Term, Typed};
+use cg_inst::{Instance, Instances};
+use cg_kinds::subst;
+use cg_parts::library_type;
+use cg_typing::Checked;
+use std::alloc::Global;
+
+// The function at a position, if there is one.
+fn declared<'a>(checked: &'a Checked, at: u32) -> Option<&'a KFun>
+    ensures { MatchOption result (slice_get (functions_in checked.now) at ≡ None) (λ f. slice_get (functions_in checked.now) at ≡ Some (function_of f.now)) }
+{
+    checked.kernel().funs.get(at as usize)
+}
+
+// The type of an instance: that of its function, with its types for the type variables.
+fn type_at(alloc: Global, checked: &Checked, instance: &Instance) -> Result<Ty, Memory>
+    ensures { IfOk result (λ t. type_of t ≡ or_unit (fun_type (functions_in checked.now) (instance_of instance.now).fun (as_arguments (instance_of instance.now).types))) }
+{
+    match instance.fun {
+        Fun::User(at) => match declared(checked, at) {
+            Some(function) => subst(alloc, &function.ty.ty, &instance.args),
+            None => Ok(Ty::Unit),
+        },
+        Fun::Lib(lib) => library_type(alloc, lib, &instance.args),
+    }
+}
+
+// The body of an instance, where it has one.
+fn body_at(
+    alloc: Global,
+    checked: &Checked,
+    instance: &Instance,
+) -> Result<Option<Term<Typed>>, Memory>
+    ensures { IfOk result (λ body. maybe_core body
+        ≡ option_map (subst_core (instance_of instance.now).types) (core_of (core_in checked.now) (instance_of instance.now).fun)) }
+{
+    match instance.fun {
+        Fun::User(at) => match checked.core(at) {
+            Some(core) => Ok(Some(specialise(alloc, core, &instance.args)?)),
+            None => Ok(None),
+        },
+        Fun::Lib(_) => Ok(None),
+    }
+}
+
+// The copy of an instance.
+fn copy_at(alloc: Global, checked: &Checked, instance: &Instance) -> Result<Copy, Memory>
+    ensures same { IfOk result (λ copy. instance_of copy.instance ≡ instance_of instance.now) }
+    ensures is { IfOk result (λ copy. copy_of copy ≡ entry_of (functions_in checked.now) (core_in checked.now) (instance_of instance.now)) }
+{
+    let ty = type_at(alloc, checked, instance)?;
+    let body = body_at(alloc, checked, instance)?;
+    Ok(Copy {
+        instance: instance.copy(alloc)?,
+        ty,
+        body,
+    })
+}
+
+/// The copies of the instances of a list, over a checked source (docs/LANGUAGE.md, "Instances"). Want of memory is its one refusal.
+pub fn mono(alloc: Global, checked: &Checked, list: &Instances) -> Result<Mono, Memory>
+    ensures instances { IfOk result (λ m. map (λ c. instance_of c.instance) (copies_in m) ≡ list.now) }
+    ensures entries { IfOk result (λ m. map copy_of (copies_in m) ≡ map (entry_of (functions_in checked.now) (core_in checked.now)) (list.now)) }
+{
+    let mut copies = Items::new(alloc);
+    let instances = list.as_slice();
+    for instance in instances {
+        copies.push(copy_at(alloc, checked, instance)?)?;
+    }
+    Ok(Mono { copies })
+}
