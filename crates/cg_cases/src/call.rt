@@ -2,6 +2,7 @@
 use crate::case::{Called, Case};
 use crate::ctext;
 use crate::evaluation::eval_text;
+use crate::instances::{copies_text, count_text};
 use crate::kernel::kernel_text;
 use cg_base::{Limit, Name, Place};
 use cg_declared::Declarations;
@@ -146,6 +147,8 @@ fn called(
         b"names" => names_text(alloc, source),
         b"resolve" => resolve_text(alloc, source, false),
         b"kernel" => resolve_text(alloc, source, true),
+        b"instances" => count_text(alloc, source),
+        b"mono" => copies_text(alloc, source),
         _ => String::from_str(alloc, "no such call\n"),
     }
 }

@@ -1,51 +1,18 @@
 // Evaluations: what a function of a source gives on a value, and what that costs.
-ghost use Rattle.std.specs.Prelude.{◌≡◌, [], IfSome, IsTrue, MatchOption, Some, slice_get};
+ghost use Rattle.std.specs.Prelude.{◌≡◌, [], IsTrue, MatchOption, Some, slice_get};
 ghost use Rattle.cg_base.specs.Types.{arrow, type_of};
 ghost use Rattle.cg_core.specs.Kernels.{function_of, kernel_of};
 ghost use Rattle.cg_eval_laws.specs.Laws.{HasBodies};
-ghost use Rattle.cg_lawful.specs.Lawful.{IsLawfulKernel};
-ghost use Rattle.cg_lawful_laws.specs.Shaped.{IsShaped};
-ghost use Rattle.cg_surface.specs.Programs.{program_of};
 
+use crate::accepted::checked;
 use crate::value::read_value;
 use cg_base::{Ty, literal};
-use cg_check::check;
 use cg_core::{KFun, Kernel};
 use cg_eval::{EvalFault, eval};
 use cg_eval_laws::whole_sources_are_sound;
-use cg_parser::parse;
-use cg_resolve::resolve;
-use cg_surface::Program;
 use cg_typing::Checked;
 use cg_value::{Value, fits, print_value};
 use std::alloc::{AllocError, Global};
-
-// The kernel of a program, if its names are in order.
-fn resolved(alloc: Global, program: &Program) -> Option<Kernel>
-    requires { IsShaped (program_of program.now) }
-    ensures { IfSome result (λ k. IsLawfulKernel (kernel_of k)) }
-{
-    match resolve(alloc, program) {
-        Ok(kernel) => Some(kernel),
-        Err(_) => None,
-    }
-}
-
-// The kernel of a source, if it is spelled and its names are in order.
-fn kernel_in(alloc: Global, source: &[u8]) -> Option<Kernel>
-    ensures { IfSome result (λ k. IsLawfulKernel (kernel_of k)) }
-{
-    match parse(alloc, source) {
-        Ok(program) => resolved(alloc, &program),
-        Err(_) => None,
-    }
-}
-
-// The source that is accepted, if it is.
-fn checked(alloc: Global, source: &[u8]) -> Option<Checked> {
-    let kernel = kernel_in(alloc, source)?;
-    check(alloc, kernel).ok()
-}
 
 // The function of a name, and where it stands.
 fn named<'a>(kernel: &'a Kernel, name: &[u8]) -> Option<(u32, &'a KFun)>

@@ -110,8 +110,9 @@ fn push_text(text: &mut String, more: &str) -> Result<(), AllocError> {
     Ok(())
 }
 
+/// A type.
 #[cycle(push_type)]
-fn push_type(text: &mut String, ty: &Ty) -> Result<(), AllocError> {
+pub fn push_type(text: &mut String, ty: &Ty) -> Result<(), AllocError> {
     match ty {
         Ty::Var(at) => push_variable(text, *at, ""),
         Ty::Seen(at) => push_variable(text, *at, "!"),
@@ -187,8 +188,9 @@ fn push_node(text: &mut String, depth: usize, term: &Term<Place>) -> Result<(), 
     push_text(text, "\n")
 }
 
+/// A node and those under it, the deeper the further to the right.
 #[cycle(push_term)]
-fn push_term(text: &mut String, depth: usize, term: &Term<Place>) -> Result<(), AllocError> {
+pub fn push_term(text: &mut String, depth: usize, term: &Term<Place>) -> Result<(), AllocError> {
     push_node(text, depth, term)?;
     push_subterms(text, depth.saturating_add(1), &term.form)
 }
@@ -282,12 +284,19 @@ fn push_details(text: &mut String, form: &Form<Place>) -> Result<(), AllocError>
     }
 }
 
+/// A function: its number, or its name in the library.
+pub fn push_mentioned(text: &mut String, fun: Fun) -> Result<(), AllocError> {
+    match fun {
+        Fun::User(at) => write!(text, "{at}")?,
+        Fun::Lib(lib) => write!(text, "{lib:?}")?,
+    }
+    Ok(())
+}
+
 // A function, with its type arguments.
 fn push_instance(text: &mut String, fun: Fun, args: &Items<TyArg>) -> Result<(), AllocError> {
-    match fun {
-        Fun::User(at) => write!(text, " {at}")?,
-        Fun::Lib(lib) => write!(text, " {lib:?}")?,
-    }
+    text.push_str(" ")?;
+    push_mentioned(text, fun)?;
     for arg in args.as_slice() {
         push_written(text, arg)?;
     }

@@ -2,11 +2,13 @@
 //! (docs/CASES.md). Each file that the words name is gone through; a line is printed for each difference, and last how many there are.
 #![tactic(auto)]
 
+mod accepted;
 mod answer;
 mod call;
 mod case;
 mod ctext;
 mod evaluation;
+mod instances;
 mod kernel;
 mod reader;
 mod text;

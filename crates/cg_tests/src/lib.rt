@@ -11,6 +11,8 @@ mod evaluation;
 #[cfg(test)]
 mod halving;
 #[cfg(test)]
+mod instances;
+#[cfg(test)]
 mod library;
 #[cfg(test)]
 mod orders;
