@@ -45,8 +45,8 @@ def loop(lib, count, body="r.acc + 1", before=""):
 FORMS = [
     ("sums", "r.acc + 1 + 2 + 3 + 4 + 5 + 6 + 7", ""),
     ("conditions", "if r.acc < 7 then r.acc + 1 else if r.acc == 9 then 3 else r.acc + 2", ""),
-    ("records", "let x = #{a = r.acc, b = 1, c = True} in x.a + x.b", ""),
-    ("takes and puts", "let x = #{a = r.acc, b = 1} in let x {a = y} = x in let x = x {a = y + 1} in x.a", ""),
+    ("records", "let x = #{a = r.acc, b = (1 : U32), c = True} in x.a + x.b", ""),
+    ("takes and puts", "let x = #{a = r.acc, b = (1 : U32)} in let x {a = y} = x in let x = x {a = y + 1} in x.a", ""),
     ("matches", "(Some r.acc : <None | Some U32>) | None -> 0 | Some y -> y + 1", ""),
     ("calls", "g (g (g r.acc))", "g : U32 -> U32\ng x = x + 1\n"),
     ("calls at types", "id[U32] (id[U32] (id[U32] r.acc))", "id : all a. a -> a\nid x = x\n"),
