@@ -1,0 +1,8 @@
+//! Heaps: cells at addresses, the stores that hold them, and what values they represent (docs/LANGUAGE.md, "Layout").
+#![tactic(auto)]
+
+mod cell;
+mod store;
+
+pub use cell::{Cell, Fresh, Scalar};
+pub use store::Store;
