@@ -1,3 +1,4 @@
+pub mod Frames
 pub mod Once
 pub mod Same
 pub mod Slots
