@@ -1,3 +1,4 @@
+pub mod Bang
 pub mod Frames
 pub mod Once
 pub mod Same
