@@ -1,4 +1,5 @@
 pub mod Bang
+pub mod ByKinds
 pub mod Frames
 pub mod Once
 pub mod Same
