@@ -1,5 +1,6 @@
 pub mod Bang
 pub mod ByKinds
+pub mod Fitting
 pub mod Frames
 pub mod Once
 pub mod Same
