@@ -3,6 +3,7 @@ use Rattle.std.proofs.Common.{◌≡◌, ℕ, zero, suc, ◌+◌, ◌≤◌, Opt
 use Rattle.std.specs.Option.{IsSome}
 use Rattle.cg_heap.specs.Frames.{Frame}
 use Rattle.cg_heap.specs.Reps.{Heap}
+use Rattle.cg_heap_laws.specs.Laws.{FramesStandBeside}
 
 -- a count is none, or one at least
 by_count : {A : Type 0} → (n : ℕ) → (n ≡ 0 → A) → (1 ≤ n → A) → A
@@ -62,3 +63,8 @@ frame_beside h h' w w' x f = record {
   freed = λ q k n. f.freed q (omega arith) (omega arith);
   fresh = λ q k z. f.fresh q (omega arith) (omega arith);
 }
+
+-- and leaves that part as it was
+pub frame_aside : FramesStandBeside
+frame_aside h h' w w' f x there apart =
+    (frame_beside h h' w w' x f, λ q k. (frame_apart h h' w w' f x there apart q k, frame_near h h' w w' f x there apart q k))
