@@ -1,3 +1,4 @@
 pub mod Frames
 pub mod Reps
+pub mod Steps
 pub mod Stored
