@@ -2,6 +2,7 @@
 use cg_base::Items;
 
 /// One place of a machine value: a number, or an address; `Unset` holds nothing (docs/LANGUAGE.md, "Layout").
+#[derive(Clone, Copy)]
 pub enum Scalar {
     /// Nothing was written.
     Unset,
@@ -12,6 +13,7 @@ pub enum Scalar {
 }
 
 /// What a heap holds at an address.
+#[derive(Drop)]
 pub enum Cell {
     /// A boxed record: the slots of its fields, in order.
     Slots(Items<Scalar>),
@@ -22,6 +24,7 @@ pub enum Cell {
 }
 
 /// A cell to be made.
+#[derive(Clone, Copy)]
 pub enum Fresh {
     /// So many slots, none of them set.
     Slots(u32),

@@ -2,7 +2,10 @@
 #![tactic(auto)]
 
 mod cell;
+mod held;
+mod map;
 mod store;
 
 pub use cell::{Cell, Fresh, Scalar};
+pub use map::MapStore;
 pub use store::Store;

@@ -1,0 +1,124 @@
+// A store over an ordered map.
+ghost use Rattle.std.specs.Prelude.{◌≡◌, IfOk, replicate};
+ghost use Rattle.std.specs.FinMap as map;
+ghost use Rattle.cg_heap.specs.Stored.{fresh_cell};
+
+use crate::held::HeldCell;
+use crate::{Cell, Fresh, Scalar, Store};
+use cg_base::{Items, Memory};
+use std::alloc::Global;
+use std::collections::BTreeMap;
+use std::marker::Model;
+
+/// A store whose cells stand in an ordered map, which contracts see as what it holds. Each call takes a time that grows
+/// as the logarithm of the number of cells, and making a cell also grows with its length.
+#[derive(Drop)]
+pub struct MapStore {
+    alloc: Global,
+    cells: BTreeMap<u64, HeldCell>,
+    top: u64,
+}
+
+impl Model for MapStore {
+    ghost use Rattle.cg_heap.specs.Stored.{Stored, IsSound};
+
+    ghost Value = { Stored };
+
+    ghost use Rattle.cg_heap.specs.Mapped.{mapped};
+
+    ghost view = { λ store. mapped store.cells.entries store.top };
+
+    ghost invariant = { λ store. IsSound (mapped store.cells.entries store.top) };
+}
+
+impl MapStore {
+    /// A store without a cell. It takes no memory.
+    pub fn new(alloc: Global) -> MapStore
+        ensures { result ≡ record { cells = map.empty; top = 0 } }
+    {
+        MapStore {
+            alloc,
+            cells: BTreeMap::new(alloc),
+            top: 0,
+        }
+    }
+}
+
+impl Store for MapStore {
+    ghost stored = { λ store. store };
+
+    fn len(&self, at: u64) -> Option<u32> {
+        match self.cells.get(&at) {
+            Some(cell) => Some(cell.len() as u32),
+            None => None,
+        }
+    }
+
+    fn get(&self, at: u64, slot: u32) -> Option<Scalar> {
+        self.cells.get(&at)?.get(slot)
+    }
+
+    fn answer(&self, at: u64, index: u32) -> Option<bool> {
+        self.cells.get(&at)?.answer(index)
+    }
+
+    fn set_field(&mut self, at: u64, slot: u32, value: Scalar) -> bool {
+        match self.cells.get_mut(&at) {
+            Some(cell) => cell.set_field(slot, value),
+            None => false,
+        }
+    }
+
+    fn set_element(&mut self, at: u64, index: u32, value: u64) -> bool {
+        match self.cells.get_mut(&at) {
+            Some(cell) => cell.set_element(index, value),
+            None => false,
+        }
+    }
+
+    fn pop(&mut self, at: u64) -> Option<bool> {
+        match self.cells.get_mut(&at) {
+            Some(cell) => cell.pop(),
+            None => None,
+        }
+    }
+
+    fn add(&mut self, fresh: Fresh) -> Result<u64, Memory> {
+        let cell = made(self.alloc, fresh)?;
+        let at = self.top + 1;
+        self.cells.insert(at, HeldCell::new(cell))?;
+        self.top = at;
+        Ok(at)
+    }
+
+    fn place(&mut self, at: u64, cell: Cell) -> Result<(), Memory> {
+        self.cells.insert(at, HeldCell::new(cell))?;
+        self.top = self.top.max(at);
+        Ok(())
+    }
+
+    fn remove(&mut self, at: u64) -> bool {
+        self.cells.remove(&at).is_some()
+    }
+}
+
+// A new cell.
+fn made(alloc: Global, fresh: Fresh) -> Result<Cell, Memory>
+    ensures { IfOk result (λ cell. cell ≡ fresh_cell fresh) }
+{
+    Ok(match fresh {
+        Fresh::Slots(count) => Cell::Slots(repeated(alloc, Scalar::Unset, count)?),
+        Fresh::Words(count) => Cell::Words(repeated(alloc, 0, count)?),
+    })
+}
+
+// So many times one item.
+fn repeated<T: Copy>(alloc: Global, item: T, count: u32) -> Result<Items<T>, Memory>
+    ensures { IfOk result (λ items. items ≡ replicate count item) }
+{
+    let mut items = Items::new(alloc);
+    for _ in 0..count {
+        items.push(item)?;
+    }
+    Ok(items)
+}
