@@ -1,9 +1,8 @@
 -- Cells of which some answers were taken, and what is written into them.
-use Rattle.std.proofs.Common.{add-one, ◌≡◌, ℕ, ◌+◌, ◌<◌, ◌≤◌, suc, Bool, false, List, [], ◌∷◌, ◌++◌, length, take, drop, slice_set, refl, sym, ap, ◌∙◌, arith}
+use Rattle.std.proofs.Common.{add-one, ◌≡◌, ℕ, ◌+◌, ◌<◌, Bool, false, List, length, refl}
 use Rattle.std.proofs.Math.Seq.{drop-cons}
 use Rattle.std.specs.Option.{unwrap_or}
-use Rattle.cg_heap.specs.declared.cell.Cell.{Cell}
-use Rattle.cg_heap.specs.declared.cell.Cell.TheVariants.{Slots, Words, Answers}
+use Rattle.cg_heap.specs.declared.cell.Cell.TheVariants.{Answers}
 use Rattle.cg_heap.specs.Left.{left}
 use Rattle.cg_heap.specs.Stored.{without_answer}
 

@@ -1,1 +1,4 @@
 mod Lefts
+mod Maps
+mod Shorter
+mod Sounds

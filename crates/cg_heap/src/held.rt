@@ -9,10 +9,16 @@ use std::marker::Model;
 
 // A cell, which contracts see without the answers that were taken: they stay in its list, so that to take one moves
 // no other.
-#[derive(Drop)]
 pub(crate) struct HeldCell {
     cell: Cell,
     taken: usize,
+}
+
+impl Drop for HeldCell {
+    fn drop(self) {
+        let HeldCell { cell, taken: _ } = self;
+        drop(cell);
+    }
 }
 
 impl Model for HeldCell {

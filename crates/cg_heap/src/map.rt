@@ -1,7 +1,9 @@
 // A store over an ordered map.
-ghost use Rattle.std.specs.Prelude.{◌≡◌, IfOk, replicate};
+ghost use Rattle.std.specs.Prelude.{◌≡◌, ◌<◌, ◌^◌, IfOk, OnOk, OnErr, Some, replicate};
+ghost use Rattle.std.specs.BTreeMap.{Updates};
 ghost use Rattle.std.specs.FinMap as map;
-ghost use Rattle.cg_heap.specs.Stored.{fresh_cell};
+ghost use Rattle.std.specs.Ordering.{nat_cmp};
+ghost use Rattle.cg_heap.specs.Stored.{cell_length, fresh_cell};
 
 use crate::held::HeldCell;
 use crate::{Cell, Fresh, Scalar, Store};
@@ -20,9 +22,13 @@ pub struct MapStore {
 }
 
 impl Model for MapStore {
+    ghost use Rattle.std.specs.Coded.{codes};
     ghost use Rattle.cg_heap.specs.Stored.{Stored, IsSound};
+    ghost use Rattle.cg_heap.specs.Codes.{coded_stored};
 
     ghost Value = { Stored };
+
+    ghost coded = { coded_stored (Prim.hlevel codes) };
 
     ghost use Rattle.cg_heap.specs.Mapped.{mapped};
 
@@ -86,25 +92,41 @@ impl Store for MapStore {
     fn add(&mut self, fresh: Fresh) -> Result<u64, Memory> {
         let cell = made(self.alloc, fresh)?;
         let at = self.top + 1;
-        self.cells.insert(at, HeldCell::new(cell))?;
+        put_at(&mut self.cells, at, cell)?;
         self.top = at;
         Ok(at)
     }
 
     fn place(&mut self, at: u64, cell: Cell) -> Result<(), Memory> {
-        self.cells.insert(at, HeldCell::new(cell))?;
+        put_at(&mut self.cells, at, cell)?;
         self.top = self.top.max(at);
         Ok(())
     }
 
     fn remove(&mut self, at: u64) -> bool {
-        self.cells.remove(&at).is_some()
+        match self.cells.remove(&at) {
+            Some(cell) => {
+                drop(cell);
+                true
+            }
+            None => false,
+        }
     }
+}
+
+// Puts a cell at an address. Without memory nothing has changed.
+fn put_at(cells: &mut BTreeMap<u64, HeldCell>, at: u64, cell: Cell) -> Result<(), Memory>
+    ensures ok { OnOk result (Updates nat_cmp cells.old cells.new at (Some cell)) }
+    ensures err { OnErr result (cells.new.entries ≡ cells.old.entries) }
+{
+    cells.insert(at, HeldCell::new(cell))?;
+    Ok(())
 }
 
 // A new cell.
 fn made(alloc: Global, fresh: Fresh) -> Result<Cell, Memory>
-    ensures { IfOk result (λ cell. cell ≡ fresh_cell fresh) }
+    ensures cell { IfOk result (λ cell. cell ≡ fresh_cell fresh) }
+    ensures short { IfOk result (λ cell. cell_length cell < 2 ^ 32) }
 {
     Ok(match fresh {
         Fresh::Slots(count) => Cell::Slots(repeated(alloc, Scalar::Unset, count)?),

@@ -1,4 +1,3 @@
-use Rattle.std.proofs.Common.{◌≡◌}
 use Rattle.cg_heap.proofs.Lefts.{popped}
 use Rattle.cg_heap.proofs.held.HeldCell.pop.Goals as goal
 

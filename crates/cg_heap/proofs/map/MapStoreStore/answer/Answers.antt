@@ -1,0 +1,15 @@
+use Rattle.std.proofs.Common.{sym, ap, ◌∙◌}
+use Rattle.std.specs.Option.{option_copied}
+use Rattle.cg_heap.specs.Stored.{answer_of}
+use Rattle.cg_heap.proofs.Maps.{asked_is, asked_none}
+use Rattle.cg_heap.proofs.map.MapStoreStore.answer.Goals as goal
+
+pub returns-in_err-get : goal.returns-in_err-get
+returns-in_err-get c =
+    let missed = sym c.get.ensures.value ∙ ap option_copied c.in_err-get.was in
+    rw (c.from_residual.ensures, ← c.self.view_is) (asked_none (answer_of c.args.index) c.args.at c.self.inside.cells.entries c.self.inside.top missed)
+
+pub returns : goal.returns
+returns c =
+    let found = sym c.get.ensures.value ∙ ap option_copied c.in_ok-get.was in
+    rw (c.answer.ensures, ← c.self.view_is) (asked_is (answer_of c.args.index) c.args.at c.self.inside.cells.entries c.self.inside.top c.in_ok-get.field-0.now found)
