@@ -5,6 +5,8 @@ mod cell;
 mod held;
 mod map;
 mod store;
+#[cfg(test)]
+mod tests;
 
 pub use cell::{Cell, Fresh, Scalar};
 pub use map::MapStore;
