@@ -2,3 +2,4 @@ mod Lefts
 mod Maps
 mod Shorter
 mod Sounds
+mod Widths

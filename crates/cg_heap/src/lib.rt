@@ -3,11 +3,13 @@
 
 mod cell;
 mod held;
+mod layout;
 mod map;
 mod store;
 #[cfg(test)]
 mod tests;
 
 pub use cell::{Cell, Fresh, Scalar};
+pub use layout::slots;
 pub use map::MapStore;
 pub use store::Store;
