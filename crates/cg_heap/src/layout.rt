@@ -8,7 +8,8 @@ ghost use Rattle.cg_heap.specs.Reps.{slots as slots_of_type, slots_of_parts as s
 
 use cg_base::{Items, Part, Sigil, Ty};
 
-/// How many scalars a value of this type has, 1 for a type variable (docs/LANGUAGE.md, "Layout"). It takes no memory.
+/// How many scalars a value of this type has, 1 for a type variable (docs/LANGUAGE.md, "Layout"). The type has no more
+/// than 1,024 nodes, so there are no more scalars than that. It takes no memory.
 #[cycle(slots)]
 pub fn slots(ty: &Ty) -> u32
     requires { nodes (type_of ty.now) ≤ 1024 }

@@ -12,8 +12,8 @@ use std::alloc::Global;
 use std::collections::BTreeMap;
 use std::marker::Model;
 
-/// A store whose cells stand in an ordered map, which contracts see as what it holds. Each call takes a time that grows
-/// as the logarithm of the number of cells, and making a cell also grows with its length.
+/// A store whose cells stand in an ordered map, which contracts see as what it holds. A call takes time that grows as the
+/// logarithm of the number of cells; to make a cell or to take it out also takes time in proportion to its length.
 #[derive(Drop)]
 pub struct MapStore {
     alloc: Global,
@@ -114,7 +114,7 @@ impl Store for MapStore {
     }
 }
 
-// Puts a cell at an address. Without memory nothing has changed.
+// Puts a cell at an address, over one that is there. Without memory nothing has changed.
 fn put_at(cells: &mut BTreeMap<u64, HeldCell>, at: u64, cell: Cell) -> Result<(), Memory>
     ensures ok { OnOk result (Updates nat_cmp cells.old cells.new at (Some cell)) }
     ensures err { OnErr result (cells.new.entries ≡ cells.old.entries) }
