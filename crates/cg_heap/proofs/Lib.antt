@@ -1,5 +1,9 @@
+mod CellItems
+mod Fronts
 mod Lefts
 mod Maps
+mod ReadSteps
+mod Readers
 mod Shorter
 mod Sounds
 mod Widths

@@ -1,7 +1,9 @@
 pub mod Codes
+pub mod FirstOrder
 pub mod Frames
 pub mod Left
 pub mod Mapped
+pub mod Readings
 pub mod Reps
 pub mod Steps
 pub mod Stored

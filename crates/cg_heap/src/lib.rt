@@ -2,9 +2,12 @@
 #![tactic(auto)]
 
 mod cell;
+mod contents;
 mod held;
 mod layout;
 mod map;
+mod part;
+mod read;
 mod store;
 #[cfg(test)]
 mod tests;
@@ -12,4 +15,5 @@ mod tests;
 pub use cell::{Cell, Fresh, Scalar};
 pub use layout::slots;
 pub use map::MapStore;
+pub use read::read_out;
 pub use store::Store;
