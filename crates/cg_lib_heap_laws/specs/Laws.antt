@@ -1,0 +1,46 @@
+-- Laws of the library on heaps: what it gives represents the library's value, and it is a step.
+use Rattle.std.specs.Prelude.{◌≡◌, ℕ, ◌+◌, ◌≤◌, Bool, true, false, IsTrue, List, length, Option, Some, None}
+use Rattle.cg_base.specs.declared.fun.Lib.{Lib}
+use Rattle.cg_base.specs.declared.fun.Lib.TheVariants.{New, Free, Create, FreeArray, Length, Get, Put}
+use Rattle.cg_base.specs.declared.kind.Sigil.TheVariants.{R, W}
+use Rattle.cg_base.specs.Types.{Tau, fields}
+use Rattle.cg_heap.specs.declared.cell.Scalar.{Scalar}
+use Rattle.cg_heap.specs.Reps.{HeapWorld, Holds, foot}
+use Rattle.cg_heap.specs.Steps.{IsFine, Step}
+use Rattle.cg_heap.specs.Stored.{Stored}
+use Rattle.cg_lib_heap.specs.Library.{Out, heap_of, library_heap}
+use Rattle.cg_lib_value.specs.Library.{library_value}
+use Rattle.cg_kinds.specs.Kinds.{is_word}
+use Rattle.cg_typing.specs.Library.{given, library_type}
+use Rattle.cg_typing.specs.Parts.{taken_by, given_by}
+use Rattle.cg_value.specs.Values.{Val}
+
+-- What comes out of a call with an argument of a type is of another type, represents a value, and is a step.
+pub record Does (world : HeapWorld) (s : Stored) (t : Tau) (us : List Scalar) (o : Out) (t' : Tau) (v : Val) : Type 0 where
+  pub holds : Holds world (heap_of o.store) t' o.result v
+  pub step : Step (heap_of s) s.top (foot (heap_of s) W t us) (foot (heap_of s) R t us) (heap_of o.store) o.store.top o.made o.freed
+    (foot (heap_of o.store) W t' o.result) (foot (heap_of o.store) R t' o.result)
+
+-- a record that can be written
+abbrev pub is_written : Tau → Bool
+is_written (fields ps W) = true
+is_written _ = false
+
+-- what the first type argument has to be, of a function that takes no function
+abbrev pub is_argument : Lib → Tau → Bool
+is_argument New t = is_written t
+is_argument Free t = is_written t
+is_argument Create t = is_word t
+is_argument FreeArray t = is_word t
+is_argument Length t = is_word t
+is_argument Get t = is_word t
+is_argument Put t = is_word t
+is_argument _ t = false
+
+-- each function that takes no function gives what represents the library's value, by a step
+abbrev pub LibraryDoes : Type 0
+LibraryDoes =
+    (world : HeapWorld) (s : Stored) (lib : Lib) (args : List Tau) (us : List Scalar) (v : Val) → IsTrue (is_argument lib (given args 0))
+    → Holds world (heap_of s) (taken_by (library_type lib args)) us v
+    → IsFine (heap_of s) s.top (foot (heap_of s) W (taken_by (library_type lib args)) us) (foot (heap_of s) R (taken_by (library_type lib args)) us)
+    → Does world s (taken_by (library_type lib args)) us (library_heap lib args us s) (given_by (library_type lib args)) (library_value lib args v)
