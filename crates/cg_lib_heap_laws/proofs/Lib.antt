@@ -1,2 +1,6 @@
-pub mod Stores
 pub mod Changes
+pub mod Forms
+pub mod Functions
+pub mod Parts
+pub mod Stores
+pub mod Tuples

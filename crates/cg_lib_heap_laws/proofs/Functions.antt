@@ -1,0 +1,65 @@
+-- The functions, at scalars and values that are taken apart.
+use Rattle.std.proofs.Common.{◌≡◌, ℕ, zero, suc, ◌+◌, ◌<◌, ◌≤◌, ◌^◌, Bool, true, false, ◌&&◌, cond, nat_eq, nat_le, nat_lt, IsTrue, Option, Some, None, List, [], ◌∷◌, codes, length, replicate, get_or, refl, sym, ap, ◌∙◌, subst, arith}
+use Rattle.cg_base.specs.declared.kind.Sigil.TheVariants.{R, W, U}
+use Rattle.cg_base.specs.declared.kind.Word.{Word}
+use Rattle.cg_base.specs.Types.{Tau, unit, word, abs, fields, Parts}
+use Rattle.cg_base.specs.Words.{bits}
+use Rattle.cg_heap.specs.declared.cell.Cell.{Cell}
+use Rattle.cg_heap.specs.declared.cell.Cell.TheVariants.{Slots, Words, Answers}
+use Rattle.cg_heap.specs.declared.cell.Fresh.{Fresh}
+use Rattle.cg_heap.specs.declared.cell.Scalar.{Scalar}
+use Rattle.cg_heap.specs.declared.cell.Scalar.TheVariants.{Unset, Word as AWord, Address}
+use Rattle.cg_heap.specs.Reps.{Heap, HeapWorld, Holds, slots, one_if, foot}
+use Rattle.cg_heap.specs.Steps.{IsFine, Step}
+use Rattle.cg_heap.specs.Stored.{Stored, cell_at, changed, fresh_cell, with_fresh, without_answer, without_cell}
+use Rattle.cg_lib_heap.specs.Library.{Out, heap_of, kept, freed_at, granted, next_at}
+use Rattle.cg_lib_heap_laws.specs.Laws.{Does}
+use Rattle.cg_lib_heap_laws.proofs.Changes.{step_kept, step_write, step_free, step_make, write_near, make_near}
+use Rattle.cg_lib_heap_laws.proofs.Forms.{is_state, is_a_word, is_some, is_none, some_foot, none_foot}
+use Rattle.cg_lib_heap_laws.proofs.Stores.{IsWritten, eq_self, get_insert, get_remove, written_here}
+use Rattle.cg_lib_heap_laws.proofs.Tuples.{is_pair, pair_foot}
+use Rattle.cg_lib_value.specs.Library.{answered, next_answer, later_answers, maybe as maybe_value}
+use Rattle.cg_typing.specs.Library.{state, pair, maybe}
+use Rattle.cg_value.specs.Forms as forms
+use Rattle.cg_value.specs.Values.{Val, number, answers, chosen, nothing}
+
+-- the argument's footprints, and the result's
+abbrev pub Writes : Stored → Tau → List Scalar → ℕ → ℕ
+Writes s t us q = foot (heap_of s) W t us q
+
+abbrev pub Reads : Stored → Tau → List Scalar → ℕ → ℕ
+Reads s t us q = foot (heap_of s) R t us q
+
+abbrev pub Fine : Stored → Tau → List Scalar → Type 0
+Fine s t us = IsFine (heap_of s) s.top (foot (heap_of s) W t us) (foot (heap_of s) R t us)
+
+word_foot : (h : Heap) (w : Word) (us : List Scalar) (q : ℕ) → (foot h W (word w) us q ≡ 0) × (foot h R (word w) us q ≡ 0)
+unfolding foot
+word_foot h w us q = (refl, refl)
+
+pub state_foot : (h : Heap) (p : ℕ) (q : ℕ) → (foot h W state (Address p ∷ []) q ≡ one_if (nat_eq p q)) × (foot h R state (Address p ∷ []) q ≡ 0)
+unfolding foot
+state_foot h p q = (refl, refl)
+
+module _ (world : HeapWorld) (s : Stored) (t : Tau) (us : List Scalar) (f : Fine s t us) where
+  -- a word is given, and nothing changes
+  pub gives_word : (w : Word) (n : ℕ) → n < 2 ^ bits w → ((q : ℕ) → Writes s t us q ≡ 0) → Does world s t us (kept (AWord n ∷ []) s) (word w) (number n)
+  gives_word w n k z = record {
+    holds = is_a_word world (heap_of s) w n k;
+    step = step_kept (heap_of s) s.top (foot (heap_of s) W t us) (foot (heap_of s) R t us) (foot (heap_of s) W (word w) (AWord n ∷ [])) (foot (heap_of s) R (word w) (AWord n ∷ [])) f
+        (λ q. (word_foot (heap_of s) w (AWord n ∷ []) q).0 ∙ sym (z q)) (λ q. (word_foot (heap_of s) w (AWord n ∷ []) q).1);
+  }
+
+  -- the allocator is given back, and a cell is freed
+  pub gives_state : (p q : ℕ) (bs : List Bool) → ((x : ℕ) → Writes s t us x ≡ one_if (nat_eq q x) + one_if (nat_eq p x)) → cell_at s p ≡ Some (Answers bs)
+      → Does world s t us (freed_at p q s) state (answers bs)
+  gives_state p q bs own e =
+      let h = heap_of s in
+      let h' = heap_of (without_cell q s) in
+      let is : IsWritten h q None h' = get_remove s.cells q in
+      let near = write_near h h' s.top q None (foot h W t us) (foot h R t us) (λ x. one_if (nat_eq p x)) f own is p (rw (eq_self p) (omega arith)) in
+      record {
+        holds = is_state world h' p bs (near ∙ e);
+        step = step_free h h' s.top q (foot h W t us) (foot h R t us) (λ x. one_if (nat_eq p x)) f own is
+            (foot h' W state (Address p ∷ [])) (foot h' R state (Address p ∷ [])) (λ x. (state_foot h' p x).0) (λ x. (state_foot h' p x).1);
+      }
