@@ -1,5 +1,9 @@
 -- The functions, at scalars and values that are taken apart.
-use Rattle.std.proofs.Common.{◌≡◌, ℕ, zero, suc, ◌+◌, ◌<◌, ◌≤◌, ◌^◌, Bool, true, false, ◌&&◌, cond, nat_eq, nat_le, nat_lt, IsTrue, Option, Some, None, List, [], ◌∷◌, codes, length, replicate, get_or, refl, sym, ap, ◌∙◌, subst, arith}
+use Rattle.std.proofs.Common.{◌≡◌, ℕ, zero, suc, ◌+◌, ◌<◌, ◌≤◌, ◌^◌, Bool, true, false, ◌&&◌, cond, nat_eq, nat_le, nat_lt, IsTrue, Option, Some, None, List, [], ◌∷◌, codes, length, replicate, get_or, ◌⊎◌, ⊎_elim, if◌then◌else◌, refl, sym, ap, ◌∙◌, subst, arith}
+use Rattle.std.specs.Prelude.{slice_set}
+use Rattle.std.specs.FinMap as map
+use Rattle.std.specs.FinMap.{FinMap}
+use Rattle.std.specs.Ordering.{nat_cmp}
 use Rattle.cg_base.specs.declared.kind.Sigil.TheVariants.{R, W, U}
 use Rattle.cg_base.specs.declared.kind.Word.{Word}
 use Rattle.cg_base.specs.Types.{Tau, unit, word, abs, fields, Parts}
@@ -11,17 +15,19 @@ use Rattle.cg_heap.specs.declared.cell.Scalar.{Scalar}
 use Rattle.cg_heap.specs.declared.cell.Scalar.TheVariants.{Unset, Word as AWord, Address}
 use Rattle.cg_heap.specs.Reps.{Heap, HeapWorld, Holds, slots, one_if, foot}
 use Rattle.cg_heap.specs.Steps.{IsFine, Step}
-use Rattle.cg_heap.specs.Stored.{Stored, cell_at, changed, fresh_cell, with_fresh, without_answer, without_cell}
+use Rattle.cg_heap.specs.Stored.{Stored, cell_at, changed, in_cell, in_place, with_element, fresh_cell, with_fresh, without_answer, without_cell}
 use Rattle.cg_lib_heap.specs.Library.{Out, heap_of, kept, freed_at, granted, next_at}
 use Rattle.cg_lib_heap_laws.specs.Laws.{Does}
+use Rattle.cg_lib_heap_laws.proofs.Arrays.{set_behind, set_is_array}
 use Rattle.cg_lib_heap_laws.proofs.Changes.{step_kept, step_write, step_free, step_make, write_near, make_near}
-use Rattle.cg_lib_heap_laws.proofs.Forms.{is_state, is_a_word, is_some, is_none, some_foot, none_foot}
-use Rattle.cg_lib_heap_laws.proofs.Stores.{IsWritten, eq_self, get_insert, get_remove, written_here}
+use Rattle.cg_lib_heap_laws.proofs.Forms.{is_state, is_a_word, is_an_array, is_some, is_none, some_foot, none_foot}
+use Rattle.cg_lib_heap_laws.proofs.Stores.{IsWritten, eq_self, is_or_not, get_insert, get_remove, written_here}
 use Rattle.cg_lib_heap_laws.proofs.Tuples.{is_pair, pair_foot}
 use Rattle.cg_lib_value.specs.Library.{answered, next_answer, later_answers, maybe as maybe_value}
-use Rattle.cg_typing.specs.Library.{state, pair, maybe}
+use Rattle.cg_typing.specs.Library.{state, array, pair, maybe}
 use Rattle.cg_value.specs.Forms as forms
-use Rattle.cg_value.specs.Values.{Val, number, answers, chosen, nothing}
+use Rattle.cg_value.specs.Fits.{is_array}
+use Rattle.cg_value.specs.Values.{Val, number, answers, elements, chosen, nothing}
 
 -- the argument's footprints, and the result's
 abbrev pub Writes : Stored → Tau → List Scalar → ℕ → ℕ
@@ -33,13 +39,17 @@ Reads s t us q = foot (heap_of s) R t us q
 abbrev pub Fine : Stored → Tau → List Scalar → Type 0
 Fine s t us = IsFine (heap_of s) s.top (foot (heap_of s) W t us) (foot (heap_of s) R t us)
 
-word_foot : (h : Heap) (w : Word) (us : List Scalar) (q : ℕ) → (foot h W (word w) us q ≡ 0) × (foot h R (word w) us q ≡ 0)
+pub word_foot : (h : Heap) (w : Word) (us : List Scalar) (q : ℕ) → (foot h W (word w) us q ≡ 0) × (foot h R (word w) us q ≡ 0)
 unfolding foot
 word_foot h w us q = (refl, refl)
 
 pub state_foot : (h : Heap) (p : ℕ) (q : ℕ) → (foot h W state (Address p ∷ []) q ≡ one_if (nat_eq p q)) × (foot h R state (Address p ∷ []) q ≡ 0)
 unfolding foot
 state_foot h p q = (refl, refl)
+
+pub state_slots : 1 ≡ slots state
+unfolding slots
+state_slots = refl
 
 module _ (world : HeapWorld) (s : Stored) (t : Tau) (us : List Scalar) (f : Fine s t us) where
   -- a word is given, and nothing changes
@@ -63,3 +73,45 @@ module _ (world : HeapWorld) (s : Stored) (t : Tau) (us : List Scalar) (f : Fine
         step = step_free h h' s.top q (foot h W t us) (foot h R t us) (λ x. one_if (nat_eq p x)) f own is
             (foot h' W state (Address p ∷ [])) (foot h' R state (Address p ∷ [])) (λ x. (state_foot h' p x).0) (λ x. (state_foot h' p x).1);
       }
+
+-- the cells when an element is written, or where there is no such element
+abbrev set_cells : Bool → ℕ → Cell → Stored → FinMap nat_cmp Cell
+set_cells true p c s = map.insert s.cells p c
+set_cells false p c s = s.cells
+
+set_store : (b : Bool) (p : ℕ) (c : Cell) (s : Stored) → in_place p (if b then Some c else None) s ≡ record { cells = set_cells b p c s; top = s.top }
+set_store true p c s = refl
+set_store false p c s = refl
+
+set_written : (b : Bool) (p i n : ℕ) (ns : List ℕ) (s : Stored) → nat_lt i (length ns) ≡ b → cell_at s p ≡ Some (Words ns)
+    → IsWritten (heap_of s) p (Some (Words (slice_set ns i n))) (λ q. map.get (set_cells b p (Words (slice_set ns i n)) s) q)
+set_written true p i n ns s k e q = get_insert s.cells p (Words (slice_set ns i n)) q
+set_written false p i n ns s k e q = rw (set_behind ns i n k)
+  (⊎_elim (λ j. subst (λ q. cell_at s q ≡ cond (nat_eq p q) (Some (Words ns)) (cell_at s q)) j (rw (eq_self p) e)) (λ j. rw j refl) (is_or_not p q))
+
+pub array_foot : (h : Heap) (w : Word) (p q : ℕ) → (foot h W (array (word w)) (Address p ∷ []) q ≡ one_if (nat_eq p q)) × (foot h R (array (word w)) (Address p ∷ []) q ≡ 0)
+unfolding foot
+array_foot h w p q = (refl, refl)
+
+-- an array is given back, with an element written
+pub gives_array : (world : HeapWorld) (s : Stored) (t : Tau) (us : List Scalar) (f : Fine s t us) (w : Word) (p i n : ℕ) (ns : List ℕ)
+    → ((q : ℕ) → Writes s t us q ≡ one_if (nat_eq p q) + 0) → cell_at s p ≡ Some (Words ns) → IsTrue (is_array w (elements ns)) → n < 2 ^ bits w
+    → Does world s t us (kept (Address p ∷ []) (changed (with_element i n) p s)) (array (word w)) (elements (slice_set ns i n))
+gives_array world s t us f w p i n ns own e a k =
+    subst (λ s'. Does world s t us (kept (Address p ∷ []) s') (array (word w)) (elements (slice_set ns i n)))
+      (sym (ap (λ o. in_place p (in_cell (with_element i n) o) s) e ∙ set_store (nat_lt i (length ns)) p (Words (slice_set ns i n)) s))
+      (set_does (set_cells (nat_lt i (length ns)) p (Words (slice_set ns i n)) s) (set_written (nat_lt i (length ns)) p i n ns s refl e))
+  where
+    set_does : (m : FinMap nat_cmp Cell) → IsWritten (heap_of s) p (Some (Words (slice_set ns i n))) (λ q. map.get m q)
+        → Does world s t us (kept (Address p ∷ []) (record { cells = m; top = s.top })) (array (word w)) (elements (slice_set ns i n))
+    set_does m is =
+        let h' : Heap = λ q. map.get m q in
+        record {
+          holds = is_an_array world h' w p (slice_set ns i n) (written_here (heap_of s) h' p (Some (Words (slice_set ns i n))) is) (set_is_array w ns i n a k);
+          step = step_write (heap_of s) h' s.top p (Some (Words (slice_set ns i n))) (foot (heap_of s) W t us) (foot (heap_of s) R t us) (λ q. 0) f own is
+              (foot h' W (array (word w)) (Address p ∷ [])) (foot h' R (array (word w)) (Address p ∷ []))
+              (λ q. let x = array_foot h' w p q in let y = own q in array_writes (foot h' W (array (word w)) (Address p ∷ []) q) (one_if (nat_eq p q)) (Writes s t us q) x.0 y) (λ q. (array_foot h' w p q).1);
+        }
+      where
+        array_writes : (x y z : ℕ) → x ≡ y → z ≡ y + 0 → x ≡ z
+        array_writes x y z a b = omega arith

@@ -1,6 +1,9 @@
+pub mod Allocations
+pub mod Arrays
 pub mod Changes
 pub mod Forms
 pub mod Functions
+pub mod Owned
 pub mod Parts
 pub mod Stores
 pub mod Tuples
