@@ -3,6 +3,7 @@ pub mod Arrays
 pub mod Changes
 pub mod Forms
 pub mod Functions
+pub mod Observed
 pub mod Owned
 pub mod Parts
 pub mod Stores

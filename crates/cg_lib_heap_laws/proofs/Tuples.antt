@@ -15,8 +15,15 @@ append_none : {A : Type 0} (xs : List A) → xs ++ [] ≡ xs
 append_none [] = refl
 append_none (x ∷ xs) = ap (λ ys. x ∷ ys) (append_none xs)
 
+three_are : (us us1 us2 us3 : List Scalar) (u x y : Scalar) → us ≡ u ∷ us1 → us1 ≡ x ∷ us2 → us2 ≡ y ∷ us3 → us3 ≡ [] → us ≡ u ∷ x ∷ y ∷ []
+three_are us us1 us2 us3 u x y a b c d = cc
+
+values_are : (v : Val) (vs vs1 vs2 vs3 : Vals) (u x y : Val) → v ≡ parts vs → vs ≡ values.more u vs1 → vs1 ≡ values.more x vs2 → vs2 ≡ values.more y vs3 → vs3 ≡ values.none
+    → v ≡ parts (values.more u (values.more x (values.more y values.none)))
+values_are v vs vs1 vs2 vs3 u x y a b c d e = cc
+
 module _ (world : HeapWorld) (h : Heap) where
-  -- two scalars for two values
+  -- one scalar for each of two values
   pub record IsPair (a b : Tau) (us : List Scalar) (v : Val) : Type 0 where
     pub one : Scalar
     pub two : Scalar
@@ -63,8 +70,8 @@ module _ (world : HeapWorld) (h : Heap) where
       let z = no_more world h w.scalars w.rest w.others in
       record {
         one = x.scalar; two = y.scalar; three = w.scalar; value_one = x.value; value_two = y.value; value_three = w.value;
-        are_scalars = x.are_scalars ∙ ap (λ us. x.scalar ∷ us) (y.are_scalars ∙ ap (λ us. y.scalar ∷ us) (w.are_scalars ∙ ap (λ us. w.scalar ∷ us) z.0));
-        is_value = r.3 ∙ ap parts (x.are_values ∙ ap (λ vs. values.more x.value vs) (y.are_values ∙ ap (λ vs. values.more y.value vs) (w.are_values ∙ ap (λ vs. values.more w.value vs) z.1)));
+        are_scalars = three_are us x.scalars y.scalars w.scalars x.scalar y.scalar w.scalar x.are_scalars y.are_scalars w.are_scalars z.0;
+        is_value = values_are v r.0 x.rest y.rest w.rest x.value y.value w.value r.3 x.are_values y.are_values w.are_values z.1;
         holds_one = x.first; holds_two = y.first; holds_three = w.first;
       }
 
