@@ -1,8 +1,9 @@
 -- The changes of a heap that the library makes, as steps.
-use Rattle.std.proofs.Common.{◌≡◌, ℕ, suc, ◌+◌, ◌<◌, ◌≤◌, Bool, true, false, cond, nat_eq, Option, None, [], ◌∷◌, ◌⊎◌, ⊎_elim, refl, sym, ◌∙◌, subst, arith}
+use Rattle.std.proofs.Common.{◌≡◌, ℕ, zero, suc, ◌+◌, ◌<◌, ◌≤◌, Bool, true, false, cond, nat_eq, Option, None, [], ◌∷◌, ◌⊎◌, ⊎_elim, refl, sym, ◌∙◌, subst, arith}
 use Rattle.cg_heap.specs.declared.cell.Cell.{Cell}
 use Rattle.cg_heap.specs.Reps.{Heap, one_if}
-use Rattle.cg_heap.specs.Steps.{IsFine, Step}
+use Rattle.cg_heap.specs.Steps.{IsFine, Step, count}
+use Rattle.cg_lib_heap_laws.specs.Laws.{StepsAreFrames}
 use Rattle.cg_lib_heap_laws.proofs.Stores.{IsWritten, eq_self, is_or_not, written_here, written_other}
 
 -- a test that counts nothing is false
@@ -85,3 +86,18 @@ module _ (h h1 h' : Heap) (top p : ℕ) (o c : Option Cell) (w r : ℕ → ℕ) 
     fresh = λ q k. ⊎_elim (λ e. (omega arith, omega arith)) (λ e. absurd (let z = rw e at k in omega arith)) (is_or_not (top + 1) q);
     once = λ q. ⊎_elim (λ e. subst (λ q. one_if (nat_eq (top + 1) q) + 0 ≤ 1) e (rw (eq_self (top + 1)) (omega arith))) (λ e. rw e (omega arith)) (is_or_not (top + 1) q);
   }
+
+-- a count is none, or one at least
+by_count : {A : Type 0} → (n : ℕ) → (n ≡ 0 → A) → (1 ≤ n → A) → A
+by_count zero none some = none refl
+by_count (suc n) none some = some (omega arith)
+
+-- a step is a frame of what it writes
+pub step_frame : StepsAreFrames
+step_frame h top w r h' top' made freed w' r' f s = record {
+  inert = λ q z n. by_count (count q made)
+      (λ e. s.inert q z e)
+      (λ k. let b = s.balance q in s.lost q (omega arith) ∙ sym (f.above q (s.fresh q k).0));
+  freed = λ q k n. let b = s.balance q in s.lost q (omega arith);
+  fresh = λ q k z. let b = s.balance q in f.above q (s.fresh q (omega arith)).0;
+}

@@ -1,4 +1,5 @@
 pub mod Allocations
+pub mod Answers
 pub mod Arrays
 pub mod Changes
 pub mod Forms
@@ -8,3 +9,4 @@ pub mod Owned
 pub mod Parts
 pub mod Stores
 pub mod Tuples
+pub mod Whole

@@ -84,7 +84,7 @@ plus_zero x y e = omega arith
 
 module _ (world : HeapWorld) (s : Stored) where
   -- an address, where an allocator is represented
-  one_address : (us : List Scalar) (v : Val) → Holds world (heap_of s) state us v
+  pub one_address : (us : List Scalar) (v : Val) → Holds world (heap_of s) state us v
       → (p : ℕ) × (bs : List Bool) × (us ≡ Address p ∷ []) × (v ≡ answers bs) × (cell_at s p ≡ Some (Answers bs))
   one_address us v r =
       let e = one_scalar us (holds_slots world (heap_of s) state us v r ∙ sym state_slots) in

@@ -1,11 +1,12 @@
 -- Laws of the library on heaps: what it gives represents the library's value, and it is a step.
-use Rattle.std.specs.Prelude.{◌≡◌, ℕ, ◌+◌, ◌≤◌, Bool, true, false, IsTrue, List, length, Option, Some, None}
+use Rattle.std.specs.Prelude.{◌≡◌, ℕ, ◌+◌, ◌≤◌, Bool, true, false, IsTrue, List, [], length, Option, Some, None}
 use Rattle.cg_base.specs.declared.fun.Lib.{Lib}
 use Rattle.cg_base.specs.declared.fun.Lib.TheVariants.{New, Free, Create, FreeArray, Length, Get, Put}
 use Rattle.cg_base.specs.declared.kind.Sigil.TheVariants.{R, W}
 use Rattle.cg_base.specs.Types.{Tau, fields}
 use Rattle.cg_heap.specs.declared.cell.Scalar.{Scalar}
-use Rattle.cg_heap.specs.Reps.{HeapWorld, Holds, foot}
+use Rattle.cg_heap.specs.Frames.{Frame}
+use Rattle.cg_heap.specs.Reps.{Heap, HeapWorld, Holds, foot}
 use Rattle.cg_heap.specs.Steps.{IsFine, Step}
 use Rattle.cg_heap.specs.Stored.{Stored}
 use Rattle.cg_lib_heap.specs.Library.{Out, heap_of, library_heap}
@@ -13,6 +14,7 @@ use Rattle.cg_lib_value.specs.Library.{library_value}
 use Rattle.cg_kinds.specs.Kinds.{is_word}
 use Rattle.cg_typing.specs.Library.{given, library_type}
 use Rattle.cg_typing.specs.Parts.{taken_by, given_by}
+use Rattle.cg_value.specs.Forms.{answers_in, field}
 use Rattle.cg_value.specs.Values.{Val}
 
 -- What comes out of a call with an argument of a type is of another type, represents a value, and is a step.
@@ -44,3 +46,31 @@ LibraryDoes =
     → Holds world (heap_of s) (taken_by (library_type lib args)) us v
     → IsFine (heap_of s) s.top (foot (heap_of s) W (taken_by (library_type lib args)) us) (foot (heap_of s) R (taken_by (library_type lib args)) us)
     → Does world s (taken_by (library_type lib args)) us (library_heap lib args us s) (given_by (library_type lib args)) (library_value lib args v)
+
+-- the answers that the argument's allocator has, and those that the result's has; none where there is no allocator
+abbrev pub answers_before : Lib → Val → List Bool
+answers_before New x = answers_in x
+answers_before Free x = answers_in (field x 0)
+answers_before Create x = answers_in (field x 0)
+answers_before FreeArray x = answers_in (field x 0)
+answers_before _ x = []
+
+abbrev pub answers_after : Lib → Val → List Bool
+answers_after New x = answers_in (field x 0)
+answers_after Free x = answers_in x
+answers_after Create x = answers_in (field x 0)
+answers_after FreeArray x = answers_in x
+answers_after _ x = []
+
+-- each cell that is made takes an answer
+abbrev pub AnswersSuffice : Type 0
+AnswersSuffice =
+    (world : HeapWorld) (s : Stored) (lib : Lib) (args : List Tau) (us : List Scalar) (v : Val) → IsTrue (is_argument lib (given args 0))
+    → Holds world (heap_of s) (taken_by (library_type lib args)) us v
+    → length (library_heap lib args us s).made + length (answers_after lib (library_value lib args v)) ≤ length (answers_before lib v)
+
+-- a step is a frame of what it writes
+abbrev pub StepsAreFrames : Type 0
+StepsAreFrames =
+    (h : Heap) (top : ℕ) (writes reads : ℕ → ℕ) (h' : Heap) (top' : ℕ) (made freed : List ℕ) (writes' reads' : ℕ → ℕ)
+    → IsFine h top writes reads → Step h top writes reads h' top' made freed writes' reads' → Frame h writes h' writes'

@@ -1,2 +1,6 @@
 //! Laws of the library on heaps: it gives what represents the library's value, by steps (docs/LANGUAGE.md, "The library").
 #![tactic(auto)]
+
+mod law;
+
+pub use law::{answers_suffice, library_does, steps_are_frames};

@@ -1,0 +1,17 @@
+// The library on heaps, and steps.
+ghost use Rattle.cg_lib_heap_laws.specs.Laws.{LibraryDoes, AnswersSuffice, StepsAreFrames};
+
+/// What a function of the library gives represents what it gives on values, by a step.
+pub fn library_does()
+    ensures { LibraryDoes }
+{}
+
+/// Each cell that a function of the library makes takes an answer of the allocator.
+pub fn answers_suffice()
+    ensures { AnswersSuffice }
+{}
+
+/// A step is a frame of what it writes.
+pub fn steps_are_frames()
+    ensures { StepsAreFrames }
+{}
