@@ -1,33 +1,31 @@
 -- What an allocator gives.
-use Rattle.std.proofs.Common.{◌≡◌, ℕ, zero, suc, ◌+◌, ◌<◌, ◌≤◌, ◌^◌, Bool, true, false, ◌&&◌, cond, nat_eq, nat_le, nat_lt, IsTrue, Option, Some, None, List, [], ◌∷◌, ◌⊎◌, ⊎_elim, codes, length, drop, replicate, get_or, refl, sym, ap, ◌∙◌, subst, arith}
-use Rattle.std.proofs.lemmas.List.{length-replicate}
+use Rattle.std.proofs.Common.{◌≡◌, ℕ, ◌+◌, Bool, true, false, cond, nat_eq, Some, List, [], ◌∷◌, ⊎_elim, codes, refl, sym, ap, ◌∙◌, subst, arith}
 use Rattle.std.specs.FinMap as map
 use Rattle.std.specs.FinMap.{FinMap}
 use Rattle.std.specs.Ordering.{nat_cmp}
 use Rattle.std.specs.Option.{unwrap_or}
-use Rattle.cg_base.specs.declared.kind.Sigil.TheVariants.{R, W, U}
-use Rattle.cg_base.specs.Types.{Tau, unit, word, abs, fields, Parts, end, part, piece_list}
+use Rattle.cg_base.specs.declared.kind.Sigil.TheVariants.{R, W}
+use Rattle.cg_base.specs.Types.{Tau}
 use Rattle.cg_heap.specs.declared.cell.Cell.{Cell}
-use Rattle.cg_heap.specs.declared.cell.Cell.TheVariants.{Slots, Words, Answers}
+use Rattle.cg_heap.specs.declared.cell.Cell.TheVariants.{Answers}
 use Rattle.cg_heap.specs.declared.cell.Fresh.{Fresh}
 use Rattle.cg_heap.specs.declared.cell.Scalar.{Scalar}
 use Rattle.cg_heap.specs.declared.cell.Scalar.TheVariants.{Unset, Word as AWord, Address}
-use Rattle.cg_heap.specs.Reps.{Heap, HeapWorld, Holds, HoldsAll, slots, slots_of_parts, slots_in, one_if, foot}
-use Rattle.cg_heap.specs.Steps.{IsFine, Step}
-use Rattle.cg_heap.specs.Stored.{Stored, answer_of, asked_of, cell_at, changed, fresh_cell, in_cell, in_place, with_fresh, without_answer}
+use Rattle.cg_heap.specs.Reps.{Heap, HeapWorld, Holds, slots, one_if, foot}
+use Rattle.cg_heap.specs.Steps.{Step}
+use Rattle.cg_heap.specs.Stored.{Stored, answer_of, cell_at, changed, fresh_cell, in_cell, in_place, without_answer}
 use Rattle.cg_heap_laws.proofs.Slots.{holds_slots}
-use Rattle.cg_lib_heap.specs.Library.{Out, heap_of, granted, next_at}
+use Rattle.cg_lib_heap.specs.Library.{heap_of, granted, next_at}
 use Rattle.cg_lib_heap_laws.specs.Laws.{Does}
 use Rattle.cg_lib_heap_laws.proofs.Changes.{step_write, step_make, make_near}
-use Rattle.cg_lib_heap_laws.proofs.Forms.{is_state, is_some, is_none, some_foot, none_foot, taken_foot}
+use Rattle.cg_lib_heap_laws.proofs.Forms.{is_state, is_some, is_none, some_foot, none_foot}
 use Rattle.cg_lib_heap_laws.proofs.Functions.{Fine, Writes, state_foot, state_slots}
 use Rattle.cg_lib_heap_laws.proofs.Stores.{IsWritten, eq_self, is_or_not, get_insert, written_here}
 use Rattle.cg_lib_heap_laws.proofs.Tuples.{is_pair, pair_foot}
 use Rattle.cg_lib_value.specs.Library.{answered, next_answer, later_answers, maybe as maybe_value}
 use Rattle.cg_typing.specs.Library.{state, pair, maybe}
-use Rattle.cg_typing.specs.Parts.{all_parts_taken}
 use Rattle.cg_value.specs.Forms as forms
-use Rattle.cg_value.specs.Values.{Val, number, answers, chosen, nothing, parts, gone, to_vals}
+use Rattle.cg_value.specs.Values.{Val, answers, chosen, nothing}
 
 -- a cell of this content, wherever it stands, represents a value that owns it alone
 abbrev pub IsMadeOf : HeapWorld → Tau → Cell → Val → Type 0
@@ -45,7 +43,7 @@ module _ (world : HeapWorld) (s : Stored) (t : Tau) (us : List Scalar) (f : Fine
       let us' : List Scalar = AWord 0 ∷ AWord 0 ∷ Unset ∷ [] in
       let holds : Holds world h' (maybe e) us' (chosen (codes "None") nothing) = is_none world h' e n in
       let feet : (q : ℕ) → (foot h' W (pair state (maybe e)) (Address p ∷ us') q ≡ one_if (nat_eq p q) + 0) × (foot h' R (pair state (maybe e)) (Address p ∷ us') q ≡ 0) =
-        λ q. none_feet h' q in
+      λ q. none_feet h' q in
       record {
         holds = is_pair world h' state (maybe e) (Address p) us' (answers bs) (chosen (codes "None") nothing) (is_state world h' p bs (written_here h h' p (Some (Answers bs)) is)) holds;
         step = step_write h h' s.top p (Some (Answers bs)) (foot h W t us) (foot h R t us) (λ q. 0) f own is
@@ -90,7 +88,7 @@ module _ (world : HeapWorld) (s : Stored) (t : Tau) (us : List Scalar) (f : Fine
           → ((q : ℕ) → (foot h' W e (Address (s.top + 1) ∷ []) q ≡ one_if (nat_eq (s.top + 1) q)) × (foot h' R e (Address (s.top + 1) ∷ []) q ≡ 0))
           → Holds world h' (pair state (maybe e)) (Address p ∷ AWord 1 ∷ Unset ∷ Address (s.top + 1) ∷ []) (forms.pair (answers bs) (chosen (codes "Some") x))
           × Step (heap_of s) s.top (foot (heap_of s) W t us) (foot (heap_of s) R t us) h' (s.top + 1) ((s.top + 1) ∷ []) []
-              (foot h' W (pair state (maybe e)) (Address p ∷ AWord 1 ∷ Unset ∷ Address (s.top + 1) ∷ [])) (foot h' R (pair state (maybe e)) (Address p ∷ AWord 1 ∷ Unset ∷ Address (s.top + 1) ∷ []))
+          (foot h' W (pair state (maybe e)) (Address p ∷ AWord 1 ∷ Unset ∷ Address (s.top + 1) ∷ [])) (foot h' R (pair state (maybe e)) (Address p ∷ AWord 1 ∷ Unset ∷ Address (s.top + 1) ∷ []))
       some_does h' is' k r feet = (
         is_pair world h' state (maybe e) (Address p) (AWord 1 ∷ Unset ∷ Address (s.top + 1) ∷ []) (answers bs) (chosen (codes "Some") x) (is_state world h' p bs k) (is_some world h' e (s.top + 1) x r),
         step_make (heap_of s) (λ q. map.get m q) h' s.top p (Some (Answers bs)) (Some (fresh_cell c)) (foot (heap_of s) W t us) (foot (heap_of s) R t us) f own is is'
@@ -133,4 +131,4 @@ pub allocates : (world : HeapWorld) (s : Stored) (t : Tau) (us : List Scalar) �
     → Does world s t us (granted p grant c (changed without_answer p s)) (pair state (maybe e)) (answered bs grant x)
 allocates world s t us f e n p own bs k grant c x made =
     subst (λ s'. Does world s t us (granted p grant c s') (pair state (maybe e)) (answered bs grant x)) (sym (ap (λ o. in_place p (in_cell without_answer o) s) k ∙ later_store p bs s))
-      (grants world s t us f e n p own (later_answers bs) (later_cells p bs s) (later_written p bs s k) grant c x made)
+    (grants world s t us f e n p own (later_answers bs) (later_cells p bs s) (later_written p bs s k) grant c x made)

@@ -1,11 +1,9 @@
 -- Each cell that is made takes an answer.
-use Rattle.std.proofs.Common.{◌≡◌, ℕ, zero, suc, ◌+◌, ◌≤◌, Bool, true, false, ◌&&◌, nat_le, IsTrue, Option, Some, List, [], ◌∷◌, length, refl, sym, ap, ◌∙◌, subst, arith}
+use Rattle.std.proofs.Common.{◌≡◌, ℕ, ◌+◌, ◌≤◌, Bool, true, false, ◌&&◌, nat_le, Some, List, [], ◌∷◌, length, refl, sym, ap, ◌∙◌, arith}
 use Rattle.std.proofs.lemmas.Bool.{and_parts}
-use Rattle.cg_base.specs.declared.fun.Lib.{Lib}
 use Rattle.cg_base.specs.declared.fun.Lib.TheVariants.{New, Free, Create, FreeArray, Length, Get, Put}
-use Rattle.cg_base.specs.declared.kind.Sigil.TheVariants.{R, W, U}
 use Rattle.cg_base.specs.declared.kind.Word.TheVariants.{U32}
-use Rattle.cg_base.specs.Types.{Tau, unit, word, fields}
+use Rattle.cg_base.specs.Types.{Tau, word}
 use Rattle.cg_heap.specs.declared.cell.Cell.TheVariants.{Answers}
 use Rattle.cg_heap.specs.declared.cell.Fresh.{Fresh}
 use Rattle.cg_heap.specs.declared.cell.Scalar.{Scalar}
@@ -13,15 +11,14 @@ use Rattle.cg_heap.specs.declared.cell.Scalar.TheVariants.{Word as AWord, Addres
 use Rattle.cg_heap.specs.Reps.{HeapWorld, Holds, one_if, address_of, number_of}
 use Rattle.cg_heap.specs.Stored.{Stored, cell_at}
 use Rattle.cg_lib_heap.specs.Library.{heap_of, granted, library_heap, next_at}
-use Rattle.cg_lib_heap_laws.specs.Laws.{AnswersSuffice, answers_before, answers_after, is_argument}
+use Rattle.cg_lib_heap_laws.specs.Laws.{AnswersSuffice, answers_before, answers_after}
 use Rattle.cg_lib_heap_laws.proofs.Allocations.{next_is}
 use Rattle.cg_lib_heap_laws.proofs.Forms.{state_is, word_is}
 use Rattle.cg_lib_heap_laws.proofs.Functions.{state_slots}
 use Rattle.cg_lib_heap_laws.proofs.Owned.{one_address, at_both, two_are, word_slot}
-use Rattle.cg_lib_heap_laws.proofs.Tuples.{IsPair, pair_is}
+use Rattle.cg_lib_heap_laws.proofs.Tuples.{pair_is}
 use Rattle.cg_lib_value.specs.Library.{next_answer, later_answers, library_value}
-use Rattle.cg_typing.specs.Library.{given, library_type, state, pair}
-use Rattle.cg_typing.specs.Parts.{taken_by}
+use Rattle.cg_typing.specs.Library.{state, pair}
 use Rattle.cg_value.specs.Fits.{most_elements}
 use Rattle.cg_value.specs.Forms as forms
 use Rattle.cg_value.specs.Forms.{answers_in, field, number_in}
@@ -50,7 +47,7 @@ module _ (world : HeapWorld) (s : Stored) where
   new_made args us v r =
       let x = one_address world s us v r in
       at_both (λ us v. length (library_heap New args us s).made + length (answers_after New (library_value New args v)) ≤ length (answers_before New v))
-        us (Address x.0 ∷ []) v (answers x.1) x.2 x.3 (made_at s _ x.0 x.1 _ (next_at x.0 s) (λ k. k) x.4)
+      us (Address x.0 ∷ []) v (answers x.1) x.2 x.3 (made_at s _ x.0 x.1 _ (next_at x.0 s) (λ k. k) x.4)
 
   create_made : (args : List Tau) (us : List Scalar) (v : Val) → Holds world (heap_of s) (pair state (word U32)) us v
       → length (library_heap Create args us s).made + length (answers_after Create (library_value Create args v)) ≤ length (answers_before Create v)
@@ -60,10 +57,10 @@ module _ (world : HeapWorld) (s : Stored) where
       let a = state_is world (heap_of s) x.one x.value_one x.holds_one in
       let b = word_is world (heap_of s) U32 x.two x.value_two x.holds_two in
       at_both (λ us v. length (library_heap Create args us s).made + length (answers_after Create (library_value Create args v)) ≤ length (answers_before Create v))
-        us (Address (address_of x.one) ∷ AWord (number_of x.two) ∷ []) v (forms.pair (answers a.1.0) (number (number_of x.two)))
-        (x.are_scalars ∙ two_are _ _ _ _ a.0 b.0) (x.is_value ∙ ap (λ v. forms.pair v x.value_two) a.1.2 ∙ ap (λ w. forms.pair (answers a.1.0) w) b.2)
-        (made_at s _ (address_of x.one) a.1.0 _ (next_at (address_of x.one) s && nat_le (number_of x.two) most_elements)
-          (λ k. (and_parts (next_at (address_of x.one) s) (nat_le (number_of x.two) most_elements) k).0) a.1.1)
+      us (Address (address_of x.one) ∷ AWord (number_of x.two) ∷ []) v (forms.pair (answers a.1.0) (number (number_of x.two)))
+      (x.are_scalars ∙ two_are _ _ _ _ a.0 b.0) (x.is_value ∙ ap (λ v. forms.pair v x.value_two) a.1.2 ∙ ap (λ w. forms.pair (answers a.1.0) w) b.2)
+      (made_at s _ (address_of x.one) a.1.0 _ (next_at (address_of x.one) s && nat_le (number_of x.two) most_elements)
+      (λ k. (and_parts (next_at (address_of x.one) s) (nat_le (number_of x.two) most_elements) k).0) a.1.1)
 
 -- each function that takes no function
 pub answers_suffice : AnswersSuffice

@@ -1,8 +1,8 @@
 -- Arrays as values and as cells: an element that is read or written, and a new array.
-use Rattle.std.proofs.Common.{◌≡◌, ℕ, zero, suc, ◌+◌, ◌<◌, ◌≤◌, ◌^◌, Bool, true, false, ◌&&◌, if◌then◌else◌, nat_le, nat_lt, IsTrue, List, [], ◌∷◌, ◌⊎◌, ⊎_elim, length, replicate, get_or, refl, sym, ap, ◌∙◌, subst, arith, lt-ltb}
+use Rattle.std.proofs.Common.{◌≡◌, ℕ, zero, suc, ◌<◌, ◌^◌, Bool, true, false, nat_le, nat_lt, IsTrue, List, [], ◌∷◌, length, replicate, get_or, refl, ap, ◌∙◌, arith, lt-ltb}
 use Rattle.std.specs.Prelude.{slice_set}
 use Rattle.std.specs.List.{list_all}
-use Rattle.std.proofs.lemmas.Bool.{and_parts, and_from, leb-true, le-leb, ltb-true}
+use Rattle.std.proofs.lemmas.Bool.{and_parts, and_from, leb-true, ltb-true}
 use Rattle.std.proofs.lemmas.List.{length-set, length-replicate}
 use Rattle.cg_base.specs.declared.kind.Word.{Word}
 use Rattle.cg_base.specs.declared.kind.Word.TheVariants.{U8, U16, U32, U64}
@@ -50,7 +50,7 @@ module _ (w : Word) where
   set_is_array ns i n a k =
       let e = parts_of ns a in
       and_from (nat_le (length (slice_set ns i n)) most_elements) (list_all (λ n. nat_lt n (2 ^ bits w)) (slice_set ns i n))
-        (ap (λ n. nat_le n most_elements) (length-set ns i n) ∙ e.0) (all_set (λ n. nat_lt n (2 ^ bits w)) ns i n e.1 (lt-ltb n (2 ^ bits w) k))
+      (ap (λ n. nat_le n most_elements) (length-set ns i n) ∙ e.0) (all_set (λ n. nat_lt n (2 ^ bits w)) ns i n e.1 (lt-ltb n (2 ^ bits w) k))
 
   -- a new array
   pub new_is_array : (i : ℕ) → nat_le i most_elements ≡ true → IsTrue (is_array w (elements (replicate i 0)))

@@ -1,5 +1,5 @@
 -- The changes of a heap that the library makes, as steps.
-use Rattle.std.proofs.Common.{◌≡◌, ℕ, zero, suc, ◌+◌, ◌<◌, ◌≤◌, Bool, true, false, cond, nat_eq, Option, None, [], ◌∷◌, ◌⊎◌, ⊎_elim, refl, sym, ◌∙◌, subst, arith}
+use Rattle.std.proofs.Common.{◌≡◌, ℕ, zero, suc, ◌+◌, ◌<◌, ◌≤◌, Bool, true, false, nat_eq, Option, None, [], ◌∷◌, ⊎_elim, refl, sym, ◌∙◌, subst, arith}
 use Rattle.cg_heap.specs.declared.cell.Cell.{Cell}
 use Rattle.cg_heap.specs.Reps.{Heap, one_if}
 use Rattle.cg_heap.specs.Steps.{IsFine, Step, count}

@@ -1,7 +1,7 @@
 -- What represents the library's types: allocators, words, arrays, taken records, and None or Some.
-use Rattle.std.proofs.Common.{◌≡◌, ℕ, zero, suc, ◌+◌, ◌<◌, ◌≤◌, ◌^◌, Bool, true, false, nat_eq, IsTrue, Option, Some, None, List, [], ◌∷◌, codes, length, take, drop, replicate, refl, sym, ap, ◌∙◌, subst, arith}
+use Rattle.std.proofs.Common.{◌≡◌, ℕ, ◌<◌, ◌^◌, Bool, nat_eq, IsTrue, Option, Some, None, List, [], ◌∷◌, codes, drop, refl, sym, ap, subst, arith}
 use Rattle.cg_base.specs.declared.kind.Sigil.{Sigil}
-use Rattle.cg_base.specs.declared.kind.Sigil.TheVariants.{R, W, U}
+use Rattle.cg_base.specs.declared.kind.Sigil.TheVariants.{R, W}
 use Rattle.cg_base.specs.declared.kind.Word.{Word}
 use Rattle.cg_base.specs.Types.{Tau, unit, word, abs, variant, fields, Parts, end, part}
 use Rattle.cg_base.specs.Types as types
@@ -10,14 +10,13 @@ use Rattle.cg_heap.specs.declared.cell.Cell.{Cell}
 use Rattle.cg_heap.specs.declared.cell.Cell.TheVariants.{Slots, Words, Answers}
 use Rattle.cg_heap.specs.declared.cell.Scalar.{Scalar}
 use Rattle.cg_heap.specs.declared.cell.Scalar.TheVariants.{Unset, Word as AWord, Address}
-use Rattle.cg_heap.specs.Reps.{Heap, HeapWorld, Holds, HoldsAll, StandsFor, slots, slots_of_parts, slots_in, address_of, number_of, counted, one_if, foot, foot_all}
+use Rattle.cg_heap.specs.Reps.{Heap, HeapWorld, Holds, StandsFor, slots, slots_in, address_of, number_of, one_if, foot, foot_all}
 use Rattle.cg_typing.specs.Library.{state, array, maybe}
 use Rattle.cg_typing.specs.Parts.{all_parts_taken}
 use Rattle.cg_heap_laws.proofs.Slots.{holds_slots}
 use Rattle.cg_lib_heap_laws.proofs.Parts.{take_front}
 use Rattle.cg_value.specs.Fits.{is_array}
-use Rattle.cg_value.specs.Values as values
-use Rattle.cg_value.specs.Values.{Val, Vals, number, nothing, chosen, parts, elements, answers, gone}
+use Rattle.cg_value.specs.Values.{Val, number, nothing, chosen, elements, answers}
 
 module _ (world : HeapWorld) where
   -- what a cell of an allocator stands for

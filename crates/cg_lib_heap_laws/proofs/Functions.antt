@@ -1,33 +1,29 @@
 -- The functions, at scalars and values that are taken apart.
-use Rattle.std.proofs.Common.{◌≡◌, ℕ, zero, suc, ◌+◌, ◌<◌, ◌≤◌, ◌^◌, Bool, true, false, ◌&&◌, cond, nat_eq, nat_le, nat_lt, IsTrue, Option, Some, None, List, [], ◌∷◌, codes, length, replicate, get_or, ◌⊎◌, ⊎_elim, if◌then◌else◌, refl, sym, ap, ◌∙◌, subst, arith}
+use Rattle.std.proofs.Common.{◌≡◌, ℕ, ◌+◌, ◌<◌, ◌^◌, Bool, true, false, cond, nat_eq, nat_lt, IsTrue, Some, None, List, [], ◌∷◌, length, ⊎_elim, if◌then◌else◌, refl, sym, ap, ◌∙◌, subst, arith}
 use Rattle.std.specs.Prelude.{slice_set}
 use Rattle.std.specs.FinMap as map
 use Rattle.std.specs.FinMap.{FinMap}
 use Rattle.std.specs.Ordering.{nat_cmp}
-use Rattle.cg_base.specs.declared.kind.Sigil.TheVariants.{R, W, U}
+use Rattle.cg_base.specs.declared.kind.Sigil.TheVariants.{R, W}
 use Rattle.cg_base.specs.declared.kind.Word.{Word}
-use Rattle.cg_base.specs.Types.{Tau, unit, word, abs, fields, Parts}
+use Rattle.cg_base.specs.Types.{Tau, word}
 use Rattle.cg_base.specs.Words.{bits}
 use Rattle.cg_heap.specs.declared.cell.Cell.{Cell}
-use Rattle.cg_heap.specs.declared.cell.Cell.TheVariants.{Slots, Words, Answers}
-use Rattle.cg_heap.specs.declared.cell.Fresh.{Fresh}
+use Rattle.cg_heap.specs.declared.cell.Cell.TheVariants.{Words, Answers}
 use Rattle.cg_heap.specs.declared.cell.Scalar.{Scalar}
-use Rattle.cg_heap.specs.declared.cell.Scalar.TheVariants.{Unset, Word as AWord, Address}
-use Rattle.cg_heap.specs.Reps.{Heap, HeapWorld, Holds, slots, one_if, foot}
-use Rattle.cg_heap.specs.Steps.{IsFine, Step}
-use Rattle.cg_heap.specs.Stored.{Stored, cell_at, changed, in_cell, in_place, with_element, fresh_cell, with_fresh, without_answer, without_cell}
-use Rattle.cg_lib_heap.specs.Library.{Out, heap_of, kept, freed_at, granted, next_at}
+use Rattle.cg_heap.specs.declared.cell.Scalar.TheVariants.{Word as AWord, Address}
+use Rattle.cg_heap.specs.Reps.{Heap, HeapWorld, slots, one_if, foot}
+use Rattle.cg_heap.specs.Steps.{IsFine}
+use Rattle.cg_heap.specs.Stored.{Stored, cell_at, changed, in_cell, in_place, with_element, without_cell}
+use Rattle.cg_lib_heap.specs.Library.{heap_of, kept, freed_at}
 use Rattle.cg_lib_heap_laws.specs.Laws.{Does}
 use Rattle.cg_lib_heap_laws.proofs.Arrays.{set_behind, set_is_array}
-use Rattle.cg_lib_heap_laws.proofs.Changes.{step_kept, step_write, step_free, step_make, write_near, make_near}
-use Rattle.cg_lib_heap_laws.proofs.Forms.{is_state, is_a_word, is_an_array, is_some, is_none, some_foot, none_foot}
+use Rattle.cg_lib_heap_laws.proofs.Changes.{step_kept, step_write, step_free, write_near}
+use Rattle.cg_lib_heap_laws.proofs.Forms.{is_state, is_a_word, is_an_array}
 use Rattle.cg_lib_heap_laws.proofs.Stores.{IsWritten, eq_self, is_or_not, get_insert, get_remove, written_here}
-use Rattle.cg_lib_heap_laws.proofs.Tuples.{is_pair, pair_foot}
-use Rattle.cg_lib_value.specs.Library.{answered, next_answer, later_answers, maybe as maybe_value}
-use Rattle.cg_typing.specs.Library.{state, array, pair, maybe}
-use Rattle.cg_value.specs.Forms as forms
+use Rattle.cg_typing.specs.Library.{state, array}
 use Rattle.cg_value.specs.Fits.{is_array}
-use Rattle.cg_value.specs.Values.{Val, number, answers, elements, chosen, nothing}
+use Rattle.cg_value.specs.Values.{number, answers, elements}
 
 -- the argument's footprints, and the result's
 abbrev pub Writes : Stored → Tau → List Scalar → ℕ → ℕ
@@ -87,7 +83,7 @@ set_written : (b : Bool) (p i n : ℕ) (ns : List ℕ) (s : Stored) → nat_lt i
     → IsWritten (heap_of s) p (Some (Words (slice_set ns i n))) (λ q. map.get (set_cells b p (Words (slice_set ns i n)) s) q)
 set_written true p i n ns s k e q = get_insert s.cells p (Words (slice_set ns i n)) q
 set_written false p i n ns s k e q = rw (set_behind ns i n k)
-  (⊎_elim (λ j. subst (λ q. cell_at s q ≡ cond (nat_eq p q) (Some (Words ns)) (cell_at s q)) j (rw (eq_self p) e)) (λ j. rw j refl) (is_or_not p q))
+    (⊎_elim (λ j. subst (λ q. cell_at s q ≡ cond (nat_eq p q) (Some (Words ns)) (cell_at s q)) j (rw (eq_self p) e)) (λ j. rw j refl) (is_or_not p q))
 
 pub array_foot : (h : Heap) (w : Word) (p q : ℕ) → (foot h W (array (word w)) (Address p ∷ []) q ≡ one_if (nat_eq p q)) × (foot h R (array (word w)) (Address p ∷ []) q ≡ 0)
 unfolding foot
@@ -99,8 +95,8 @@ pub gives_array : (world : HeapWorld) (s : Stored) (t : Tau) (us : List Scalar) 
     → Does world s t us (kept (Address p ∷ []) (changed (with_element i n) p s)) (array (word w)) (elements (slice_set ns i n))
 gives_array world s t us f w p i n ns own e a k =
     subst (λ s'. Does world s t us (kept (Address p ∷ []) s') (array (word w)) (elements (slice_set ns i n)))
-      (sym (ap (λ o. in_place p (in_cell (with_element i n) o) s) e ∙ set_store (nat_lt i (length ns)) p (Words (slice_set ns i n)) s))
-      (set_does (set_cells (nat_lt i (length ns)) p (Words (slice_set ns i n)) s) (set_written (nat_lt i (length ns)) p i n ns s refl e))
+    (sym (ap (λ o. in_place p (in_cell (with_element i n) o) s) e ∙ set_store (nat_lt i (length ns)) p (Words (slice_set ns i n)) s))
+    (set_does (set_cells (nat_lt i (length ns)) p (Words (slice_set ns i n)) s) (set_written (nat_lt i (length ns)) p i n ns s refl e))
   where
     set_does : (m : FinMap nat_cmp Cell) → IsWritten (heap_of s) p (Some (Words (slice_set ns i n))) (λ q. map.get m q)
         → Does world s t us (kept (Address p ∷ []) (record { cells = m; top = s.top })) (array (word w)) (elements (slice_set ns i n))

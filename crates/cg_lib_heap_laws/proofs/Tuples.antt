@@ -6,7 +6,7 @@ use Rattle.cg_base.specs.Types.{Tau, fields, Parts, end, part}
 use Rattle.cg_heap.specs.declared.cell.Scalar.{Scalar}
 use Rattle.cg_heap.specs.Reps.{Heap, HeapWorld, Holds, HoldsAll, slots, foot, foot_all}
 use Rattle.cg_typing.specs.Library.{pair, triple}
-use Rattle.cg_lib_heap_laws.proofs.Parts.{Apart, apart, no_more, together, together_foot}
+use Rattle.cg_lib_heap_laws.proofs.Parts.{apart, no_more, together, together_foot}
 use Rattle.cg_value.specs.Forms as forms
 use Rattle.cg_value.specs.Values as values
 use Rattle.cg_value.specs.Values.{Val, Vals, parts}
@@ -41,10 +41,14 @@ module _ (world : HeapWorld) (h : Heap) where
       let y = apart world h (codes "p2") b end n x.scalars x.rest x.others in
       let z = no_more world h y.scalars y.rest y.others in
       record {
-        one = x.scalar; two = y.scalar; value_one = x.value; value_two = y.value;
+        one = x.scalar;
+        two = y.scalar;
+        value_one = x.value;
+        value_two = y.value;
         are_scalars = x.are_scalars ∙ ap (λ us. x.scalar ∷ us) (y.are_scalars ∙ ap (λ us. y.scalar ∷ us) z.0);
         is_value = r.3 ∙ ap parts (x.are_values ∙ ap (λ vs. values.more x.value vs) (y.are_values ∙ ap (λ vs. values.more y.value vs) z.1));
-        holds_one = x.first; holds_two = y.first;
+        holds_one = x.first;
+        holds_two = y.first;
       }
 
   -- three
@@ -69,10 +73,17 @@ module _ (world : HeapWorld) (h : Heap) where
       let w = apart world h (codes "p3") c end k y.scalars y.rest y.others in
       let z = no_more world h w.scalars w.rest w.others in
       record {
-        one = x.scalar; two = y.scalar; three = w.scalar; value_one = x.value; value_two = y.value; value_three = w.value;
+        one = x.scalar;
+        two = y.scalar;
+        three = w.scalar;
+        value_one = x.value;
+        value_two = y.value;
+        value_three = w.value;
         are_scalars = three_are us x.scalars y.scalars w.scalars x.scalar y.scalar w.scalar x.are_scalars y.are_scalars w.are_scalars z.0;
         is_value = values_are v r.0 x.rest y.rest w.rest x.value y.value w.value r.3 x.are_values y.are_values w.are_values z.1;
-        holds_one = x.first; holds_two = y.first; holds_three = w.first;
+        holds_one = x.first;
+        holds_two = y.first;
+        holds_three = w.first;
       }
 
   -- a pair, of one scalar and of any number
@@ -102,7 +113,7 @@ module _ (h : Heap) where
       both s =
           let x = together_foot h s (codes "p1") a (part (codes "p2") b false end) (u ∷ []) us m q in
           let y : foot_all h s (part (codes "p2") b false end) us q ≡ foot h s b us q + foot_all h s end [] q =
-            sym (ap (λ us. foot_all h s (part (codes "p2") b false end) us q) (append_none us)) ∙ together_foot h s (codes "p2") b end us [] n q in
+          sym (ap (λ us. foot_all h s (part (codes "p2") b false end) us q) (append_none us)) ∙ together_foot h s (codes "p2") b end us [] n q in
           let z = end_foot h s q in
           omega arith
 

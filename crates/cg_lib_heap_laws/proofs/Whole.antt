@@ -1,12 +1,11 @@
 -- Each function of the library, by cases.
-use Rattle.std.proofs.Common.{◌≡◌, ℕ, Bool, true, false, IsTrue, List, [], ◌∷◌, refl}
+use Rattle.std.proofs.Common.{IsTrue, List, [], ◌∷◌}
 use Rattle.cg_base.specs.declared.fun.Lib.{Lib}
 use Rattle.cg_base.specs.declared.fun.Lib.TheVariants.{New, Free, Create, FreeArray, Length, Get, Put}
-use Rattle.cg_base.specs.declared.kind.Sigil.TheVariants.{R, W, U}
-use Rattle.cg_base.specs.Types.{Tau, unit, word, fields}
+use Rattle.cg_base.specs.declared.kind.Sigil.TheVariants.{W}
+use Rattle.cg_base.specs.Types.{Tau, word, fields}
 use Rattle.cg_heap.specs.declared.cell.Scalar.{Scalar}
-use Rattle.cg_heap.specs.Reps.{HeapWorld, Holds, foot}
-use Rattle.cg_heap.specs.Steps.{IsFine}
+use Rattle.cg_heap.specs.Reps.{HeapWorld, Holds}
 use Rattle.cg_heap.specs.Stored.{Stored}
 use Rattle.cg_kinds.specs.Kinds.{bang}
 use Rattle.cg_lib_heap.specs.Library.{heap_of, library_heap}

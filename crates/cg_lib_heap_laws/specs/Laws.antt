@@ -1,5 +1,5 @@
 -- Laws of the library on heaps: what it gives represents the library's value, and it is a step.
-use Rattle.std.specs.Prelude.{◌≡◌, ℕ, ◌+◌, ◌≤◌, Bool, true, false, IsTrue, List, [], length, Option, Some, None}
+use Rattle.std.specs.Prelude.{ℕ, ◌+◌, ◌≤◌, Bool, true, false, IsTrue, List, [], length}
 use Rattle.cg_base.specs.declared.fun.Lib.{Lib}
 use Rattle.cg_base.specs.declared.fun.Lib.TheVariants.{New, Free, Create, FreeArray, Length, Get, Put}
 use Rattle.cg_base.specs.declared.kind.Sigil.TheVariants.{R, W}
@@ -21,7 +21,7 @@ use Rattle.cg_value.specs.Values.{Val}
 pub record Does (world : HeapWorld) (s : Stored) (t : Tau) (us : List Scalar) (o : Out) (t' : Tau) (v : Val) : Type 0 where
   pub holds : Holds world (heap_of o.store) t' o.result v
   pub step : Step (heap_of s) s.top (foot (heap_of s) W t us) (foot (heap_of s) R t us) (heap_of o.store) o.store.top o.made o.freed
-    (foot (heap_of o.store) W t' o.result) (foot (heap_of o.store) R t' o.result)
+      (foot (heap_of o.store) W t' o.result) (foot (heap_of o.store) R t' o.result)
 
 -- a record that can be written
 abbrev pub is_written : Tau → Bool
