@@ -96,6 +96,7 @@ module _ (world : HeapWorld) (s : Stored) (t : Tau) (us : List Scalar) (f : Fine
             (λ q. (some_feet h' (s.top + 1) r feet q).0) (λ q. (some_feet h' (s.top + 1) r feet q).1),
       )
 
+  -- a cell is made or not
   grants : (grant : Bool) (c : Fresh) (x : Val) → (grant ≡ true → IsMadeOf world e (fresh_cell c) x)
       → Does world s t us (granted p grant c (record { cells = m; top = s.top })) (pair state (maybe e)) (forms.pair (answers bs) (maybe_value grant x))
   grants true c x made = gives_some c x (made refl)
@@ -106,10 +107,12 @@ abbrev later_cells : ℕ → List Bool → Stored → FinMap nat_cmp Cell
 later_cells p [] s = s.cells
 later_cells p (b ∷ bs) s = map.insert s.cells p (Answers bs)
 
+-- the store behind an answer that is taken
 later_store : (p : ℕ) (bs : List Bool) (s : Stored) → in_place p (without_answer (Answers bs)) s ≡ record { cells = later_cells p bs s; top = s.top }
 later_store p [] s = refl
 later_store p (b ∷ bs) s = refl
 
+-- the allocator's cell holds the answers behind the first
 later_written : (p : ℕ) (bs : List Bool) (s : Stored) → cell_at s p ≡ Some (Answers bs) → IsWritten (heap_of s) p (Some (Answers (later_answers bs))) (λ q. map.get (later_cells p bs s) q)
 unfolding later_answers
 later_written p [] s e q = ⊎_elim (λ i. subst (λ q. cell_at s q ≡ cond (nat_eq p q) (Some (Answers [])) (cell_at s q)) i (rw (eq_self p) e)) (λ i. rw i refl) (is_or_not p q)

@@ -24,6 +24,7 @@ use Rattle.cg_value.specs.Forms as forms
 use Rattle.cg_value.specs.Forms.{answers_in, field, number_in}
 use Rattle.cg_value.specs.Values.{Val, answers, number, val_list}
 
+-- what is granted is one cell or none
 granted_made : (b : Bool) (p : ℕ) (c : Fresh) (s : Stored) → length (granted p b c s).made ≡ one_if b
 granted_made true p c s = refl
 granted_made false p c s = refl
@@ -36,11 +37,13 @@ takes_one [] false k = omega arith
 takes_one (x ∷ bs) true k = omega arith
 takes_one (x ∷ bs) false k = omega arith
 
+-- what is granted and the answers behind it are at most the answers before
 made_at : (s s' : Stored) (p : ℕ) (bs : List Bool) (c : Fresh) (b : Bool) → (b ≡ true → next_at p s ≡ true) → cell_at s p ≡ Some (Answers bs)
     → length (granted p b c s').made + length (later_answers bs) ≤ length bs
 made_at s s' p bs c b k e = let x = granted_made b p c s' in let y = takes_one bs b (λ i. sym (next_is p bs s e) ∙ k i) in omega arith
 
 module _ (world : HeapWorld) (s : Stored) where
+  -- New, and Create
   new_made : (args : List Tau) (us : List Scalar) (v : Val) → Holds world (heap_of s) state us v
       → length (library_heap New args us s).made + length (answers_after New (library_value New args v)) ≤ length (answers_before New v)
   unfolding field val_list answers_in

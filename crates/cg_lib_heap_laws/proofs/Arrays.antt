@@ -10,6 +10,7 @@ use Rattle.cg_base.specs.Words.{bits}
 use Rattle.cg_value.specs.Fits.{is_array, most_elements}
 use Rattle.cg_value.specs.Values.{elements}
 
+-- zero is in range of each word
 some_bits : (w : Word) → 0 < 2 ^ bits w
 some_bits U8 = omega arith
 some_bits U16 = omega arith
@@ -17,11 +18,13 @@ some_bits U32 = omega arith
 some_bits U64 = omega arith
 
 module _ (p : ℕ → Bool) where
+  -- what holds of all elements and of 0 holds of what is read
   all_get : (ns : List ℕ) (i : ℕ) → list_all p ns ≡ true → p 0 ≡ true → p (get_or ns i 0) ≡ true
   all_get [] i a z = z
   all_get (n ∷ ns) zero a z = (and_parts (p n) (list_all p ns) a).0
   all_get (n ∷ ns) (suc i) a z = all_get ns i (and_parts (p n) (list_all p ns) a).1 z
 
+  -- it holds where one is written, and of a list of one element repeated
   all_set : (ns : List ℕ) (i n : ℕ) → list_all p ns ≡ true → p n ≡ true → list_all p (slice_set ns i n) ≡ true
   all_set [] i n a e = refl
   all_set (x ∷ ns) zero n a e = and_from (p n) (list_all p ns) e (and_parts (p x) (list_all p ns) a).1
@@ -34,6 +37,7 @@ module _ (p : ℕ → Bool) where
   all_replicate (suc i) n e = and_from (p n) (list_all p (replicate i n)) e (all_replicate i n e)
 
 module _ (w : Word) where
+  -- an array is short, and each element is a word
   parts_of : (ns : List ℕ) → IsTrue (is_array w (elements ns)) → (nat_le (length ns) most_elements ≡ true) × (list_all (λ n. nat_lt n (2 ^ bits w)) ns ≡ true)
   parts_of ns a = and_parts (nat_le (length ns) most_elements) (list_all (λ n. nat_lt n (2 ^ bits w)) ns) a
 
@@ -57,6 +61,7 @@ module _ (w : Word) where
   new_is_array i e = and_from (nat_le (length (replicate i 0)) most_elements) (list_all (λ n. nat_lt n (2 ^ bits w)) (replicate i 0))
       (ap (λ n. nat_le n most_elements) (length-replicate i 0) ∙ e) (all_replicate (λ n. nat_lt n (2 ^ bits w)) i 0 (lt-ltb 0 (2 ^ bits w) (some_bits w)))
 
+-- one less on both sides
 lt_below : (i n : ℕ) → nat_lt (suc i) (suc n) ≡ false → nat_lt i n ≡ false
 lt_below i n e = go (nat_lt i n) refl
   where

@@ -3,7 +3,7 @@ use Rattle.std.proofs.Common.{◌≡◌, ℕ, zero, suc, ◌+◌, ◌<◌, ◌�
 use Rattle.cg_heap.specs.declared.cell.Cell.{Cell}
 use Rattle.cg_heap.specs.Reps.{Heap, one_if}
 use Rattle.cg_heap.specs.Steps.{IsFine, Step, count}
-use Rattle.cg_lib_heap_laws.specs.Laws.{StepsAreFrames}
+use Rattle.cg_lib_heap_laws.specs.Laws.{StepsAreFrames, StepsKeepFine}
 use Rattle.cg_lib_heap_laws.proofs.Stores.{IsWritten, eq_self, is_or_not, written_here, written_other}
 
 -- a test that counts nothing is false
@@ -100,4 +100,19 @@ step_frame h top w r h' top' made freed w' r' f s = record {
       (λ k. let b = s.balance q in s.lost q (omega arith) ∙ sym (f.above q (s.fresh q k).0));
   freed = λ q k n. let b = s.balance q in s.lost q (omega arith);
   fresh = λ q k z. let b = s.balance q in f.above q (s.fresh q (omega arith)).0;
+}
+
+-- at one address, by numbers alone
+apart_after : (w r w1 r1 m n : ℕ) → 1 ≤ w1 → (1 ≤ w → w + r ≤ 1) → n + w1 ≡ w + m → (1 ≤ m → w + r ≡ 0) → m ≤ 1 → (1 ≤ r1 → 1 ≤ r) → w1 + r1 ≤ 1
+apart_after w r w1 r1 m n a b c d e f = grind arith
+
+low_after : (q t w r w1 r1 m n : ℕ) → w + r ≡ 0 → n + w1 ≡ w + m → (1 ≤ m → q ≤ t) → t < q → (1 ≤ r1 → 1 ≤ r) → w1 + r1 ≡ 0
+low_after q t w r w1 r1 m n a b c d e = grind arith
+
+-- after a step all is fine again
+pub step_fine : StepsKeepFine
+step_fine h top w r h' top' made freed w' r' f s = record {
+  apart = λ q k. apart_after (w q) (r q) (w' q) (r' q) (count q made) (count q freed) k (f.apart q) (s.balance q) (λ n. f.low q (s.fresh q n).0) (s.once q) (s.reads_less q);
+  low = λ q k. low_after q top' (w q) (r q) (w' q) (r' q) (count q made) (count q freed) (f.low q (let x = s.rise in omega arith)) (s.balance q) (λ n. (s.fresh q n).1) k (s.reads_less q);
+  above = s.above;
 }

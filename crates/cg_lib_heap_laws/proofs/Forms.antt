@@ -90,6 +90,7 @@ module _ (world : HeapWorld) where
 
 -- what is reached
 module _ (h : Heap) where
+  -- some of what is there reaches what that reaches, nothing reaches nothing
   pub some_foot : (m : Sigil) (t : Tau) (p q : ℕ) → 1 ≡ slots t → foot h m (maybe t) (AWord 1 ∷ Unset ∷ Address p ∷ []) q ≡ foot h m t (Address p ∷ []) q
   unfolding foot slots
   some_foot m t p q n = ap (λ x. foot h m t x q) (take_front (slots t) (Address p ∷ []) [] n)
@@ -98,6 +99,7 @@ module _ (h : Heap) where
   unfolding foot slots
   none_foot m t q = refl
 
+  -- fields that are all taken reach nothing, and their record writes its address
   pub taken_foot_all : (m : Sigil) (ps : Parts) (us : List Scalar) (q : ℕ) → foot_all h m (all_parts_taken ps) us q ≡ 0
   unfolding foot
   taken_foot_all m end us q = refl

@@ -25,24 +25,24 @@ use Rattle.cg_typing.specs.Library.{state, array}
 use Rattle.cg_value.specs.Fits.{is_array}
 use Rattle.cg_value.specs.Values.{number, answers, elements}
 
--- the argument's footprints, and the result's
+-- what an argument writes in a store, and that its footprints are fine there
 abbrev pub Writes : Stored → Tau → List Scalar → ℕ → ℕ
 Writes s t us q = foot (heap_of s) W t us q
-
-abbrev pub Reads : Stored → Tau → List Scalar → ℕ → ℕ
-Reads s t us q = foot (heap_of s) R t us q
 
 abbrev pub Fine : Stored → Tau → List Scalar → Type 0
 Fine s t us = IsFine (heap_of s) s.top (foot (heap_of s) W t us) (foot (heap_of s) R t us)
 
+-- a word reaches nothing
 pub word_foot : (h : Heap) (w : Word) (us : List Scalar) (q : ℕ) → (foot h W (word w) us q ≡ 0) × (foot h R (word w) us q ≡ 0)
 unfolding foot
 word_foot h w us q = (refl, refl)
 
+-- an allocator writes its address
 pub state_foot : (h : Heap) (p : ℕ) (q : ℕ) → (foot h W state (Address p ∷ []) q ≡ one_if (nat_eq p q)) × (foot h R state (Address p ∷ []) q ≡ 0)
 unfolding foot
 state_foot h p q = (refl, refl)
 
+-- an allocator has one slot
 pub state_slots : 1 ≡ slots state
 unfolding slots
 state_slots = refl
@@ -75,16 +75,19 @@ abbrev set_cells : Bool → ℕ → Cell → Stored → FinMap nat_cmp Cell
 set_cells true p c s = map.insert s.cells p c
 set_cells false p c s = s.cells
 
+-- the store behind a write, element or not
 set_store : (b : Bool) (p : ℕ) (c : Cell) (s : Stored) → in_place p (if b then Some c else None) s ≡ record { cells = set_cells b p c s; top = s.top }
 set_store true p c s = refl
 set_store false p c s = refl
 
+-- the array's cell holds the written array, element or not
 set_written : (b : Bool) (p i n : ℕ) (ns : List ℕ) (s : Stored) → nat_lt i (length ns) ≡ b → cell_at s p ≡ Some (Words ns)
     → IsWritten (heap_of s) p (Some (Words (slice_set ns i n))) (λ q. map.get (set_cells b p (Words (slice_set ns i n)) s) q)
 set_written true p i n ns s k e q = get_insert s.cells p (Words (slice_set ns i n)) q
 set_written false p i n ns s k e q = rw (set_behind ns i n k)
     (⊎_elim (λ j. subst (λ q. cell_at s q ≡ cond (nat_eq p q) (Some (Words ns)) (cell_at s q)) j (rw (eq_self p) e)) (λ j. rw j refl) (is_or_not p q))
 
+-- an array writes its address
 pub array_foot : (h : Heap) (w : Word) (p q : ℕ) → (foot h W (array (word w)) (Address p ∷ []) q ≡ one_if (nat_eq p q)) × (foot h R (array (word w)) (Address p ∷ []) q ≡ 0)
 unfolding foot
 array_foot h w p q = (refl, refl)

@@ -33,6 +33,7 @@ use Rattle.cg_value.specs.Values.{Val, number, elements, parts, val_list}
 abbrev pub seen_array : Word → Tau
 seen_array w = abs (codes "WordArray") (types.more (word w) types.none) R
 
+-- it has one slot, and writes nothing
 seen_slot : (w : Word) → slots (seen_array w) ≡ 1
 unfolding slots
 seen_slot w = refl
@@ -41,6 +42,7 @@ seen_foot : (h : Heap) (w : Word) (us : List Scalar) (q : ℕ) → foot h W (see
 unfolding foot
 seen_foot h w us q = refl
 
+-- three that are the same as three others
 three_scalars : (u x y u' x' y' : Scalar) → u ≡ u' → x ≡ x' → y ≡ y' → (u ∷ x ∷ y ∷ []) ≡ (u' ∷ x' ∷ y' ∷ [])
 three_scalars u x y u' x' y' a b c = cc
 
@@ -49,6 +51,7 @@ three_values : (u x y u' x' y' : Val) → u ≡ u' → x ≡ x' → y ≡ y'
 three_values u x y u' x' y' a b c = cc
 
 module _ (world : HeapWorld) (s : Stored) where
+  -- Length, at an array's address
   length_at : (w : Word) (p : ℕ) (ns : List ℕ) → cell_at s p ≡ Some (Words ns) → IsTrue (is_array w (elements ns)) → Fine s (seen_array w) (Address p ∷ [])
       → Does world s (seen_array w) (Address p ∷ []) (kept (AWord (length (words_at p s)) ∷ []) s) (word U32) (number (length ns))
   length_at w p ns e a f =
@@ -65,6 +68,7 @@ module _ (world : HeapWorld) (s : Stored) where
       at_both (λ us v. Fine s (seen_array w) us → Does world s (seen_array w) us (library_heap Length args us s) (word U32) (library_value Length args v))
       us (Address (address_of (head us)) ∷ []) v (elements x.1.0) (e ∙ ap (λ u. u ∷ []) x.0) x.1.2 (length_at w (address_of (head us)) x.1.0 x.1.1 x.1.3)
 
+  -- Get, at an array's address and a number
   get_at : (w : Word) (p i : ℕ) (ns : List ℕ) → cell_at s p ≡ Some (Words ns) → IsTrue (is_array w (elements ns)) → Fine s (pair (seen_array w) (word U32)) (Address p ∷ AWord i ∷ [])
       → Does world s (pair (seen_array w) (word U32)) (Address p ∷ AWord i ∷ []) (kept (AWord (get_or (words_at p s) i 0) ∷ []) s) (word w) (number (get_or ns i 0))
   get_at w p i ns e a f =
@@ -89,6 +93,7 @@ module _ (world : HeapWorld) (s : Stored) where
       (x.are_scalars ∙ two_are _ _ _ _ a.0 b.0) (x.is_value ∙ ap (λ v. forms.pair v x.value_two) a.1.2 ∙ ap (λ w. forms.pair (elements a.1.0) w) b.2)
       (get_at w (address_of x.one) (number_of x.two) a.1.0 a.1.1 a.1.3)
 
+  -- Put, at an array's address and two numbers
   put_at : (w : Word) (p i n : ℕ) (ns : List ℕ) → cell_at s p ≡ Some (Words ns) → IsTrue (is_array w (elements ns)) → n < 2 ^ bits w
       → Fine s (triple (array (word w)) (word U32) (word w)) (Address p ∷ AWord i ∷ AWord n ∷ [])
       → Does world s (triple (array (word w)) (word U32) (word w)) (Address p ∷ AWord i ∷ AWord n ∷ []) (kept (Address p ∷ []) (changed (with_element i n) p s)) (array (word w)) (elements (slice_set ns i n))

@@ -29,6 +29,7 @@ use Rattle.cg_value.specs.Forms as forms
 use Rattle.cg_value.specs.Forms.{answers_in, number_in, field}
 use Rattle.cg_value.specs.Values.{Val, number, answers, elements, gone, to_vals, val_list}
 
+-- a list of one scalar is that of its first
 pub one_scalar : (us : List Scalar) → length us ≡ 1 → us ≡ head us ∷ []
 one_scalar [] n = absurd (omega arith)
 one_scalar (u ∷ []) n = refl
@@ -50,6 +51,7 @@ drop_replicate (suc m) n = rw (suc_add m n) (drop_replicate m n)
     suc_add m n = omega arith
 
 module _ (world : HeapWorld) (h : Heap) where
+  -- unset slots represent fields that are gone
   new_fields : (ps : Parts) → HoldsAll world h (all_parts_taken ps) (replicate (slots_of_parts ps) Unset) (to_vals (replicate (length (piece_list ps)) gone))
   unfolding Holds slots to_vals piece_list
   new_fields end = refl
@@ -59,6 +61,7 @@ module _ (world : HeapWorld) (h : Heap) where
     subst (λ x. HoldsAll world h (all_parts_taken ps) x (to_vals (replicate (length (piece_list ps)) gone))) (sym (drop_replicate (slots t) (slots_of_parts ps))) (new_fields ps),
   )
 
+  -- a cell of unset slots represents a record of which all fields are gone
   new_holds : (ps : Parts) (a : ℕ) → h a ≡ Some (Slots (replicate (slots_of_parts ps) Unset)) → Holds world h (fields (all_parts_taken ps) W) (Address a ∷ []) (new_record (fields ps W))
   unfolding Holds new_record
   new_holds ps a e = (
@@ -81,9 +84,11 @@ pub word_slot : (w : Word) → slots (word w) ≡ 1
 unfolding slots
 word_slot w = refl
 
+-- two scalars that are the same as two others
 pub two_are : (u x u' x' : Scalar) → u ≡ u' → x ≡ x' → (u ∷ x ∷ []) ≡ (u' ∷ x' ∷ [])
 two_are u x u' x' e f = ap (λ u. u ∷ x ∷ []) e ∙ ap (λ x. u' ∷ x ∷ []) f
 
+-- a footprint with nothing beside it
 plus_zero : (x y : ℕ) → x ≡ y → x ≡ y + 0
 plus_zero x y e = omega arith
 
@@ -96,6 +101,7 @@ module _ (world : HeapWorld) (s : Stored) where
       let x = state_is world (heap_of s) (head us) v (subst (λ us. Holds world (heap_of s) state us v) e r) in
       (address_of (head us), x.1.0, e ∙ ap (λ u. u ∷ []) x.0, x.1.2, x.1.1)
 
+  -- New, at an allocator's address
   new_at : (ps : Parts) (p : ℕ) (bs : List Bool) → cell_at s p ≡ Some (Answers bs) → Fine s state (Address p ∷ [])
       → Does world s state (Address p ∷ []) (granted p (next_at p s) (fresh.Slots (slots_of_parts ps)) (changed without_answer p s)) (pair state (maybe (fields (all_parts_taken ps) W)))
       (answered bs (next_answer bs) (new_record (fields ps W)))
@@ -115,6 +121,7 @@ module _ (world : HeapWorld) (s : Stored) where
       us (Address x.0 ∷ []) v (answers x.1) x.2 x.3 (new_at ps x.0 x.1 x.4)
 
   -- a pair of an allocator and what is owned
+  -- Free and FreeArray, at two addresses
   free_at : (t : Tau) → 1 ≡ slots t → (p q : ℕ) (bs : List Bool) → ((x : ℕ) → foot (heap_of s) W t (Address q ∷ []) x ≡ one_if (nat_eq q x)) → cell_at s p ≡ Some (Answers bs)
       → Fine s (pair state t) (Address p ∷ Address q ∷ []) → Does world s (pair state t) (Address p ∷ Address q ∷ []) (library_heap Free [] (Address p ∷ Address q ∷ []) s) state (answers bs)
   free_at t n p q bs own e f =
@@ -150,6 +157,7 @@ module _ (world : HeapWorld) (s : Stored) where
       (x.are_scalars ∙ two_are _ _ _ _ a.0 b.0) (x.is_value ∙ ap (λ v. forms.pair v x.value_two) a.1.2)
       (free_at (array (word w)) (sym (array_slot w)) (address_of x.one) (address_of x.two) a.1.0 (λ q. (array_foot (heap_of s) w (address_of x.two) q).0) a.1.1)
 
+  -- Create, at an allocator's address and a number
   create_at : (w : Word) (p n : ℕ) (bs : List Bool) → cell_at s p ≡ Some (Answers bs) → Fine s (pair state (word U32)) (Address p ∷ AWord n ∷ [])
       → Does world s (pair state (word U32)) (Address p ∷ AWord n ∷ []) (granted p (next_at p s && nat_le n most_elements) (fresh.Words n) (changed without_answer p s)) (pair state (maybe (array (word w))))
       (answered bs (makes_array bs n) (elements (replicate n 0)))

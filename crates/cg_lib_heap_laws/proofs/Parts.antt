@@ -22,6 +22,7 @@ first_of : (A B : List Scalar → Type 0) (us : List Scalar) → 1 ≤ length us
 first_of A B [] k a b = absurd (omega arith)
 first_of A B (u ∷ us) k a b = (u, us, refl, a, b)
 
+-- the same, for a number that is one
 first_by : (A B : List Scalar → Type 0) (n : ℕ) → n ≡ 1 → (us : List Scalar) → n ≤ length us → A (take n us) → B (drop n us)
     → (u : Scalar) × (us' : List Scalar) × (us ≡ u ∷ us') × A (u ∷ []) × B us'
 first_by A B n e us k a b = first_of A B us (subst (λ n. n ≤ length us) e k) (subst (λ n. A (take n us)) e a) (subst (λ n. B (drop n us)) e b)

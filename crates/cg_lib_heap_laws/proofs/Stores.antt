@@ -31,12 +31,14 @@ same_test p q = go (nat_eq p q) refl
 abbrev pub IsWritten : Heap → ℕ → Option Cell → Heap → Type 0
 IsWritten h p o h' = (q : ℕ) → h' q ≡ cond (nat_eq p q) o (h q)
 
+-- a map with one more cell, and without one
 pub get_insert : (m : FinMap nat_cmp Cell) (p : ℕ) (c : Cell) → IsWritten (λ q. map.get m q) p (Some c) (λ q. map.get (map.insert m p c) q)
 get_insert m p c q = map.get-insert nat_cmp_total m p c q ∙ ap (λ b. cond b (Some c) (map.get m q)) (same_test p q)
 
 pub get_remove : (m : FinMap nat_cmp Cell) (p : ℕ) → IsWritten (λ q. map.get m q) p None (λ q. map.get (map.remove m p) q)
 get_remove m p q = map.get-remove nat_cmp_total m p q ∙ ap (λ b. cond b None (map.get m q)) (same_test p q)
 
+-- what stands at the address that is written, and at others
 pub written_here : (h h' : Heap) (p : ℕ) (o : Option Cell) → IsWritten h p o h' → h' p ≡ o
 written_here h h' p o w = w p ∙ ap (λ b. cond b o (h p)) (eq_self p)
 

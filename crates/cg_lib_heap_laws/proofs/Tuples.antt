@@ -11,10 +11,12 @@ use Rattle.cg_value.specs.Forms as forms
 use Rattle.cg_value.specs.Values as values
 use Rattle.cg_value.specs.Values.{Val, Vals, parts}
 
+-- nothing at the end
 append_none : {A : Type 0} (xs : List A) → xs ++ [] ≡ xs
 append_none [] = refl
 append_none (x ∷ xs) = ap (λ ys. x ∷ ys) (append_none xs)
 
+-- lists one behind the other, as one
 three_are : (us us1 us2 us3 : List Scalar) (u x y : Scalar) → us ≡ u ∷ us1 → us1 ≡ x ∷ us2 → us2 ≡ y ∷ us3 → us3 ≡ [] → us ≡ u ∷ x ∷ y ∷ []
 three_are us us1 us2 us3 u x y a b c d = cc
 
@@ -100,11 +102,13 @@ unbox_foot : (h : Heap) (ps : Parts) (us : List Scalar) (q : ℕ) → (foot h W 
 unfolding foot
 unbox_foot h ps us q = (omega arith, omega arith)
 
+-- no fields reach nothing
 end_foot : (h : Heap) (s : Sigil) (q : ℕ) → foot_all h s end [] q ≡ 0
 unfolding foot
 end_foot h s q = refl
 
 module _ (h : Heap) where
+  -- a pair reaches what its two parts reach
   pub pair_foot : (a b : Tau) (u : Scalar) (us : List Scalar) → 1 ≡ slots a → length us ≡ slots b → (q : ℕ)
       → (foot h W (pair a b) (u ∷ us) q ≡ foot h W a (u ∷ []) q + foot h W b us q) × (foot h R (pair a b) (u ∷ us) q ≡ foot h R a (u ∷ []) q + foot h R b us q)
   pair_foot a b u us m n q = ((unbox_foot h (part (codes "p1") a false (part (codes "p2") b false end)) (u ∷ us) q).0 ∙ both W, (unbox_foot h (part (codes "p1") a false (part (codes "p2") b false end)) (u ∷ us) q).1 ∙ both R)
@@ -117,6 +121,7 @@ module _ (h : Heap) where
           let z = end_foot h s q in
           omega arith
 
+  -- and a triple what its three parts write
   pub triple_foot : (a b c : Tau) (u x y : Scalar) → 1 ≡ slots a → 1 ≡ slots b → 1 ≡ slots c → (q : ℕ)
       → foot h W (triple a b c) (u ∷ x ∷ y ∷ []) q ≡ foot h W a (u ∷ []) q + foot h W b (x ∷ []) q + foot h W c (y ∷ []) q
   triple_foot a b c u x y m n k q =

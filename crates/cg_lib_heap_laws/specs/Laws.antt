@@ -1,8 +1,10 @@
 -- Laws of the library on heaps: what it gives represents the library's value, and it is a step.
-use Rattle.std.specs.Prelude.{ℕ, ◌+◌, ◌≤◌, Bool, true, false, IsTrue, List, [], length}
+use Rattle.std.specs.Prelude.{◌≡◌, ℕ, ◌+◌, ◌≤◌, Bool, true, false, IsTrue, List, [], length}
+use Rattle.cg_base.specs.declared.fun.Fun.TheVariants.{Lib as OfLib}
 use Rattle.cg_base.specs.declared.fun.Lib.{Lib}
 use Rattle.cg_base.specs.declared.fun.Lib.TheVariants.{New, Free, Create, FreeArray, Length, Get, Put}
 use Rattle.cg_base.specs.declared.kind.Sigil.TheVariants.{R, W}
+use Rattle.cg_base.specs.declared.kind.Kinds.{Kinds}
 use Rattle.cg_base.specs.Types.{Tau, fields}
 use Rattle.cg_heap.specs.declared.cell.Scalar.{Scalar}
 use Rattle.cg_heap.specs.Frames.{Frame}
@@ -12,6 +14,9 @@ use Rattle.cg_heap.specs.Stored.{Stored}
 use Rattle.cg_lib_heap.specs.Library.{Out, heap_of, library_heap}
 use Rattle.cg_lib_value.specs.Library.{library_value}
 use Rattle.cg_kinds.specs.Kinds.{is_word}
+use Rattle.cg_core.specs.Kernels.{Function}
+use Rattle.cg_typing.specs.Functions.{are_good_arguments, asked_by}
+use Rattle.cg_typing.specs.Instances.{as_arguments, takes_as_many}
 use Rattle.cg_typing.specs.Library.{given, library_type}
 use Rattle.cg_typing.specs.Parts.{taken_by, given_by}
 use Rattle.cg_value.specs.Forms.{answers_in, field}
@@ -74,3 +79,30 @@ abbrev pub StepsAreFrames : Type 0
 StepsAreFrames =
     (h : Heap) (top : ℕ) (writes reads : ℕ → ℕ) (h' : Heap) (top' : ℕ) (made freed : List ℕ) (writes' reads' : ℕ → ℕ)
     → IsFine h top writes reads → Step h top writes reads h' top' made freed writes' reads' → Frame h writes h' writes'
+
+-- after a step all is fine again
+abbrev pub StepsKeepFine : Type 0
+StepsKeepFine =
+    (h : Heap) (top : ℕ) (writes reads : ℕ → ℕ) (h' : Heap) (top' : ℕ) (made freed : List ℕ) (writes' reads' : ℕ → ℕ)
+    → IsFine h top writes reads → Step h top writes reads h' top' made freed writes' reads' → IsFine h' top' writes' reads'
+
+-- the highest address rises by one for each cell that is made
+abbrev pub AddressesRise : Type 0
+AddressesRise = (s : Stored) (lib : Lib) (args : List Tau) (us : List Scalar) → (library_heap lib args us s).store.top ≡ s.top + length (library_heap lib args us s).made
+
+-- it takes a function
+abbrev pub takes_function : Lib → Bool
+takes_function New = false
+takes_function Free = false
+takes_function Create = false
+takes_function FreeArray = false
+takes_function Length = false
+takes_function Get = false
+takes_function Put = false
+takes_function _ = true
+
+-- type arguments that typing lets through are what these laws ask
+abbrev pub GoodArgumentsSuffice : Type 0
+GoodArgumentsSuffice =
+    (functions : List Function) (vars : List Kinds) (lib : Lib) (types : List Tau) → takes_function lib ≡ false → IsTrue (takes_as_many functions (OfLib lib) (length types))
+    → IsTrue (are_good_arguments vars (asked_by functions (OfLib lib)) (as_arguments types)) → IsTrue (is_argument lib (given types 0))

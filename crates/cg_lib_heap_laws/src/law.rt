@@ -1,5 +1,5 @@
 // The library on heaps, and steps.
-ghost use Rattle.cg_lib_heap_laws.specs.Laws.{LibraryDoes, AnswersSuffice, StepsAreFrames};
+ghost use Rattle.cg_lib_heap_laws.specs.Laws.{LibraryDoes, AnswersSuffice, StepsAreFrames, StepsKeepFine, AddressesRise, GoodArgumentsSuffice};
 
 /// What a function of the library gives represents what it gives on values, by a step.
 pub fn library_does()
@@ -14,4 +14,19 @@ pub fn answers_suffice()
 /// A step is a frame of what it writes.
 pub fn steps_are_frames()
     ensures { StepsAreFrames }
+{}
+
+/// After a step all is fine again.
+pub fn steps_keep_fine()
+    ensures { StepsKeepFine }
+{}
+
+/// The highest address rises by one for each cell that the library makes.
+pub fn addresses_rise()
+    ensures { AddressesRise }
+{}
+
+/// Type arguments that typing lets through are what the laws of the library ask.
+pub fn good_arguments_suffice()
+    ensures { GoodArgumentsSuffice }
 {}

@@ -3,4 +3,7 @@
 
 mod law;
 
-pub use law::{answers_suffice, library_does, steps_are_frames};
+pub use law::{
+    addresses_rise, answers_suffice, good_arguments_suffice, library_does, steps_are_frames,
+    steps_keep_fine,
+};
