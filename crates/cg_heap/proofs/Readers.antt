@@ -1,5 +1,5 @@
 -- What scalars represent is what they are read as.
-use Rattle.std.proofs.Common.{rules, ◌≡◌, ◌&&◌, ℕ, zero, suc, Bool, true, false, not, IsTrue, List, [], ◌∷◌, codes, map, take, drop, refl, sym, ap, ◌∙◌}
+use Rattle.std.proofs.Common.{rules, ◌≡◌, ◌&&◌, ◌||◌, ℕ, zero, suc, Bool, true, false, not, IsTrue, List, [], ◌∷◌, codes, map, take, drop, refl, sym, ap, ◌∙◌}
 use Rattle.std.specs.Str.{bytes_eq}
 use Rattle.std.specs.declared.option.Option.{Option}
 use Rattle.std.specs.declared.option.Option.TheVariants.{None, Some}
@@ -10,9 +10,10 @@ use Rattle.cg_heap.specs.declared.cell.Cell.{Cell}
 use Rattle.cg_heap.specs.declared.cell.Cell.TheVariants.{Slots, Words, Answers}
 use Rattle.cg_heap.specs.declared.cell.Scalar.{Scalar}
 use Rattle.cg_heap.specs.declared.cell.Scalar.TheVariants.{Word}
-use Rattle.cg_heap.specs.FirstOrder.{is_declared, is_first_order, are_first_order}
+use Rattle.cg_heap.specs.FirstOrder.{is_first_order, are_first_order}
 use Rattle.cg_heap.specs.Readings.{abstract_at, alternative_at, fields_at, held_scalars, value_at, values_at}
 use Rattle.cg_heap.specs.Reps.{Heap, HeapWorld, Holds, HoldsAll, HoldsAt, IsBoxed, StandsFor, first_address, first_number, inner, number_of, slots, tail}
+use Rattle.cg_value.specs.Foreign.{is_plain_type}
 use Rattle.cg_value.specs.Values as values
 use Rattle.cg_value.specs.Values.{Val, Vals, chosen, elements, parts, to_vals}
 
@@ -28,30 +29,35 @@ both_second : (a b : Bool) → IsTrue (a && b) → IsTrue b
 both_second true b e = e
 both_second false b e = absurd (search (rules, e))
 
+first_alone : (a : Bool) → IsTrue (a || false) → IsTrue a
+first_alone true e = refl
+first_alone false e = e
+
 not_both : (a b : Bool) → IsTrue a → IsTrue (not a && b) → ⊥
 not_both true b e f = search (rules, f)
 not_both false b e f = search (rules, e)
 
 module _ (world : HeapWorld) where
   -- values of abstract types
-  abstract_is : (name : List ℕ) (args : Taus) (o : Option Cell) (v : Val) → IsTrue (is_declared name args) → StandsFor world name args o v → abstract_at args o ≡ v
-  abstract_is name none None v d s = absurd s
-  abstract_is name none (Some (Slots ss)) v d s = absurd s
-  abstract_is name none (Some (Answers bs)) v d s = sym s.1
-  abstract_is name none (Some (Words ns)) v d s = absurd (not_both (bytes_eq name (codes "SysState")) (world.stands name ns v) d s)
-  abstract_is name (more (word w) none) None v d s = absurd s
-  abstract_is name (more (word w) none) (Some (Slots ss)) v d s = absurd s
-  abstract_is name (more (word w) none) (Some (Answers bs)) v d s = absurd s
-  abstract_is name (more (word w) none) (Some (Words ns)) v d s = ap elements (numbers_again ns) ∙ sym s.1
-  abstract_is name (more (word w) (more t ts)) o v d s = absurd (search rules)
-  abstract_is name (more (var n) ts) o v d s = absurd (search rules)
-  abstract_is name (more (seen n) ts) o v d s = absurd (search rules)
-  abstract_is name (more unit ts) o v d s = absurd (search rules)
-  abstract_is name (more bool ts) o v d s = absurd (search rules)
-  abstract_is name (more (arrow a b) ts) o v d s = absurd (search rules)
-  abstract_is name (more (abs x us sigil) ts) o v d s = absurd (search rules)
-  abstract_is name (more (variant ps) ts) o v d s = absurd (search rules)
-  abstract_is name (more (fields ps sigil) ts) o v d s = absurd (search rules)
+  abstract_is : (name : List ℕ) (args : Taus) (sigil : Sigil) (o : Option Cell) (v : Val) → IsTrue (is_first_order (abs name args sigil)) → StandsFor world name args o v → abstract_at args o ≡ v
+  unfolding is_plain_type
+  abstract_is name none sigil None v d s = absurd s
+  abstract_is name none sigil (Some (Slots ss)) v d s = absurd s
+  abstract_is name none sigil (Some (Answers bs)) v d s = sym s.1
+  abstract_is name none sigil (Some (Words ns)) v d s = absurd (not_both (bytes_eq name (codes "SysState")) (world.stands name ns v) (first_alone _ d) s)
+  abstract_is name (more (word w) none) sigil None v d s = absurd s
+  abstract_is name (more (word w) none) sigil (Some (Slots ss)) v d s = absurd s
+  abstract_is name (more (word w) none) sigil (Some (Answers bs)) v d s = absurd s
+  abstract_is name (more (word w) none) sigil (Some (Words ns)) v d s = ap elements (numbers_again ns) ∙ sym s.1
+  abstract_is name (more (word w) (more t ts)) sigil o v d s = absurd (search rules)
+  abstract_is name (more (var n) ts) sigil o v d s = absurd (search rules)
+  abstract_is name (more (seen n) ts) sigil o v d s = absurd (search rules)
+  abstract_is name (more unit ts) sigil o v d s = absurd (search rules)
+  abstract_is name (more bool ts) sigil o v d s = absurd (search rules)
+  abstract_is name (more (arrow a b) ts) sigil o v d s = absurd (search rules)
+  abstract_is name (more (abs x us m) ts) sigil o v d s = absurd (search rules)
+  abstract_is name (more (variant ps) ts) sigil o v d s = absurd (search rules)
+  abstract_is name (more (fields ps m) ts) sigil o v d s = absurd (search rules)
 
   module _ (h : Heap) where
     -- where the fields of a record stand
@@ -61,7 +67,7 @@ module _ (world : HeapWorld) where
     inner_is W us b = ap held_scalars b.1
 
     mutual
-      unfolding Holds value_at is_first_order to_vals
+      unfolding Holds value_at is_plain_type to_vals
 
       pub read_holds : (t : Tau) (us : List Scalar) (v : Val) → IsTrue (is_first_order t) → Holds world h t us v → value_at h t us ≡ v
       read_holds (var n) us v f r = absurd r
@@ -70,7 +76,7 @@ module _ (world : HeapWorld) where
       read_holds (word w) us v f r = sym r.2
       read_holds bool us v f r = sym r.2
       read_holds (arrow a b) us v f r = absurd (search (rules, f))
-      read_holds (abs name args sigil) us v f r = abstract_is name args (h (first_address us)) v f r.2
+      read_holds (abs name args sigil) us v f r = abstract_is name args sigil (h (first_address us)) v f r.2
       read_holds (variant ps) us v f r = alternative_holds ps (first_number us) (tail us) r.0 r.1 f r.4 ∙ sym r.5
       read_holds (fields ps sigil) us v f r =
           ap (λ l. parts (to_vals (values_at h ps l))) (inner_is sigil us r.1) ∙ ap parts (fields_hold ps (inner h sigil us) r.0 f r.2) ∙ sym r.3
