@@ -8,6 +8,8 @@ mod layout;
 mod map;
 mod part;
 mod read;
+#[cfg(test)]
+mod read_tests;
 mod store;
 #[cfg(test)]
 mod tests;
