@@ -22,9 +22,9 @@ pub fn slots(ty: &Ty) -> u32
     }
 }
 
-// How many scalars the types of these parts have together.
+/// How many scalars the types of these parts have together. They have no more than 1,024 nodes. It takes no memory.
 #[cycle(slots)]
-fn slots_of_parts(parts: &Items<Part>) -> u32
+pub fn slots_of_parts(parts: &Items<Part>) -> u32
     requires { nodes_parts (to_parts (map part_of parts.now)) ≤ 1024 }
     ensures exact { result ≡ slots_of_all (to_parts (map part_of parts.now)) }
     ensures small { result ≤ 1024 }

@@ -15,7 +15,7 @@ mod store;
 mod tests;
 
 pub use cell::{Cell, Fresh, Scalar};
-pub use layout::slots;
+pub use layout::{slots, slots_of_parts};
 pub use map::MapStore;
 pub use read::read_out;
 pub use store::Store;

@@ -1,5 +1,5 @@
 -- The library on heaps, one line a function, for those that take no function (docs/LANGUAGE.md, "The library").
-use Rattle.std.specs.Prelude.{ℕ, ◌+◌, Bool, true, false, ◌&&◌, nat_le, List, [], ◌∷◌, length, get_or, unwrap_or, Option, Some}
+use Rattle.std.specs.Prelude.{◌≡◌, ℕ, ◌+◌, Bool, true, false, ◌&&◌, nat_le, List, [], ◌∷◌, length, get_or, unwrap_or, Option, Some}
 use Rattle.cg_base.specs.declared.fun.Lib.{Lib}
 use Rattle.cg_base.specs.declared.fun.Lib.TheVariants.{New, Free, Create, FreeArray, Length, Get, Put}
 use Rattle.cg_base.specs.Types.{Tau, fields}
@@ -44,6 +44,16 @@ words_in _ = []
 
 abbrev pub words_at : ℕ → Stored → List ℕ
 words_at p s = words_in (cell_at s p)
+
+-- an array stands at an address
+abbrev pub HasWords : ℕ → Stored → Type 0
+HasWords p s = cell_at s p ≡ Some (Words (words_at p s))
+
+-- the array that a function reads is there
+abbrev pub HasArray : Lib → List Scalar → Stored → Type 0
+HasArray Length us s = HasWords (first_address us) s
+HasArray Get us s = HasWords (first_address us) s
+HasArray _ us s = Unit {0}
 
 -- how many slots the cell of a record has
 abbrev pub record_slots : Tau → ℕ

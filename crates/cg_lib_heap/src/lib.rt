@@ -1,2 +1,9 @@
-//! The library on heaps, for the functions that take no function (docs/LANGUAGE.md, "The library").
+//! The library on heaps, for the functions that take no function: [`lib_heap`] (docs/LANGUAGE.md, "The library").
 #![tactic(auto)]
+
+mod allocate;
+mod arrays;
+mod library;
+mod scalars;
+
+pub use library::lib_heap;

@@ -1,0 +1,3 @@
+mod AllocateSteps
+mod ArraySteps
+mod Places
