@@ -80,7 +80,13 @@ pub(crate) fn alone(alloc: Global, scalar: Scalar) -> Result<Items<Scalar>, Memo
 }
 
 /// Four scalars, in this order. Want of memory is its one refusal.
-pub(crate) fn four(alloc: Global, first: Scalar, second: Scalar, third: Scalar, fourth: Scalar) -> Result<Items<Scalar>, Memory>
+pub(crate) fn four(
+    alloc: Global,
+    first: Scalar,
+    second: Scalar,
+    third: Scalar,
+    fourth: Scalar,
+) -> Result<Items<Scalar>, Memory>
     ensures { IfOk result (λ us. us ≡ first ∷ second ∷ third ∷ fourth ∷ []) }
 {
     let mut scalars = alone(alloc, first)?;
