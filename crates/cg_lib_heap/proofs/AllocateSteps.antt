@@ -18,7 +18,7 @@ same_top p (Some c) s = refl
 pub top_stays : (f : Cell → Option Cell) (p : ℕ) (s : Stored) → (changed f p s).top ≡ s.top
 top_stays f p s = same_top p (asked_of f p s) s
 
-found : (m : FinMap nat_cmp Cell) (p q : ℕ) (c : Cell) → map.get (map.insert m p c) q ≡ cond (nat_eq q p) (Some c) (map.get m q)
+pub found : (m : FinMap nat_cmp Cell) (p q : ℕ) (c : Cell) → map.get (map.insert m p c) q ≡ cond (nat_eq q p) (Some c) (map.get m q)
 found m p q c = get-insert nat_cmp_total m p c q ∙ ap (λ b. cond b (Some c) (map.get m q)) (unsigned_tied q p)
 
 -- two cells put in at two addresses

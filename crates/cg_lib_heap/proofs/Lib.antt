@@ -1,3 +1,4 @@
 mod AllocateSteps
 mod ArraySteps
 mod Places
+mod TestSteps

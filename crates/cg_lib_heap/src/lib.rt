@@ -5,5 +5,7 @@ mod allocate;
 mod arrays;
 mod library;
 mod scalars;
+#[cfg(test)]
+mod tests;
 
 pub use library::lib_heap;
