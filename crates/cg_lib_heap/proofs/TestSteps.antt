@@ -10,9 +10,6 @@ use Rattle.cg_base.specs.declared.ty.Part.{Part}
 use Rattle.cg_base.specs.declared.ty.Ty.{Ty, the_lemmas}
 use Rattle.cg_base.specs.declared.ty.Ty.TheVariants as ty
 use Rattle.cg_base.specs.Types.{bool, fields, part_of, to_parts, type_of}
-use Rattle.cg_heap.specs.declared.cell.Scalar.{Scalar}
-use Rattle.cg_heap.specs.declared.cell.Scalar.TheVariants.{Address}
-use Rattle.cg_heap.specs.Reps.{first_address}
 use Rattle.cg_typing.specs.Parts.{nodes, nodes_parts}
 use Rattle.std.specs.declared.option.Option.TheVariants.{None, Some}
 use Rattle.cg_heap.specs.declared.cell.Cell.{Cell}
@@ -43,13 +40,6 @@ pub words_stay : (p i n : ℕ) (s : Stored) → HasWords p s → HasWords p (cha
 words_stay p i n s has =
     let is : changed (with_element i n) p s ≡ in_place p (in_cell (with_element i n) (Some (Words (words_at p s)))) s = ap (λ o. in_place p (in_cell (with_element i n) o) s) has in
     rw is (words_or_same (nat_lt i (length (words_at p s))) p s (slice_set (words_at p s) i n) has)
-
-pub words_stay_at : (p q i n : ℕ) (s : Stored) → q ≡ p → HasWords p s → HasWords p (changed (with_element i n) q s)
-words_stay_at p q i n s at has = rw at (words_stay p i n s has)
-
--- the scalars of an array's first argument
-pub words_first : (p : ℕ) (us vs : List Scalar) (s : Stored) → us ≡ Address p ∷ vs → HasWords p s → HasWords (first_address us) s
-words_first p us vs s is has = rw is has
 
 -- the type of a record with one field
 

@@ -4,7 +4,8 @@
 ghost use Rattle.std.specs.Prelude.{◌≡◌, [], ◌∷◌, ◌+◌, ◌≤◌, IfOk, OnOk, map};
 ghost use Rattle.std.specs.List.{All};
 ghost use Rattle.cg_base.specs.Types.{type_of};
-ghost use Rattle.cg_lib_heap.specs.Library.{HasWords};
+ghost use Rattle.cg_heap.specs.declared.cell.Scalar.TheVariants as scalar;
+ghost use Rattle.cg_lib_heap.specs.Library.{HasArray, HasWords, library_heap};
 ghost use Rattle.cg_typing.specs.Parts.{nodes};
 
 use crate::lib_heap;
@@ -56,82 +57,112 @@ fn allocator(alloc: Global) -> Result<MapStore, Memory>
     Ok(store)
 }
 
-/// Makes a record by the allocator at 9.
-fn new_record(alloc: Global, store: &mut MapStore) -> Result<Items<Scalar>, Memory>
-    requires { store.old.top ≤ 99 }
-    ensures { OnOk result (store.new.top ≤ store.old.top + 1) }
+/// Calls a function without type arguments on three scalars.
+fn call(
+    alloc: Global,
+    lib: Lib,
+    first: Scalar,
+    second: Scalar,
+    third: Scalar,
+    store: &mut MapStore,
+) -> Result<Items<Scalar>, Memory>
+    requires top { store.old.top ≤ 99 }
+    requires array { HasArray lib (first ∷ second ∷ third ∷ []) store.old }
+    ensures { OnOk result (store.new ≡ (library_heap lib [] (first ∷ second ∷ third ∷ []) store.old).store) }
 {
-    let args = record_type(alloc)?;
-    let arg = three(alloc, Scalar::Address(9), Scalar::Unset, Scalar::Unset)?;
-    lib_heap(alloc, Lib::New, &args, &arg, store)
+    let args = Items::new(alloc);
+    let arg = three(alloc, first, second, third)?;
+    lib_heap(alloc, lib, &args, &arg, store)
 }
 
-/// Makes an array by the allocator at 9.
-fn new_array(alloc: Global, count: u64, store: &mut MapStore) -> Result<Items<Scalar>, Memory>
-    requires { store.old.top ≤ 99 }
-    ensures { OnOk result (store.new.top ≤ store.old.top + 1) }
-{
-    let arg = three(
-        alloc,
-        Scalar::Address(9),
-        Scalar::Word(count),
-        Scalar::Unset,
-    )?;
-    lib_heap(alloc, Lib::Create, &Items::new(alloc), &arg, store)
-}
-
-/// Whether the allocator granted the cell at 10.
-fn is_granted(given: &Items<Scalar>) -> bool {
-    matches!(
-        given.as_slice(),
+/// Whether the allocator at 9 granted the cell at 10, or refused it; None where neither was answered.
+fn answer(given: &Items<Scalar>) -> Option<bool> {
+    match given.as_slice() {
         [
             Scalar::Address(9),
             Scalar::Word(1),
             Scalar::Unset,
-            Scalar::Address(10)
-        ]
-    )
-}
-
-/// Whether the allocator refused.
-fn is_refused(given: &Items<Scalar>) -> bool {
-    matches!(
-        given.as_slice(),
+            Scalar::Address(10),
+        ] => Some(true),
         [
             Scalar::Address(9),
             Scalar::Word(0),
             Scalar::Word(0),
-            Scalar::Unset
-        ]
-    )
+            Scalar::Unset,
+        ] => Some(false),
+        _ => None,
+    }
 }
 
-#[test]
-fn records_are_made_and_freed(rt: HostRuntime) -> Result<(), Fail> {
-    let alloc = rt.alloc();
-    let mut store = allocator(alloc)?;
-    let first = new_record(alloc, &mut store)?;
-    let second = new_record(alloc, &mut store)?;
-    assert!(rt; is_granted(&first) && is_refused(&second));
-    assert!(rt; store.len(9) == Some(0) && store.len(10) == Some(1));
-    let arg = three(
+/// What the allocator at 9 answers, asked for a record.
+fn new_record(alloc: Global, store: &mut MapStore) -> Result<Option<bool>, Memory>
+    requires { store.old.top ≤ 9 }
+    ensures { OnOk result (store.new.top ≤ store.old.top + 1) }
+{
+    let args = record_type(alloc)?;
+    let arg = three(alloc, Scalar::Address(9), Scalar::Unset, Scalar::Unset)?;
+    let given = lib_heap(alloc, Lib::New, &args, &arg, store)?;
+    Ok(answer(&given))
+}
+
+/// What the allocator at 9 answers, asked for an array.
+fn new_array(alloc: Global, count: u64, store: &mut MapStore) -> Result<Option<bool>, Memory>
+    requires { store.old.top ≤ 98 }
+    ensures { OnOk result (store.new.top ≤ store.old.top + 1) }
+{
+    let given = call(
         alloc,
+        Lib::Create,
+        Scalar::Address(9),
+        Scalar::Word(count),
+        Scalar::Unset,
+        store,
+    )?;
+    Ok(answer(&given))
+}
+
+/// Frees the cell at 10, and says whether the allocator at 9 is given back.
+fn free(alloc: Global, store: &mut MapStore) -> Result<bool, Memory>
+    requires { store.old.top ≤ 99 }
+{
+    let given = call(
+        alloc,
+        Lib::Free,
         Scalar::Address(9),
         Scalar::Address(10),
         Scalar::Unset,
+        store,
     )?;
-    let freed = lib_heap(alloc, Lib::Free, &Items::new(alloc), &arg, &mut store)?;
-    assert!(rt; matches!(freed.as_slice(), [Scalar::Address(9)]) && store.len(10).is_none());
+    Ok(matches!(given.as_slice(), [Scalar::Address(9)]))
+}
+
+#[test]
+fn records_are_made(rt: HostRuntime) -> Result<(), Fail> {
+    let alloc = rt.alloc();
+    let mut store = allocator(alloc)?;
+    let made = new_record(alloc, &mut store)?;
+    let cells = (store.len(9), store.len(10));
+    assert!(rt; made == Some(true) && cells == (Some(0), Some(1)));
     Ok(())
 }
 
 #[test]
-fn arrays_are_made(rt: HostRuntime) -> Result<(), Fail> {
+fn cells_are_freed(rt: HostRuntime) -> Result<(), Fail> {
+    let alloc = rt.alloc();
+    let mut store = allocator(alloc)?;
+    let _made = new_record(alloc, &mut store)?;
+    let freed = free(alloc, &mut store)?;
+    assert!(rt; freed && store.len(10).is_none());
+    Ok(())
+}
+
+#[test]
+fn arrays_are_made_and_refused(rt: HostRuntime) -> Result<(), Fail> {
     let alloc = rt.alloc();
     let mut store = allocator(alloc)?;
     let made = new_array(alloc, 3, &mut store)?;
     let refused = new_array(alloc, 3, &mut store)?;
-    assert!(rt; is_granted(&made) && is_refused(&refused) && store.len(10) == Some(3));
+    assert!(rt; made == Some(true) && refused == Some(false) && store.len(10) == Some(3));
     Ok(())
 }
 
@@ -140,7 +171,7 @@ fn long_arrays_are_refused(rt: HostRuntime) -> Result<(), Fail> {
     let alloc = rt.alloc();
     let mut store = allocator(alloc)?;
     let made = new_array(alloc, 1_048_577, &mut store)?;
-    assert!(rt; is_refused(&made) && store.len(9) == Some(0) && store.len(10).is_none());
+    assert!(rt; made == Some(false) && store.len(9) == Some(0) && store.len(10).is_none());
     Ok(())
 }
 
@@ -157,36 +188,69 @@ fn array(alloc: Global) -> Result<MapStore, Memory>
     Ok(store)
 }
 
-/// Writes 7 at an index of the array at 4, and gives what is read there.
-fn put_and_get(alloc: Global, index: u64, store: &mut MapStore) -> Result<Items<Scalar>, Memory>
+/// Writes 7 at an index of the array at 4.
+fn put(alloc: Global, index: u64, store: &mut MapStore) -> Result<(), Memory>
     requires top { store.old.top ≤ 4 }
     requires array { HasWords 4 store.old }
     ensures top { OnOk result (store.new.top ≤ 4) }
     ensures array { OnOk result (HasWords 4 store.new) }
 {
-    let arg = three(
+    let given = call(
         alloc,
+        Lib::Put,
         Scalar::Address(4),
         Scalar::Word(index),
         Scalar::Word(7),
+        store,
     )?;
-    drop(lib_heap(alloc, Lib::Put, &Items::new(alloc), &arg, store)?);
-    let element = lib_heap(alloc, Lib::Get, &Items::new(alloc), &arg, store)?;
-    Ok(element)
+    drop(given);
+    Ok(())
+}
+
+/// What a function gives of the array at 4, if it is a number.
+fn read(alloc: Global, lib: Lib, index: u64, store: &mut MapStore) -> Result<Option<u64>, Memory>
+    requires top { store.old.top ≤ 4 }
+    requires array { HasArray lib (scalar.Address 4 ∷ []) store.old }
+{
+    let given = call(
+        alloc,
+        lib,
+        Scalar::Address(4),
+        Scalar::Word(index),
+        Scalar::Unset,
+        store,
+    )?;
+    match given.as_slice() {
+        [Scalar::Word(number)] => Ok(Some(*number)),
+        _ => Ok(None),
+    }
 }
 
 #[test]
 fn elements_are_written(rt: HostRuntime) -> Result<(), Fail> {
     let alloc = rt.alloc();
     let mut store = array(alloc)?;
-    let within = put_and_get(alloc, 1, &mut store)?;
-    let beyond = put_and_get(alloc, 2, &mut store)?;
-    assert!(rt;
-        matches!(within.as_slice(), [Scalar::Word(7)])
-            && matches!(beyond.as_slice(), [Scalar::Word(0)])
-    );
-    let arg = three(alloc, Scalar::Address(4), Scalar::Unset, Scalar::Unset)?;
-    let length = lib_heap(alloc, Lib::Length, &Items::new(alloc), &arg, &mut store)?;
-    assert!(rt; matches!(length.as_slice(), [Scalar::Word(2)]));
+    put(alloc, 1, &mut store)?;
+    let element = read(alloc, Lib::Get, 1, &mut store)?;
+    assert!(rt; element == Some(7));
+    Ok(())
+}
+
+#[test]
+fn nothing_is_written_beyond(rt: HostRuntime) -> Result<(), Fail> {
+    let alloc = rt.alloc();
+    let mut store = array(alloc)?;
+    put(alloc, 2, &mut store)?;
+    let element = read(alloc, Lib::Get, 2, &mut store)?;
+    assert!(rt; element == Some(0) && store.len(4) == Some(2));
+    Ok(())
+}
+
+#[test]
+fn arrays_have_lengths(rt: HostRuntime) -> Result<(), Fail> {
+    let alloc = rt.alloc();
+    let mut store = array(alloc)?;
+    let length = read(alloc, Lib::Length, 0, &mut store)?;
+    assert!(rt; length == Some(2));
     Ok(())
 }
