@@ -22,7 +22,8 @@ const MOST_ELEMENTS: u64 = 1_048_576;
 
 /// What a function of the library gives on a heap at its type arguments, if it takes no function: the scalars of its result, and in the
 /// store what it makes, writes and frees (docs/LANGUAGE.md, "The library"). Of functions that take one it gives no scalars, and changes
-/// nothing. Want of memory is its one refusal, after which the store is as it was.
+/// nothing. The array that Length or Get reads is to be there, as it is for a well-typed argument. Want of memory is its one refusal,
+/// after which the store is as it was.
 pub fn lib_heap<S: Store>(
     alloc: Global,
     lib: Lib,
