@@ -1,8 +1,9 @@
--- The laws of bang and of kinds.
+-- The laws of bang, of kinds and of shapes.
 use Rattle.std.specs.Prelude.{◌≡◌, ℕ, ◌<◌, ◌≤◌, true, List, length, IsTrue, slice_index_or as get_or}
 use Rattle.cg_base.specs.declared.kind.Kinds.{Kinds}
 use Rattle.cg_base.specs.Types.{Tau}
 use Rattle.cg_kinds.specs.Kinds.{kinds, bang, subst, width}
+use Rattle.cg_kinds.specs.Shapes.{shape}
 
 -- to observe twice is to observe once
 abbrev pub BangIsIdempotent : Type 0
@@ -27,3 +28,11 @@ abbrev pub SubstKeepsKinds : Type 0
 SubstKeepsKinds =
     (vars : List Kinds) (args : List Tau) (wants : List Kinds) → length args ≡ length wants → AreMet vars args wants →
     (t : Tau) → width t ≤ length args → AreKept (kinds vars (subst args t)) (kinds wants t)
+
+-- the shape of a shape is the shape
+abbrev pub ShapeIsIdempotent : Type 0
+ShapeIsIdempotent = (t : Tau) → shape (shape t) ≡ shape t
+
+-- without type variables, what is observed has the shape that it had
+abbrev pub BangedHasItsShape : Type 0
+BangedHasItsShape = (t : Tau) → width t ≡ 0 → shape (bang t) ≡ shape t

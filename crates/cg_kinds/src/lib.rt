@@ -1,5 +1,5 @@
-//! Kinds, equality, bang and substitution of types, by [`kinds_of`], [`same`], [`bang`] and [`subst`], and their laws.
-//! docs/LANGUAGE.md, "Kinds and bang", says what they mean.
+//! Kinds, equality, bang, shape and substitution of types, by [`kinds_of`], [`same`], [`bang`], [`shape`] and [`subst`],
+//! and their laws. docs/LANGUAGE.md, "Kinds and bang" and "Layout", says what they mean.
 #![tactic(auto)]
 
 mod change;
@@ -8,7 +8,7 @@ mod kind;
 pub mod law;
 mod replace;
 
-pub use change::bang;
+pub use change::{bang, shape};
 pub use equality::{same, same_types};
 pub use kind::kinds_of;
 pub use replace::subst;
