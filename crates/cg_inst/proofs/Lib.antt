@@ -10,3 +10,4 @@ pub mod SameInstance
 pub mod SameType
 pub mod SearchSteps
 pub mod Standing
+pub mod WidthSteps

@@ -2,22 +2,17 @@
 use Rattle.std.proofs.Common.{◌≡◌, ℕ, zero, suc, ◌<◌, ◌≤◌, ◌+◌, ◌-◌, Option, Some, None, List, [], ◌∷◌, length, map, drop, get_or, refl, sym, ap, ◌∙◌, subst, arith, ◌⊎◌, ⊎_elim}
 use Rattle.std.specs.List.{All}
 use Rattle.std.specs.Option.{option_map}
-use Rattle.std.specs.Prelude.{slice_get, IsTrue, nat_le}
-use Rattle.std.proofs.lemmas.Bool.{le-leb, leb-true}
+use Rattle.std.specs.Prelude.{slice_get, IsTrue}
 use Rattle.std.proofs.lemmas.List.{drop_all, length-map}
-use Rattle.cg_base.specs.Types.{Tau, type_of}
+use Rattle.cg_base.specs.Types.{Tau}
 use Rattle.cg_base.specs.declared.fun.Fun.{Fun}
-use Rattle.cg_core.specs.declared.term.Form.{the_lemmas}
-use Rattle.cg_core.specs.declared.term.Term.{Term}
-use Rattle.cg_core.specs.declared.term.Typed.{Typed}
-use Rattle.cg_core.specs.Kernels.{the_core}
 use Rattle.cg_core.specs.Terms.{Note, Tree}
-use Rattle.cg_inst.specs.Limited.{HasSmallTypesAt}
-use Rattle.cg_inst.specs.Lists.{Cores, HasSmallTypes, core_of, most_nodes, nodes_in, nodes_maybe}
+use Rattle.cg_inst.specs.Limited.{AreSmallAt, HasSmallTypesAt, HaveSmallTypesUntil, function_at}
+use Rattle.cg_inst.specs.Measured.{AreSmallBy}
+use Rattle.cg_inst.specs.Lists.{Cores, HasSmallTypes, HaveSmallTypes, core_of, most_nodes, nodes_in, nodes_maybe}
 use Rattle.cg_kinds.specs.Kinds.{subst as subst_of}
-use Rattle.cg_shared.specs.Layers.{capped}
 use Rattle.cg_typing.specs.Instances.{Instance}
-use Rattle.cg_typing.specs.Parts.{is_small_enough, nodes as nodes_of_type}
+use Rattle.cg_typing.specs.Parts.{is_small_enough}
 use Rattle.cg_typing.specs.Rules.{type_at}
 
 -- ---- what holds of all before a position
@@ -25,7 +20,7 @@ use Rattle.cg_typing.specs.Rules.{type_at}
 abbrev pub Until : {A : Type 0} → (A → Type 0) → List A → ℕ → Type 0
 Until {A} P xs n = (k : ℕ) (d : A) → k < n → P (get_or xs k d)
 
-last_or_before : (k n : ℕ) → k < n + 1 → (k ≡ n) ⊎ (k < n)
+pub last_or_before : (k n : ℕ) → k < n + 1 → (k ≡ n) ⊎ (k < n)
 last_or_before k n h = grind arith
 
 pub until_more : {A : Type 0} (P : A → Type 0) (xs : List A) (n : ℕ) → Until P xs n → ((d : A) → P (get_or xs n d)) → Until P xs (n + 1)
@@ -48,44 +43,55 @@ of_all P xs i x h e all = subst P (sym e) (all i x h)
 abbrev pub IsSmallAt : List Tau → Tree Note → Type 0
 IsSmallAt types t = IsTrue (is_small_enough (subst_of types (type_at t)))
 
-type_of_node : (node : Term Typed) → type_at (the_core node) ≡ type_of node.note.ty
-type_of_node node = grind (arith, the_lemmas)
-
-small_if : (n m : ℕ) → n ≡ capped m → n ≤ 1024 → IsTrue (nat_le m 1024)
-small_if n m e h = le-leb m 1024 (omega (arith, e, h))
-
-large_if : (n m : ℕ) → n ≡ capped m → 1024 < n → IsTrue (nat_le m 1024) → ⊥
-large_if n m e h t = omega (arith, e, h, leb-true m 1024 t)
-
-pub is_small : (types : List Tau) (node : Term Typed) (n : ℕ) → n ≡ capped (nodes_of_type (subst_of types (type_of node.note.ty))) → n ≤ 1024 → IsSmallAt types (the_core node)
-is_small types node n e h =
-    subst (λ t. IsTrue (is_small_enough (subst_of types t))) (sym (type_of_node node)) (small_if n (nodes_of_type (subst_of types (type_of node.note.ty))) e h)
-
-pub is_large : (types : List Tau) (node : Term Typed) (n : ℕ) → n ≡ capped (nodes_of_type (subst_of types (type_of node.note.ty))) → 1024 < n → IsSmallAt types (the_core node) → ⊥
-is_large types node n e h small =
-    large_if n (nodes_of_type (subst_of types (type_of node.note.ty))) e h (subst (λ t. IsTrue (is_small_enough (subst_of types t))) (type_of_node node) small)
-
 -- ---- the types of one instance
 
 abbrev pub FitsOf : Cores → Instance → Type 0
 FitsOf cores x = HasSmallTypes x.types (nodes_maybe (core_of cores x.fun))
-
--- what is known of the types and the nodes of an instance, said of the entry at its place
-pub small_at : (cores : Cores) (o : Option Instance) (x : Instance) (types : List Tau) (nodes : List (Tree Note)) → o ≡ Some x → types ≡ x.types → nodes ≡ nodes_maybe (core_of cores x.fun)
-    → HasSmallTypes types nodes → HasSmallTypesAt cores o
-small_at cores o x types nodes e t n h =
-    subst (HasSmallTypesAt cores) (sym e) (subst (λ ts. HasSmallTypes ts (nodes_maybe (core_of cores x.fun))) t (subst (HasSmallTypes types) n h))
-
-pub small_back : (cores : Cores) (o : Option Instance) (x : Instance) (types : List Tau) (nodes : List (Tree Note)) → o ≡ Some x → types ≡ x.types → nodes ≡ nodes_maybe (core_of cores x.fun)
-    → HasSmallTypesAt cores o → HasSmallTypes types nodes
-small_back cores o x types nodes e t n h =
-    subst (HasSmallTypes types) (sym n) (subst (λ ts. HasSmallTypes ts (nodes_maybe (core_of cores x.fun))) (sym t) (subst (HasSmallTypesAt cores) e h))
 
 -- at a position within the list
 pub fits_here : (cores : Cores) (list : List Instance) (i : ℕ) → i < length list → HasSmallTypesAt cores (slice_get list i) → (d : Instance) → FitsOf cores (get_or list i d)
 fits_here cores [] i h p d = absurd (omega (arith, h))
 fits_here cores (x ∷ list) zero h p d = p
 fits_here cores (x ∷ list) (suc i) h p d = fits_here cores list i (omega (arith, h)) p d
+
+-- and so at each position, where all fit
+small_there : (cores : Cores) (list : List Instance) (i : ℕ) → HaveSmallTypes cores list → HasSmallTypesAt cores (slice_get list i)
+small_there cores [] i all = _
+small_there cores (x ∷ list) zero all = all zero x (omega arith)
+small_there cores (x ∷ list) (suc i) all = small_there cores list i (λ k d l. all (suc k) d (omega (arith, l)))
+
+-- where an instance of a function stands
+pub there_within : (list : List Instance) (i : ℕ) (fun : Fun) → function_at list i ≡ Some fun → i < length list
+there_within [] i fun e = absurd (cc)
+there_within (x ∷ list) zero fun e = omega arith
+there_within (x ∷ list) (suc i) fun e = let rest = there_within list i fun e in omega (arith, rest)
+
+function_there : (list : List Instance) (i : ℕ) (d : Instance) → i < length list → function_at list i ≡ Some (get_or list i d).fun
+function_there [] i d h = absurd (omega (arith, h))
+function_there (x ∷ list) zero d h = refl
+function_there (x ∷ list) (suc i) d h = function_there list i d (omega (arith, h))
+
+-- all fit, where those of each function do
+pub all_small : (cores : Cores) (list : List Instance) (n : ℕ) → length list ≤ n → HaveSmallTypesUntil cores list n → HaveSmallTypes cores list
+all_small cores list n h until i d l =
+    let here = function_there list i d l in
+    fits_here cores list i l (until i (get_or list i d).fun (omega (arith, h, l)) here i here) d
+
+-- ---- the types of the instances of one function, by widths
+
+module _ (cores : Cores) (fun : Fun) (widths : List (ℕ × List ℕ)) where
+  pub fits_there : (o : Option Instance) → ((types : List Tau) → AreSmallBy types widths → HasSmallTypes types (nodes_maybe (core_of cores fun)))
+      → option_map (λ (x : Instance). x.fun) o ≡ Some fun → AreSmallAt fun widths o → HasSmallTypesAt cores o
+  fits_there None told e h = _
+  fits_there (Some x) told e h = let q : x.fun ≡ fun = cc in subst (λ f. HasSmallTypes x.types (nodes_maybe (core_of cores f))) (sym q) (told x.types (h q))
+
+  fits_back : (o : Option Instance) → ((types : List Tau) → HasSmallTypes types (nodes_maybe (core_of cores fun)) → AreSmallBy types widths) → HasSmallTypesAt cores o → AreSmallAt fun widths o
+  fits_back None told h = _
+  fits_back (Some x) told h = λ q. told x.types (subst (λ f. HasSmallTypes x.types (nodes_maybe (core_of cores f))) q h)
+
+  pub all_fit : (list : List Instance) (i : ℕ) → ((types : List Tau) → HasSmallTypes types (nodes_maybe (core_of cores fun)) → AreSmallBy types widths) → HaveSmallTypes cores list
+      → AreSmallAt fun widths (slice_get list i)
+  all_fit list i told all = fits_back (slice_get list i) told (small_there cores list i all)
 
 -- ---- the count of nodes
 

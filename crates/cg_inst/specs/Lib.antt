@@ -5,4 +5,5 @@ pub mod Keyed
 pub mod Limited
 pub mod Lists
 pub mod Lookups
+pub mod Measured
 pub mod Views

@@ -1,10 +1,22 @@
 -- What comes of judging the limits of a list of instances.
-use Rattle.std.specs.Prelude.{◌≤◌, ◌<◌, List, Option, Some, None, Result, Ok, Err}
+use Rattle.std.specs.Prelude.{◌≡◌, ◌≤◌, ◌<◌, ℕ, slice_get, List, Option, Some, None, Result, Ok, Err}
 use Rattle.cg_base.specs.declared.limit.Limit.TheVariants.{Core as OfCore, Ty as OfTy}
+use Rattle.std.specs.Option.{option_map}
+use Rattle.cg_base.specs.declared.fun.Fun.{Fun}
+use Rattle.cg_inst.specs.Measured.{AreSmallBy}
 use Rattle.cg_inst.specs.declared.fault.InstFault.{InstFault}
 use Rattle.cg_inst.specs.declared.fault.InstFault.TheVariants.{Limit, Memory}
 use Rattle.cg_inst.specs.Lists.{Cores, HasSmallTypes, HaveSmallTypes, core_of, most_nodes, nodes_in, nodes_maybe}
 use Rattle.cg_typing.specs.Instances.{Instance}
+
+-- the function of the instance at a place
+abbrev pub function_at : List Instance → ℕ → Option Fun
+function_at list i = option_map (λ x. x.fun) (slice_get list i)
+
+-- widths tell that the types of an instance are small enough, if it is one of this function
+abbrev pub AreSmallAt : Fun → List (ℕ × List ℕ) → Option Instance → Type 0
+AreSmallAt fun widths None = Unit {0}
+AreSmallAt fun widths (Some x) = x.fun ≡ fun → AreSmallBy x.types widths
 
 module _ (cores : Cores) where
   -- the bodies have few enough nodes, or too many
@@ -26,8 +38,22 @@ module _ (cores : Cores) where
   HasSmallTypesAt None = Unit {0}
   HasSmallTypesAt (Some x) = HasSmallTypes x.types (nodes_maybe (core_of cores x.fun))
 
-  abbrev pub TypesFitAt : Option Instance → Result Unit InstFault → Type 0
-  TypesFitAt x (Ok _) = HasSmallTypesAt x
-  TypesFitAt x (Err (Limit OfTy)) = HasSmallTypesAt x → ⊥
-  TypesFitAt x (Err (Limit _)) = ⊥
-  TypesFitAt x (Err Memory) = Unit {0}
+  -- those of all instances of a function, and of all whose function stands before a place
+  abbrev pub HaveSmallTypesOf : List Instance → Fun → Type 0
+  HaveSmallTypesOf list fun = (i : ℕ) → function_at list i ≡ Some fun → HasSmallTypesAt (slice_get list i)
+
+  abbrev pub HaveSmallTypesUntil : List Instance → ℕ → Type 0
+  HaveSmallTypesUntil list n = (i : ℕ) (fun : Fun) → i < n → function_at list i ≡ Some fun → HaveSmallTypesOf list fun
+
+  -- the types of all nodes of the instances of a function are small enough, or not all types are
+  abbrev pub TypesFitOf : List Instance → Fun → Result Unit InstFault → Type 0
+  TypesFitOf list fun (Ok _) = HaveSmallTypesOf list fun
+  TypesFitOf list fun (Err (Limit OfTy)) = HaveSmallTypes cores list → ⊥
+  TypesFitOf list fun (Err (Limit _)) = ⊥
+  TypesFitOf list fun (Err Memory) = Unit {0}
+
+  abbrev pub TypesFitUntil : List Instance → ℕ → Result Unit InstFault → Type 0
+  TypesFitUntil list n (Ok _) = HaveSmallTypesUntil list n
+  TypesFitUntil list n (Err (Limit OfTy)) = HaveSmallTypes cores list → ⊥
+  TypesFitUntil list n (Err (Limit _)) = ⊥
+  TypesFitUntil list n (Err Memory) = Unit {0}

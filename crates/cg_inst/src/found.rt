@@ -1,12 +1,14 @@
 // A list of instances that grows.
-ghost use Rattle.std.specs.Prelude.{◌≡◌, ◌↔◌, ◌<◌, [], length, map, slice_get, IfOk, IsTrue, Some};
+ghost use Rattle.std.specs.Prelude.{◌≡◌, ◌↔◌, ◌<◌, [], length, map, slice_get, IfOk, IfSome, IsTrue, Some};
 ghost use Rattle.std.specs.Option.{option_map};
 ghost use Rattle.cg_base.specs.Types.{type_of};
 ghost use Rattle.cg_core.specs.Kernels.{function_of, the_core};
 ghost use Rattle.cg_inst.specs.Founds.{Comes, IsEntryAt, found_in};
 ghost use Rattle.cg_inst.specs.Judged.{core_in, functions_in};
+ghost use Rattle.cg_inst.specs.Limited.{AreSmallAt, function_at};
+ghost use Rattle.cg_inst.specs.Measured.{width_in};
 ghost use Rattle.cg_shared.specs.Listings.{IsListing, list_at, listing};
-ghost use Rattle.cg_inst.specs.Lists.{HasSmallTypes, front_from, gone_through, with_instance, with_instances};
+ghost use Rattle.cg_inst.specs.Lists.{front_from, gone_through, with_instance, with_instances};
 ghost use Rattle.cg_shared.specs.Layers.{types_at};
 ghost use Rattle.cg_shared.specs.Places.{Each, Keeps};
 ghost use Rattle.cg_typing.specs.Instances.{mentioned_at, mentioned_in};
@@ -15,6 +17,7 @@ use crate::arguments::enter_types;
 use crate::fault::InstFault;
 use crate::keys::{Key, Keys};
 use crate::nodes::{body_nodes, mention_in};
+use crate::widths::{Width, are_small};
 use cg_base::{Fun, Items, Limit, Memory, Ty};
 use cg_core::{KFun, Term, Typed};
 use cg_shared::{TypeId, TypeTable};
@@ -72,16 +75,46 @@ impl Found {
         }
     }
 
-    /// Whether the types of these nodes have no more than 1,024 nodes each, with the types at these places for their type variables.
-    pub(crate) fn are_small(&self, nodes: &[&Term<Typed>], types: &[TypeId]) -> bool
-        ensures { IsTrue result ↔ HasSmallTypes (types_at self.now.types types.now) (map (λ node. the_core node.now) nodes.now) }
+    /// Whether the instance at a place is one of this function.
+    pub(crate) fn is_of(&self, fun: Fun, at: usize) -> bool
+        ensures { IsTrue result ↔ (function_at (found_in self.now) at ≡ Some fun) }
     {
-        for node in nodes {
-            if self.table.nodes_with(&node.note.ty, types) > 1024 {
-                return false;
+        match self.function(at) {
+            Some(other) => other == fun,
+            None => false,
+        }
+    }
+
+    /// A place before this one at which an instance of this function stands, if one does.
+    pub(crate) fn earlier(&self, fun: Fun, at: usize) -> Option<usize>
+        ensures { IfSome result (λ i. (i < at) × (function_at (found_in self.now) i ≡ Some fun)) }
+    {
+        for i in 0..at {
+            if self.is_of(fun, i) {
+                return Some(i);
             }
         }
-        true
+        None
+    }
+
+    /// Whether these widths tell that the types of the instance at a place have no more than 1,024 nodes each; so it is also where the
+    /// instance is one of another function.
+    pub(crate) fn fits(
+        &self,
+        alloc: Global,
+        at: usize,
+        fun: Fun,
+        widths: &[Width],
+    ) -> Result<bool, Memory>
+        ensures { IfOk result (λ fits. IsTrue fits ↔ AreSmallAt fun (map width_in widths.now) (slice_get (found_in self.now) at)) }
+    {
+        if !self.is_of(fun, at) {
+            return Ok(true);
+        }
+        match self.entry(alloc, at)? {
+            Some((_, types)) => Ok(are_small(&self.table, widths, types.as_slice())),
+            None => Ok(true),
+        }
     }
 
     /// The instance at a place: its function, and the places of its types.

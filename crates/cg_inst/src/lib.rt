@@ -12,6 +12,7 @@ mod list;
 mod make;
 mod nodes;
 mod search;
+mod widths;
 
 pub use fault::InstFault;
 pub use instance::Instance;

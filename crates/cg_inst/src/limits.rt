@@ -1,13 +1,14 @@
 // The limits of a list of instances.
-ghost use Rattle.std.specs.Prelude.{slice_get};
+ghost use Rattle.std.specs.Prelude.{◌+◌};
 ghost use Rattle.cg_inst.specs.Founds.{found_in};
 ghost use Rattle.cg_inst.specs.Judged.{core_in};
-ghost use Rattle.cg_inst.specs.Limited.{CoresFit, TypesFit, TypesFitAt};
+ghost use Rattle.cg_inst.specs.Limited.{CoresFit, HaveSmallTypesUntil, TypesFit, TypesFitOf, TypesFitUntil};
 
 use crate::fault::InstFault;
 use crate::found::Found;
 use crate::nodes::body_nodes;
-use cg_base::Limit;
+use crate::widths::widths_of;
+use cg_base::{Fun, Limit};
 use cg_typing::Checked;
 use std::alloc::Global;
 
@@ -41,24 +42,40 @@ pub(crate) fn check_types(alloc: Global, checked: &Checked, found: &Found) -> Re
     Ok(())
 }
 
-// The types of the nodes of one instance.
+// The types of the nodes of all instances of the function of the one at a place. Where one before it is of this function, they are judged.
 fn check_types_at(
     alloc: Global,
     checked: &Checked,
     found: &Found,
     at: usize,
 ) -> Result<(), InstFault>
-    ensures { TypesFitAt (core_in checked.now) (slice_get (found_in found.now) at) result }
+    requires { HaveSmallTypesUntil (core_in checked.now) (found_in found.now) at }
+    ensures { TypesFitUntil (core_in checked.now) (found_in found.now) (at + 1) result }
 {
-    match found.entry(alloc, at)? {
-        Some((fun, types)) => {
-            let nodes = body_nodes(alloc, checked, fun)?;
-            if found.are_small(nodes.as_slice(), types.as_slice()) {
-                Ok(())
-            } else {
-                Err(InstFault::Limit(Limit::Ty))
-            }
-        }
+    match found.function(at) {
+        Some(fun) => match found.earlier(fun, at) {
+            Some(_) => Ok(()),
+            None => check_types_of(alloc, checked, found, fun),
+        },
         None => Ok(()),
     }
+}
+
+// The types of the nodes of all instances of a function: each type is gone through once.
+fn check_types_of(
+    alloc: Global,
+    checked: &Checked,
+    found: &Found,
+    fun: Fun,
+) -> Result<(), InstFault>
+    ensures { TypesFitOf (core_in checked.now) (found_in found.now) fun result }
+{
+    let nodes = body_nodes(alloc, checked, fun)?;
+    let widths = widths_of(alloc, nodes.as_slice())?;
+    for at in 0..found.len() {
+        if !found.fits(alloc, at, fun, widths.as_slice())? {
+            return Err(InstFault::Limit(Limit::Ty));
+        }
+    }
+    Ok(())
 }

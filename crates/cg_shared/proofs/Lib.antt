@@ -7,5 +7,4 @@ mod Listed
 mod NodeEquality
 mod Observed
 mod Searches
-mod Sizes
 mod Sound

@@ -3,7 +3,6 @@
 //! would have 2^i nodes as trees; in a table each step adds a few places.
 #![tactic(auto)]
 
-mod count;
 mod enter;
 mod layers;
 mod lists;

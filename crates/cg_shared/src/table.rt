@@ -83,14 +83,6 @@ impl TypeTable {
         self.layers.nodes(at)
     }
 
-    /// How many nodes `ty` has as a tree with the types at `args` for its type variables, as for [`TypeTable::enter`],
-    /// u32::MAX standing for that many or more. Nothing is entered.
-    pub fn nodes_with(&self, ty: &Ty, args: &[TypeId]) -> u32
-        ensures { result ≡ capped (nodes_of (subst (map (type_at self.now) args.now) (type_of ty.now))) }
-    {
-        self.layers.nodes_with(ty, args)
-    }
-
     /// The type at a place as a tree, or the unit type where there is no such place. The one error is want of memory,
     /// also where the tree would have more than 1,048,576 nodes or be nested more than 4,096 deep: this is known before
     /// anything is built.

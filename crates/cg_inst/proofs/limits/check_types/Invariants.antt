@@ -1,7 +1,7 @@
 use Rattle.cg_inst.specs.Founds.{found_in}
 use Rattle.cg_inst.specs.Judged.{core_in}
-use Rattle.cg_inst.proofs.LimitSteps.{FitsOf, Until}
+use Rattle.cg_inst.specs.Limited.{HaveSmallTypesUntil}
 use Rattle.cg_inst.proofs.limits.check_types.Given as goal
 
 abbrev pub invariant-loop-at : goal.invariant-loop-at
-invariant-loop-at l = Until (FitsOf (core_in l.checked)) (found_in l.found) l.at
+invariant-loop-at l = HaveSmallTypesUntil (core_in l.checked) (found_in l.found) l.at
