@@ -1,8 +1,11 @@
+pub mod Calls
 pub mod Codes
 pub mod FirstOrder
+pub mod ForeignHeaps
 pub mod Frames
 pub mod Left
 pub mod Mapped
+pub mod NoForeignHeap
 pub mod Readings
 pub mod Reps
 pub mod Steps

@@ -3,6 +3,7 @@
 
 mod cell;
 mod contents;
+mod foreign;
 mod held;
 mod layout;
 mod map;
@@ -15,6 +16,7 @@ mod store;
 mod tests;
 
 pub use cell::{Cell, Fresh, Scalar};
+pub use foreign::{Called, ExternHeap, Link};
 pub use layout::{slots, slots_of_parts};
 pub use map::MapStore;
 pub use read::read_out;

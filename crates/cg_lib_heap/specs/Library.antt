@@ -3,26 +3,17 @@ use Rattle.std.specs.Prelude.{◌≡◌, ℕ, ◌+◌, Bool, true, false, ◌&&�
 use Rattle.cg_base.specs.declared.fun.Lib.{Lib}
 use Rattle.cg_base.specs.declared.fun.Lib.TheVariants.{New, Free, Create, FreeArray, Length, Get, Put}
 use Rattle.cg_base.specs.Types.{Tau, fields}
+use Rattle.cg_heap.specs.Calls.{Out}
 use Rattle.cg_heap.specs.declared.cell.Cell.{Cell}
 use Rattle.cg_heap.specs.declared.cell.Cell.TheVariants.{Words}
 use Rattle.cg_heap.specs.declared.cell.Fresh.{Fresh}
 use Rattle.cg_heap.specs.declared.cell.Fresh.TheVariants as fresh
 use Rattle.cg_heap.specs.declared.cell.Scalar.{Scalar}
 use Rattle.cg_heap.specs.declared.cell.Scalar.TheVariants.{Unset, Word, Address}
-use Rattle.cg_heap.specs.Reps.{Heap, address_of, first_address, head, number_of, slots_of_parts, tail}
+use Rattle.cg_heap.specs.Reps.{address_of, first_address, head, number_of, slots_of_parts, tail}
 use Rattle.cg_heap.specs.Stored.{Stored, answer_of, asked_of, cell_at, changed, with_element, with_fresh, without_answer, without_cell}
 use Rattle.cg_lib_value.specs.Library.{first_type}
 use Rattle.cg_value.specs.Fits.{most_elements}
-
--- what a call gives: its result, the store behind it, and the addresses of the cells that it made and freed
-pub record Out : Type 0 where
-  pub result : List Scalar
-  pub store : Stored
-  pub made : List ℕ
-  pub freed : List ℕ
-
-abbrev pub heap_of : Stored → Heap
-heap_of s = λ q. cell_at s q
 
 -- ---- the argument's scalars
 

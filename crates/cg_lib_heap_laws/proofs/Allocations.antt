@@ -6,6 +6,7 @@ use Rattle.std.specs.Ordering.{nat_cmp}
 use Rattle.std.specs.Option.{unwrap_or}
 use Rattle.cg_base.specs.declared.kind.Sigil.TheVariants.{R, W}
 use Rattle.cg_base.specs.Types.{Tau}
+use Rattle.cg_heap.specs.Calls.{Does, heap_of}
 use Rattle.cg_heap.specs.declared.cell.Cell.{Cell}
 use Rattle.cg_heap.specs.declared.cell.Cell.TheVariants.{Answers}
 use Rattle.cg_heap.specs.declared.cell.Fresh.{Fresh}
@@ -15,8 +16,7 @@ use Rattle.cg_heap.specs.Reps.{Heap, HeapWorld, Holds, slots, one_if, foot}
 use Rattle.cg_heap.specs.Steps.{Step}
 use Rattle.cg_heap.specs.Stored.{Stored, answer_of, cell_at, changed, fresh_cell, in_cell, in_place, without_answer}
 use Rattle.cg_heap_laws.proofs.Slots.{holds_slots}
-use Rattle.cg_lib_heap.specs.Library.{heap_of, granted, next_at}
-use Rattle.cg_lib_heap_laws.specs.Laws.{Does}
+use Rattle.cg_lib_heap.specs.Library.{granted, next_at}
 use Rattle.cg_lib_heap_laws.proofs.Changes.{step_write, step_make, make_near}
 use Rattle.cg_lib_heap_laws.proofs.Forms.{is_state, is_some, is_none, some_foot, none_foot}
 use Rattle.cg_lib_heap_laws.proofs.Functions.{Fine, Writes, state_foot, state_slots}

@@ -4,13 +4,14 @@ use Rattle.std.proofs.lemmas.Bool.{and_parts}
 use Rattle.cg_base.specs.declared.fun.Lib.TheVariants.{New, Free, Create, FreeArray, Length, Get, Put}
 use Rattle.cg_base.specs.declared.kind.Word.TheVariants.{U32}
 use Rattle.cg_base.specs.Types.{Tau, word}
+use Rattle.cg_heap.specs.Calls.{heap_of}
 use Rattle.cg_heap.specs.declared.cell.Cell.TheVariants.{Answers}
 use Rattle.cg_heap.specs.declared.cell.Fresh.{Fresh}
 use Rattle.cg_heap.specs.declared.cell.Scalar.{Scalar}
 use Rattle.cg_heap.specs.declared.cell.Scalar.TheVariants.{Word as AWord, Address}
 use Rattle.cg_heap.specs.Reps.{HeapWorld, Holds, one_if, address_of, number_of}
 use Rattle.cg_heap.specs.Stored.{Stored, cell_at}
-use Rattle.cg_lib_heap.specs.Library.{heap_of, granted, library_heap, next_at}
+use Rattle.cg_lib_heap.specs.Library.{granted, library_heap, next_at}
 use Rattle.cg_lib_heap_laws.specs.Laws.{AnswersSuffice, answers_before, answers_after}
 use Rattle.cg_lib_heap_laws.proofs.Allocations.{next_is}
 use Rattle.cg_lib_heap_laws.proofs.Forms.{state_is, word_is}

@@ -8,6 +8,7 @@ use Rattle.cg_base.specs.declared.kind.Sigil.TheVariants.{R, W}
 use Rattle.cg_base.specs.declared.kind.Word.{Word}
 use Rattle.cg_base.specs.Types.{Tau, word}
 use Rattle.cg_base.specs.Words.{bits}
+use Rattle.cg_heap.specs.Calls.{Does, heap_of}
 use Rattle.cg_heap.specs.declared.cell.Cell.{Cell}
 use Rattle.cg_heap.specs.declared.cell.Cell.TheVariants.{Words, Answers}
 use Rattle.cg_heap.specs.declared.cell.Scalar.{Scalar}
@@ -15,8 +16,7 @@ use Rattle.cg_heap.specs.declared.cell.Scalar.TheVariants.{Word as AWord, Addres
 use Rattle.cg_heap.specs.Reps.{Heap, HeapWorld, slots, one_if, foot}
 use Rattle.cg_heap.specs.Steps.{IsFine}
 use Rattle.cg_heap.specs.Stored.{Stored, cell_at, changed, in_cell, in_place, with_element, without_cell}
-use Rattle.cg_lib_heap.specs.Library.{heap_of, kept, freed_at}
-use Rattle.cg_lib_heap_laws.specs.Laws.{Does}
+use Rattle.cg_lib_heap.specs.Library.{kept, freed_at}
 use Rattle.cg_lib_heap_laws.proofs.Arrays.{set_behind, set_is_array}
 use Rattle.cg_lib_heap_laws.proofs.Changes.{step_kept, step_write, step_free, write_near}
 use Rattle.cg_lib_heap_laws.proofs.Forms.{is_state, is_a_word, is_an_array}

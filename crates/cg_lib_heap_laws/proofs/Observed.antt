@@ -8,14 +8,14 @@ use Rattle.cg_base.specs.declared.kind.Word.TheVariants.{U32}
 use Rattle.cg_base.specs.Types.{Tau, word, abs}
 use Rattle.cg_base.specs.Types as types
 use Rattle.cg_base.specs.Words.{bits}
+use Rattle.cg_heap.specs.Calls.{Does, heap_of}
 use Rattle.cg_heap.specs.declared.cell.Cell.TheVariants.{Words}
 use Rattle.cg_heap.specs.declared.cell.Scalar.{Scalar}
 use Rattle.cg_heap.specs.declared.cell.Scalar.TheVariants.{Word as AWord, Address}
 use Rattle.cg_heap.specs.Reps.{Heap, HeapWorld, Holds, slots, head, address_of, number_of, foot}
 use Rattle.cg_heap.specs.Stored.{Stored, cell_at, changed, with_element}
 use Rattle.cg_heap_laws.proofs.Slots.{holds_slots}
-use Rattle.cg_lib_heap.specs.Library.{heap_of, kept, library_heap, words_at, words_in}
-use Rattle.cg_lib_heap_laws.specs.Laws.{Does}
+use Rattle.cg_lib_heap.specs.Library.{kept, library_heap, words_at, words_in}
 use Rattle.cg_lib_heap_laws.proofs.Arrays.{length_is_word, element_is_word}
 use Rattle.cg_lib_heap_laws.proofs.Forms.{array_is, word_is}
 use Rattle.cg_lib_heap_laws.proofs.Functions.{Fine, array_foot, word_foot, gives_word, gives_array}

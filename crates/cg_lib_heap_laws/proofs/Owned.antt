@@ -7,6 +7,7 @@ use Rattle.cg_base.specs.declared.kind.Sigil.TheVariants.{W}
 use Rattle.cg_base.specs.declared.kind.Word.{Word}
 use Rattle.cg_base.specs.declared.kind.Word.TheVariants.{U32}
 use Rattle.cg_base.specs.Types.{Tau, word, fields, Parts, end, part, piece_list}
+use Rattle.cg_heap.specs.Calls.{Does, heap_of}
 use Rattle.cg_heap.specs.declared.cell.Cell.TheVariants.{Slots, Answers}
 use Rattle.cg_heap.specs.declared.cell.Fresh.TheVariants as fresh
 use Rattle.cg_heap.specs.declared.cell.Scalar.{Scalar}
@@ -14,8 +15,7 @@ use Rattle.cg_heap.specs.declared.cell.Scalar.TheVariants.{Unset, Word as AWord,
 use Rattle.cg_heap.specs.Reps.{Heap, HeapWorld, Holds, HoldsAll, slots, slots_of_parts, slots_in, head, address_of, number_of, one_if, foot}
 use Rattle.cg_heap.specs.Stored.{Stored, cell_at, changed, without_answer}
 use Rattle.cg_heap_laws.proofs.Slots.{holds_slots}
-use Rattle.cg_lib_heap.specs.Library.{heap_of, granted, library_heap, next_at}
-use Rattle.cg_lib_heap_laws.specs.Laws.{Does}
+use Rattle.cg_lib_heap.specs.Library.{granted, library_heap, next_at}
 use Rattle.cg_lib_heap_laws.proofs.Allocations.{allocates, next_is}
 use Rattle.cg_lib_heap_laws.proofs.Arrays.{new_is_array}
 use Rattle.cg_lib_heap_laws.proofs.Forms.{state_is, is_an_array, array_is, word_is, record_is, taken_foot}

@@ -4,12 +4,13 @@ use Rattle.cg_base.specs.declared.fun.Lib.{Lib}
 use Rattle.cg_base.specs.declared.fun.Lib.TheVariants.{New, Free, Create, FreeArray, Length, Get, Put}
 use Rattle.cg_base.specs.declared.kind.Sigil.TheVariants.{W}
 use Rattle.cg_base.specs.Types.{Tau, word, fields}
+use Rattle.cg_heap.specs.Calls.{Does, heap_of}
 use Rattle.cg_heap.specs.declared.cell.Scalar.{Scalar}
 use Rattle.cg_heap.specs.Reps.{HeapWorld, Holds}
 use Rattle.cg_heap.specs.Stored.{Stored}
 use Rattle.cg_kinds.specs.Kinds.{bang}
-use Rattle.cg_lib_heap.specs.Library.{heap_of, library_heap}
-use Rattle.cg_lib_heap_laws.specs.Laws.{Does, LibraryDoes, is_argument}
+use Rattle.cg_lib_heap.specs.Library.{library_heap}
+use Rattle.cg_lib_heap_laws.specs.Laws.{LibraryDoes, is_argument}
 use Rattle.cg_lib_heap_laws.proofs.Functions.{Fine}
 use Rattle.cg_lib_heap_laws.proofs.Observed.{length_does, get_does, put_does}
 use Rattle.cg_lib_heap_laws.proofs.Owned.{new_does, free_does, create_does, free_array_does}

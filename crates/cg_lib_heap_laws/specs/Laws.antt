@@ -6,12 +6,13 @@ use Rattle.cg_base.specs.declared.fun.Lib.TheVariants.{New, Free, Create, FreeAr
 use Rattle.cg_base.specs.declared.kind.Sigil.TheVariants.{R, W}
 use Rattle.cg_base.specs.declared.kind.Kinds.{Kinds}
 use Rattle.cg_base.specs.Types.{Tau, fields}
+use Rattle.cg_heap.specs.Calls.{Does, heap_of}
 use Rattle.cg_heap.specs.declared.cell.Scalar.{Scalar}
 use Rattle.cg_heap.specs.Frames.{Frame}
 use Rattle.cg_heap.specs.Reps.{Heap, HeapWorld, Holds, foot}
 use Rattle.cg_heap.specs.Steps.{IsFine, Step}
 use Rattle.cg_heap.specs.Stored.{Stored}
-use Rattle.cg_lib_heap.specs.Library.{Out, heap_of, library_heap}
+use Rattle.cg_lib_heap.specs.Library.{library_heap}
 use Rattle.cg_lib_value.specs.Library.{library_value}
 use Rattle.cg_kinds.specs.Kinds.{is_word}
 use Rattle.cg_core.specs.Kernels.{Function}
@@ -21,12 +22,6 @@ use Rattle.cg_typing.specs.Library.{given, library_type}
 use Rattle.cg_typing.specs.Parts.{taken_by, given_by}
 use Rattle.cg_value.specs.Forms.{answers_in, field}
 use Rattle.cg_value.specs.Values.{Val}
-
--- What comes out of a call with an argument of a type is of another type, represents a value, and is a step.
-pub record Does (world : HeapWorld) (s : Stored) (t : Tau) (us : List Scalar) (o : Out) (t' : Tau) (v : Val) : Type 0 where
-  pub holds : Holds world (heap_of o.store) t' o.result v
-  pub step : Step (heap_of s) s.top (foot (heap_of s) W t us) (foot (heap_of s) R t us) (heap_of o.store) o.store.top o.made o.freed
-      (foot (heap_of o.store) W t' o.result) (foot (heap_of o.store) R t' o.result)
 
 -- a record that can be written
 abbrev pub is_written : Tau → Bool
