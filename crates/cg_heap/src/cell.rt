@@ -1,4 +1,7 @@
 // Cells.
+ghost use Rattle.std.specs.Prelude.{◌≡◌};
+ghost use Rattle.cg_heap.specs.Reps.{address_of, number_of};
+
 use cg_base::Items;
 
 /// One place of a machine value: a number, or an address; `Unset` holds nothing (docs/LANGUAGE.md, "Layout").
@@ -10,6 +13,28 @@ pub enum Scalar {
     Word(u64),
     /// An address, counted from 1; 0 is the null address, at which no heap has a cell.
     Address(u64),
+}
+
+impl Scalar {
+    /// The number that it is; 0 for any other.
+    pub fn number(self) -> u64
+        ensures { result ≡ number_of self }
+    {
+        match self {
+            Scalar::Word(number) => number,
+            _ => 0,
+        }
+    }
+
+    /// The address that it is; 0 for any other.
+    pub fn address(self) -> u64
+        ensures { result ≡ address_of self }
+    {
+        match self {
+            Scalar::Address(address) => address,
+            _ => 0,
+        }
+    }
 }
 
 /// What a heap holds at an address.

@@ -40,23 +40,13 @@ pub(crate) fn answers_in<S: Store>(alloc: Global, store: &S, at: u64) -> Result<
     Ok(answers)
 }
 
-// The number that a scalar is; 0 for any other.
-fn number(scalar: Scalar) -> u64
-    ensures { result ≡ reps.number_of scalar }
-{
-    match scalar {
-        Scalar::Word(number) => number,
-        _ => 0,
-    }
-}
-
 // The numbers that scalars are.
 pub(crate) fn numbers(alloc: Global, scalars: &[Scalar]) -> Result<Items<u64>, Memory>
     ensures { IfOk result (λ numbers. numbers ≡ map reps.number_of scalars.now) }
 {
     let mut numbers = Items::new(alloc);
     for scalar in scalars {
-        numbers.push(number(*scalar))?;
+        numbers.push(scalar.number())?;
     }
     Ok(numbers)
 }
@@ -66,7 +56,7 @@ pub(crate) fn first_number(scalars: &[Scalar]) -> u64
     ensures { result ≡ reps.first_number scalars.now }
 {
     match scalars {
-        [first, ..] => number(*first),
+        [first, ..] => first.number(),
         [] => 0,
     }
 }
@@ -76,8 +66,8 @@ pub(crate) fn first_address(scalars: &[Scalar]) -> u64
     ensures { result ≡ reps.first_address scalars.now }
 {
     match scalars {
-        [Scalar::Address(address), ..] => *address,
-        _ => 0,
+        [first, ..] => first.address(),
+        [] => 0,
     }
 }
 

@@ -5,7 +5,6 @@ ghost use Rattle.std.specs.Prelude.{◌≡◌, ◌<◌, ◌^◌, get_or, length}
 ghost use Rattle.cg_heap.specs.Stored.{changed, with_element};
 ghost use Rattle.cg_lib_heap.specs.Library.{HasWords, words_at};
 
-use crate::scalars::number;
 use cg_heap::{Scalar, Store};
 
 /// How many elements the array at an address has.
@@ -28,7 +27,10 @@ pub(crate) fn element_at<S: Store>(store: &S, at: u64, index: u64) -> u64
     if index >= length_at(store, at) {
         return 0;
     }
-    number(store.get(at, index as u32).unwrap_or(Scalar::Unset))
+    store
+        .get(at, index as u32)
+        .unwrap_or(Scalar::Unset)
+        .number()
 }
 
 /// Writes an element of the array at an address, where there is one.

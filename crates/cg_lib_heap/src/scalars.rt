@@ -22,52 +22,32 @@ fn scalar_at(scalars: &Items<Scalar>, at: usize) -> Scalar
     }
 }
 
-// The address that a scalar is; 0 for any other.
-fn address(scalar: Scalar) -> u64
-    ensures { result ≡ address_of scalar }
-{
-    match scalar {
-        Scalar::Address(at) => at,
-        _ => 0,
-    }
-}
-
-/// The number that a scalar is; 0 for any other.
-pub(crate) fn number(scalar: Scalar) -> u64
-    ensures { result ≡ number_of scalar }
-{
-    match scalar {
-        Scalar::Word(number) => number,
-        _ => 0,
-    }
-}
-
 /// The address that comes first; 0, where there is none.
 pub(crate) fn first_address(scalars: &Items<Scalar>) -> u64
     ensures { result ≡ first_address_of scalars.now }
 {
-    address(scalar_at(scalars, 0))
+    scalar_at(scalars, 0).address()
 }
 
 /// The address that comes second; 0, where there is none.
 pub(crate) fn second_address(scalars: &Items<Scalar>) -> u64
     ensures { result ≡ address_of (second scalars.now) }
 {
-    address(scalar_at(scalars, 1))
+    scalar_at(scalars, 1).address()
 }
 
 /// The number that comes second; 0, where there is none.
 pub(crate) fn second_number(scalars: &Items<Scalar>) -> u64
     ensures { result ≡ number_of (second scalars.now) }
 {
-    number(scalar_at(scalars, 1))
+    scalar_at(scalars, 1).number()
 }
 
 /// The number that comes third; 0, where there is none.
 pub(crate) fn third_number(scalars: &Items<Scalar>) -> u64
     ensures { result ≡ number_of (third scalars.now) }
 {
-    number(scalar_at(scalars, 2))
+    scalar_at(scalars, 2).number()
 }
 
 /// One scalar alone. Want of memory is its one refusal.
