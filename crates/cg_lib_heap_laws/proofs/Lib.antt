@@ -7,6 +7,7 @@ pub mod Functions
 pub mod Observed
 pub mod Owned
 pub mod Parts
+pub mod Present
 pub mod Rising
 pub mod Stores
 pub mod Tuples

@@ -34,7 +34,7 @@ abbrev pub seen_array : Word → Tau
 seen_array w = abs (codes "WordArray") (types.more (word w) types.none) R
 
 -- it has one slot, and writes nothing
-seen_slot : (w : Word) → slots (seen_array w) ≡ 1
+pub seen_slot : (w : Word) → slots (seen_array w) ≡ 1
 unfolding slots
 seen_slot w = refl
 

@@ -12,7 +12,7 @@ use Rattle.cg_heap.specs.Frames.{Frame}
 use Rattle.cg_heap.specs.Reps.{Heap, HeapWorld, Holds, foot}
 use Rattle.cg_heap.specs.Steps.{IsFine, Step}
 use Rattle.cg_heap.specs.Stored.{Stored}
-use Rattle.cg_lib_heap.specs.Library.{library_heap}
+use Rattle.cg_lib_heap.specs.Library.{HasArray, library_heap}
 use Rattle.cg_lib_value.specs.Library.{library_value}
 use Rattle.cg_kinds.specs.Kinds.{is_word}
 use Rattle.cg_core.specs.Kernels.{Function}
@@ -46,6 +46,12 @@ LibraryDoes =
     → Holds world (heap_of s) (taken_by (library_type lib args)) us v
     → IsFine (heap_of s) s.top (foot (heap_of s) W (taken_by (library_type lib args)) us) (foot (heap_of s) R (taken_by (library_type lib args)) us)
     → Does world s (taken_by (library_type lib args)) us (library_heap lib args us s) (given_by (library_type lib args)) (library_value lib args v)
+
+-- the array that a function reads is there, so that who calls lib_heap with what represents a value meets its condition on arrays
+abbrev pub ArraysAreThere : Type 0
+ArraysAreThere =
+    (world : HeapWorld) (s : Stored) (lib : Lib) (args : List Tau) (us : List Scalar) (v : Val) → IsTrue (is_argument lib (given args 0))
+    → Holds world (heap_of s) (taken_by (library_type lib args)) us v → HasArray lib us s
 
 -- the answers that the argument's allocator has, and those that the result's has; none where there is no allocator
 abbrev pub answers_before : Lib → Val → List Bool

@@ -1,9 +1,14 @@
 // The library on heaps, and steps.
-ghost use Rattle.cg_lib_heap_laws.specs.Laws.{LibraryDoes, AnswersSuffice, StepsAreFrames, StepsKeepFine, AddressesRise, GoodArgumentsSuffice};
+ghost use Rattle.cg_lib_heap_laws.specs.Laws.{LibraryDoes, ArraysAreThere, AnswersSuffice, StepsAreFrames, StepsKeepFine, AddressesRise, GoodArgumentsSuffice};
 
 /// What a function of the library gives represents what it gives on values, by a step.
 pub fn library_does()
     ensures { LibraryDoes }
+{}
+
+/// Where an argument is represented, the array that a function of the library reads is there.
+pub fn arrays_are_there()
+    ensures { ArraysAreThere }
 {}
 
 /// Each cell that a function of the library makes takes an answer of the allocator.

@@ -4,6 +4,6 @@
 mod law;
 
 pub use law::{
-    addresses_rise, answers_suffice, good_arguments_suffice, library_does, steps_are_frames,
-    steps_keep_fine,
+    addresses_rise, answers_suffice, arrays_are_there, good_arguments_suffice, library_does,
+    steps_are_frames, steps_keep_fine,
 };
