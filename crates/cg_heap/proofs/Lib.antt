@@ -6,4 +6,5 @@ mod ReadSteps
 mod Readers
 mod Shorter
 mod Sounds
+pub mod TopSteps
 mod Widths

@@ -8,6 +8,8 @@ mod held;
 mod layout;
 mod map;
 mod part;
+#[cfg(test)]
+mod random_tests;
 mod read;
 #[cfg(test)]
 mod read_tests;
