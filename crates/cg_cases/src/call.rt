@@ -4,7 +4,8 @@ use crate::ctext;
 use crate::evaluation::eval_text;
 use crate::instances::{copies_text, count_text};
 use crate::kernel::kernel_text;
-use cg_base::{Limit, Name, Place};
+use crate::limit::limit_name;
+use cg_base::{Name, Place};
 use cg_declared::Declarations;
 use cg_driver::cogent;
 use cg_names::{NamingFault, check_names};
@@ -62,17 +63,6 @@ fn names_text(alloc: Global, source: &[u8]) -> Result<String, AllocError> {
         Err(NamingFault::N2(place)) => at(alloc, "N2", place),
         Err(NamingFault::N4(place)) => at(alloc, "N4", place),
         Err(NamingFault::Memory) => String::from_str(alloc, "no memory\n"),
-    }
-}
-
-// The name of a limit.
-fn limit_name(limit: Limit) -> &'static str {
-    match limit {
-        Limit::Functions => "limit functions\n",
-        Limit::Fields => "limit fields\n",
-        Limit::Ty => "limit type\n",
-        Limit::Depth => "limit depth\n",
-        _ => "another limit\n",
     }
 }
 

@@ -1,22 +1,12 @@
 // Instances: how many a source has, and their copies.
 use crate::accepted::checked;
 use crate::kernel::{push_mentioned, push_term, push_type};
-use cg_base::Limit;
+use crate::limit::limit_name;
 use cg_core::erase;
 use cg_inst::{InstFault, Instances, instances};
 use cg_mono::{Mono, mono};
 use cg_typing::Checked;
 use std::alloc::{AllocError, Global};
-
-// The name of a limit of instances.
-fn limit_name(limit: Limit) -> &'static str {
-    match limit {
-        Limit::Instances => "limit instances\n",
-        Limit::Core => "limit core\n",
-        Limit::Ty => "limit type\n",
-        _ => "another limit\n",
-    }
-}
 
 // Why there is no list of instances.
 fn fault_name(fault: InstFault) -> &'static str {

@@ -10,6 +10,7 @@ mod ctext;
 mod evaluation;
 mod instances;
 mod kernel;
+mod limit;
 mod reader;
 mod text;
 mod value;
