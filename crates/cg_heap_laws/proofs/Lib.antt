@@ -1,3 +1,4 @@
+pub mod Aliased
 pub mod Bang
 pub mod ByKinds
 pub mod Fitting

@@ -1,13 +1,14 @@
 -- Laws of what scalars represent in a heap, of the addresses that they reach, and of what calls change.
-use Rattle.std.specs.Prelude.{◌≡◌, ℕ, ◌+◌, ◌≤◌, true, IsTrue, List, length, Some, ◌⊎◌}
+use Rattle.std.specs.Prelude.{◌≡◌, ℕ, ◌+◌, ◌≤◌, true, false, IsTrue, List, [], ◌∷◌, length, Some, ◌⊎◌}
 use Rattle.std.specs.Option.{IsSome}
 use Rattle.cg_base.specs.declared.kind.Kinds.{Kinds}
 use Rattle.cg_base.specs.declared.kind.Sigil.{Sigil}
-use Rattle.cg_base.specs.declared.kind.Sigil.TheVariants.{R, W}
-use Rattle.cg_base.specs.Types.{Tau, arrow}
+use Rattle.cg_base.specs.declared.kind.Sigil.TheVariants.{R, W, U}
+use Rattle.cg_base.specs.Types.{Tau, arrow, fields, Parts, end, part}
 use Rattle.cg_heap.specs.declared.cell.Scalar.{Scalar}
+use Rattle.cg_heap.specs.declared.cell.Scalar.TheVariants.{Address}
 use Rattle.cg_heap.specs.Frames.{Frame}
-use Rattle.cg_heap.specs.Reps.{Heap, HeapWorld, Holds, slots, foot}
+use Rattle.cg_heap.specs.Reps.{Heap, HeapWorld, Holds, AreApart, is_boxed, slots, foot}
 use Rattle.cg_kinds.specs.Kinds.{kinds, bang}
 use Rattle.cg_lawful.specs.Lawful.{IsLawfulType}
 use Rattle.cg_value.specs.Fits.{World, fits}
@@ -39,6 +40,16 @@ abbrev pub FootprintsAreThere : Type 0
 FootprintsAreThere =
     (world : HeapWorld) (h : Heap) (t : Tau) (us : List Scalar) (v : Val) → Holds world h t us v
     → (m : Sigil) (q : ℕ) → 1 ≤ foot h m t us q → IsSome (h q)
+
+-- a record of two boxed records, of which the first is written
+abbrev pub boxed_pair : List ℕ → Parts → List ℕ → Parts → Sigil → Tau
+boxed_pair x ps y qs s = fields (part x (fields ps W) false (part y (fields qs s) false end)) U
+
+-- where both are at one address, they are not apart, however the second is seen
+abbrev pub AliasedIsNotApart : Type 0
+AliasedIsNotApart =
+    (h : Heap) (x y : List ℕ) (ps qs : Parts) (s : Sigil) (p : ℕ) → IsTrue (is_boxed s)
+    → let t = boxed_pair x ps y qs s in let us = Address p ∷ Address p ∷ [] in ¬ AreApart (foot h W t us) (foot h R t us)
 
 -- two changes of a heap, one behind the other, are one
 abbrev pub FramesCompose : Type 0

@@ -1,5 +1,5 @@
 // What represents a value, which addresses it reaches, and what calls change.
-ghost use Rattle.cg_heap_laws.specs.Laws.{ScalarsFillSlots, ValuesAreOne, FootprintsSuffice, FootprintsAreThere, FramesCompose, FramesStandBeside, ObservedIsRepresented, ObservedIsRead, EscapingReadsNothing, SharedWritesNothing, RepresentedFits};
+ghost use Rattle.cg_heap_laws.specs.Laws.{ScalarsFillSlots, ValuesAreOne, FootprintsSuffice, FootprintsAreThere, AliasedIsNotApart, FramesCompose, FramesStandBeside, ObservedIsRepresented, ObservedIsRead, EscapingReadsNothing, SharedWritesNothing, RepresentedFits};
 
 /// What represents a value of a type has as many scalars as the type has slots.
 pub fn scalars_fill_slots()
@@ -19,6 +19,11 @@ pub fn footprints_suffice()
 /// Each address that a value reaches has a cell.
 pub fn footprints_are_there()
     ensures { FootprintsAreThere }
+{}
+
+/// Two boxed records at one address, of which one is written, are not apart.
+pub fn aliased_is_not_apart()
+    ensures { AliasedIsNotApart }
 {}
 
 /// Two changes of a heap, one behind the other, are one.

@@ -4,7 +4,7 @@
 mod law;
 
 pub use law::{
-    escaping_reads_nothing, footprints_are_there, footprints_suffice, frames_compose,
-    frames_stand_beside, observed_is_read, observed_is_represented, represented_fits,
-    scalars_fill_slots, shared_writes_nothing, values_are_one,
+    aliased_is_not_apart, escaping_reads_nothing, footprints_are_there, footprints_suffice,
+    frames_compose, frames_stand_beside, observed_is_read, observed_is_represented,
+    represented_fits, scalars_fill_slots, shared_writes_nothing, values_are_one,
 };

@@ -9,14 +9,8 @@ use Rattle.std.specs.declared.option.Option.TheVariants.{None, Some}
 use Rattle.cg_heap.specs.declared.cell.Cell.{Cell}
 use Rattle.cg_heap.specs.declared.cell.Fresh.{Fresh}
 use Rattle.cg_heap.specs.declared.cell.Fresh.TheVariants as fresh
+use Rattle.cg_heap.proofs.TopSteps.{top_stays}
 use Rattle.cg_heap.specs.Stored.{Stored, IsSound, asked_of, cell_at, changed, fresh_cell, in_cell, in_place, with_fresh, without_answer}
-
-same_top : (p : ℕ) (o : Option Cell) (s : Stored) → (in_place p o s).top ≡ s.top
-same_top p None s = refl
-same_top p (Some c) s = refl
-
-pub top_stays : (f : Cell → Option Cell) (p : ℕ) (s : Stored) → (changed f p s).top ≡ s.top
-top_stays f p s = same_top p (asked_of f p s) s
 
 pub found : (m : FinMap nat_cmp Cell) (p q : ℕ) (c : Cell) → map.get (map.insert m p c) q ≡ cond (nat_eq q p) (Some c) (map.get m q)
 found m p q c = get-insert nat_cmp_total m p c q ∙ ap (λ b. cond b (Some c) (map.get m q)) (unsigned_tied q p)

@@ -12,12 +12,13 @@ use Rattle.cg_base.specs.declared.ty.Ty.TheVariants as ty
 use Rattle.cg_base.specs.Types.{bool, fields, part_of, to_parts, type_of}
 use Rattle.cg_typing.specs.Parts.{nodes, nodes_parts}
 use Rattle.std.specs.declared.option.Option.TheVariants.{None, Some}
+use Rattle.cg_heap.proofs.TopSteps.{top_stays}
 use Rattle.cg_heap.specs.declared.cell.Cell.{Cell}
 use Rattle.cg_heap.specs.declared.cell.Cell.TheVariants.{Words}
 use Rattle.cg_heap.specs.declared.cell.Fresh.{Fresh}
 use Rattle.cg_heap.specs.Stored.{Stored, cell_at, changed, in_cell, in_place, with_cell, with_element, without_answer}
 use Rattle.cg_lib_heap.specs.Library.{HasWords, granted, words_at, words_in}
-use Rattle.cg_lib_heap.proofs.AllocateSteps.{found, top_stays}
+use Rattle.cg_lib_heap.proofs.AllocateSteps.{found}
 
 pub one_higher : (p : ℕ) (b : Bool) (f : Fresh) (s : Stored) → (granted p b f (changed without_answer p s)).store.top ≤ s.top + 1
 one_higher p true f s = let same = top_stays without_answer p s in omega arith

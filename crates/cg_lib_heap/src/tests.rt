@@ -46,14 +46,16 @@ fn record_type(alloc: Global) -> Result<Items<Ty>, Memory>
     Ok(args)
 }
 
-/// A store with an allocator at 9, which says yes once.
-fn allocator(alloc: Global) -> Result<MapStore, Memory>
+/// A store with an allocator at an address, which says yes once.
+fn allocator(alloc: Global, by: u64) -> Result<MapStore, Memory>
+    requires least { 1 ≤ by }
+    requires most { by ≤ 9 }
     ensures { IfOk result (λ store. store.top ≤ 9) }
 {
     let mut answers = Items::new(alloc);
     answers.push(true)?;
     let mut store = MapStore::new(alloc);
-    store.place(9, Cell::Answers(answers))?;
+    store.place(by, Cell::Answers(answers))?;
     Ok(store)
 }
 
@@ -75,28 +77,29 @@ fn call(
     lib_heap(alloc, lib, &args, &arg, store)
 }
 
-/// Whether the allocator at 9 granted the cell at 10, or refused it; None where neither was answered.
-fn answer(given: &Items<Scalar>) -> Option<bool> {
+/// Whether the allocator at an address granted the cell at 10, or refused it; None where neither was answered.
+fn answer(by: u64, given: &Items<Scalar>) -> Option<bool> {
     match given.as_slice() {
         [
-            Scalar::Address(9),
+            Scalar::Address(at),
             Scalar::Word(1),
             Scalar::Unset,
             Scalar::Address(10),
-        ] => Some(true),
+        ] if *at == by => Some(true),
         [
-            Scalar::Address(9),
+            Scalar::Address(at),
             Scalar::Word(0),
             Scalar::Word(0),
             Scalar::Unset,
-        ] => Some(false),
+        ] if *at == by => Some(false),
         _ => None,
     }
 }
 
-/// Calls New by the allocator at 9.
+/// Calls New by the allocator at an address.
 fn new_of_type(
     alloc: Global,
+    by: u64,
     args: &Items<Ty>,
     store: &mut MapStore,
 ) -> Result<Items<Scalar>, Memory>
@@ -104,18 +107,18 @@ fn new_of_type(
     requires types { All (λ ty. nodes ty ≤ 1024) (map type_of args.now) }
     ensures { OnOk result (store.new.top ≤ store.old.top + 1) }
 {
-    let arg = three(alloc, Scalar::Address(9), Scalar::Unset, Scalar::Unset)?;
+    let arg = three(alloc, Scalar::Address(by), Scalar::Unset, Scalar::Unset)?;
     lib_heap(alloc, Lib::New, args, &arg, store)
 }
 
-/// What the allocator at 9 answers, asked for a record.
-fn new_record(alloc: Global, store: &mut MapStore) -> Result<Option<bool>, Memory>
+/// What the allocator at an address answers, asked for a record.
+fn new_record(alloc: Global, by: u64, store: &mut MapStore) -> Result<Option<bool>, Memory>
     requires { store.old.top ≤ 9 }
     ensures { OnOk result (store.new.top ≤ store.old.top + 1) }
 {
     let args = record_type(alloc)?;
-    let given = new_of_type(alloc, &args, store)?;
-    Ok(answer(&given))
+    let given = new_of_type(alloc, by, &args, store)?;
+    Ok(answer(by, &given))
 }
 
 /// What the allocator at 9 answers, asked for an array.
@@ -131,29 +134,29 @@ fn new_array(alloc: Global, count: u64, store: &mut MapStore) -> Result<Option<b
         Scalar::Unset,
         store,
     )?;
-    Ok(answer(&given))
+    Ok(answer(9, &given))
 }
 
-/// Frees the cell at 10, and says whether the allocator at 9 is given back.
-fn free(alloc: Global, store: &mut MapStore) -> Result<bool, Memory>
+/// Frees the cell at 10 by the allocator at an address, and says whether that is given back.
+fn free(alloc: Global, by: u64, store: &mut MapStore) -> Result<bool, Memory>
     requires { store.old.top ≤ 99 }
 {
     let given = call(
         alloc,
         Lib::Free,
-        Scalar::Address(9),
+        Scalar::Address(by),
         Scalar::Address(10),
         Scalar::Unset,
         store,
     )?;
-    Ok(matches!(given.as_slice(), [Scalar::Address(9)]))
+    Ok(matches!(given.as_slice(), [Scalar::Address(at)] if *at == by))
 }
 
 #[test]
 fn records_are_made(rt: HostRuntime) -> Result<(), Fail> {
     let alloc = rt.alloc();
-    let mut store = allocator(alloc)?;
-    let made = new_record(alloc, &mut store)?;
+    let mut store = allocator(alloc, 9)?;
+    let made = new_record(alloc, 9, &mut store)?;
     let cells = (store.len(9), store.len(10));
     assert!(rt; made == Some(true) && cells == (Some(0), Some(1)));
     Ok(())
@@ -162,17 +165,58 @@ fn records_are_made(rt: HostRuntime) -> Result<(), Fail> {
 #[test]
 fn cells_are_freed(rt: HostRuntime) -> Result<(), Fail> {
     let alloc = rt.alloc();
-    let mut store = allocator(alloc)?;
-    let _made = new_record(alloc, &mut store)?;
-    let freed = free(alloc, &mut store)?;
+    let mut store = allocator(alloc, 9)?;
+    let _made = new_record(alloc, 9, &mut store)?;
+    let freed = free(alloc, 9, &mut store)?;
     assert!(rt; freed && store.len(10).is_none());
+    Ok(())
+}
+
+/// Puts a cell at 9 whose one slot holds 3, if none stands there.
+fn put_foreign(alloc: Global, store: &mut MapStore) -> Result<bool, Memory>
+    requires { store.old.top ≤ 9 }
+    ensures { OnOk result (store.new.top ≤ 9) }
+{
+    if store.len(9).is_some() {
+        return Ok(false);
+    }
+    let mut slots = Items::new(alloc);
+    slots.push(Scalar::Word(3))?;
+    store.place(9, Cell::Slots(slots))?;
+    Ok(true)
+}
+
+/// Whether that cell stands there, and one at 10 as this says.
+fn is_beside(store: &MapStore, len: Option<u32>) -> bool {
+    store.len(9) == Some(1)
+        && matches!(store.get(9, 0), Some(Scalar::Word(3)))
+        && store.len(10) == len
+}
+
+/// Makes the record at 10 by an allocator at 1 and frees it, and says whether the cell at 9 stands beside it and stays.
+fn makes_beside(alloc: Global, store: &mut MapStore) -> Result<bool, Memory>
+    requires { store.old.top ≤ 9 }
+{
+    let made = new_record(alloc, 1, store)?;
+    let beside = is_beside(store, Some(1));
+    let freed = free(alloc, 1, store)?;
+    Ok(made == Some(true) && beside && freed && is_beside(store, None))
+}
+
+#[test]
+fn foreign_cells_are_kept(rt: HostRuntime) -> Result<(), Fail> {
+    let alloc = rt.alloc();
+    let mut store = allocator(alloc, 1)?;
+    let placed = put_foreign(alloc, &mut store)?;
+    let kept = makes_beside(alloc, &mut store)?;
+    assert!(rt; placed && kept);
     Ok(())
 }
 
 #[test]
 fn arrays_are_made_and_refused(rt: HostRuntime) -> Result<(), Fail> {
     let alloc = rt.alloc();
-    let mut store = allocator(alloc)?;
+    let mut store = allocator(alloc, 9)?;
     let made = new_array(alloc, 3, &mut store)?;
     let refused = new_array(alloc, 3, &mut store)?;
     assert!(rt; made == Some(true) && refused == Some(false) && store.len(10) == Some(3));
@@ -187,7 +231,7 @@ fn has_taken_answer(store: &MapStore) -> bool {
 #[test]
 fn long_arrays_are_refused(rt: HostRuntime) -> Result<(), Fail> {
     let alloc = rt.alloc();
-    let mut store = allocator(alloc)?;
+    let mut store = allocator(alloc, 9)?;
     let made = new_array(alloc, 1_048_577, &mut store)?;
     assert!(rt; made == Some(false) && has_taken_answer(&store));
     Ok(())
