@@ -12,6 +12,7 @@ mod instances;
 mod kernel;
 mod limit;
 mod reader;
+mod store;
 mod text;
 mod value;
 
