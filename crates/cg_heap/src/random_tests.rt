@@ -62,9 +62,10 @@ fn answer_code(answer: Option<bool>) -> u64 {
 
 /// The entry at an index; 0 for none.
 fn entry(row: &Row, index: u32) -> u64 {
-    match row.len {
-        Some(len) if index < len && index < 4 => row.entries[index as usize],
-        _ => 0,
+    if index < 4 && index < row.len.unwrap_or(0) {
+        row.entries[index as usize]
+    } else {
+        0
     }
 }
 
@@ -80,15 +81,6 @@ fn same_reads(store: &MapStore, row: &Row, call: Call) -> bool {
         && answer_code(store.answer(call.at, call.index)) == answer
 }
 
-/// Writes an entry, if there is one and this is its kind.
-fn write(row: &mut Row, index: u32, is_kind: bool, value: Scalar) -> bool {
-    let is_there = is_kind && index < 4 && entry(row, index) > 0;
-    if is_there {
-        row.entries[index as usize] = code(Some(value));
-    }
-    is_there
-}
-
 /// A scalar.
 fn scalar(number: u64) -> Scalar {
     match number % 3 {
@@ -98,37 +90,32 @@ fn scalar(number: u64) -> Scalar {
     }
 }
 
-/// Whether `set_field` answers the same.
-#[tactic(auto, using(crate::proofs::TopSteps::top_steps))]
-fn same_set_field(store: &mut MapStore, row: &mut Row, call: Call) -> bool
-    ensures { store.new.top ≡ store.old.top }
-{
-    let is_slots = matches!(row.kind, Kind::Slots);
-    let value = scalar(call.number);
-    store.set_field(call.at, call.index, value) == write(row, call.index, is_slots, value)
-}
-
-/// Whether `set_element` answers the same.
-#[tactic(auto, using(crate::proofs::TopSteps::top_steps))]
-fn same_set_element(store: &mut MapStore, row: &mut Row, call: Call) -> bool
-    ensures { store.new.top ≡ store.old.top }
-{
-    let is_words = matches!(row.kind, Kind::Words);
-    let value = Scalar::Word(call.number);
-    store.set_element(call.at, call.index, call.number) == write(row, call.index, is_words, value)
-}
-
-/// Takes the first entry off, if it is an answer; 0 for none.
-fn take(row: &mut Row) -> u64 {
-    match (row.kind, row.len) {
-        (Kind::Answers, Some(len)) if len > 0 => {
-            let [first, second, third, fourth] = row.entries;
-            row.entries = [second, third, fourth, 0];
-            row.len = Some(len - 1);
-            first
-        }
-        _ => 0,
+/// Writes an entry, if there is one and this is its kind.
+fn write(row: &mut Row, index: u32, is_kind: bool, entry: u64) -> bool {
+    let is_there = is_kind && index < 4 && index < row.len.unwrap_or(0);
+    if is_there {
+        row.entries[index as usize] = entry;
     }
+    is_there
+}
+
+/// Whether `set_field` and `set_element` answer the same.
+#[tactic(auto, using(crate::proofs::TopSteps::top_steps))]
+fn same_sets(store: &mut MapStore, row: &mut Row, call: Call) -> bool
+    ensures { store.new.top ≡ store.old.top }
+{
+    let value = scalar(call.number);
+    let is_slot = matches!(row.kind, Kind::Slots);
+    let is_slot = write(row, call.index, is_slot, code(Some(value)));
+    let is_word = matches!(row.kind, Kind::Words);
+    let is_word = write(
+        row,
+        call.index,
+        is_word,
+        code(Some(Scalar::Word(call.number))),
+    );
+    store.set_field(call.at, call.index, value) == is_slot
+        && store.set_element(call.at, call.index, call.number) == is_word
 }
 
 /// Whether `pop` answers the same.
@@ -136,7 +123,16 @@ fn take(row: &mut Row) -> u64 {
 fn same_pop(store: &mut MapStore, row: &mut Row, call: Call) -> bool
     ensures { store.new.top ≡ store.old.top }
 {
-    answer_code(store.pop(call.at)) == take(row)
+    let answer = answer_code(store.pop(call.at));
+    match (row.kind, row.len) {
+        (Kind::Answers, Some(len)) if len > 0 => {
+            let [first, second, third, fourth] = row.entries;
+            row.entries = [second, third, fourth, 0];
+            row.len = Some(len - 1);
+            answer == first
+        }
+        _ => answer == 0,
+    }
 }
 
 /// Whether `remove` answers the same.
@@ -167,11 +163,13 @@ fn same_add(store: &mut MapStore, row: &mut Row, top: &mut u64, number: u64) -> 
     if *top >= ROWS {
         return false;
     }
-    let Ok(at) = store.add(fresh) else {
-        return false;
-    };
-    *top += 1;
-    at == *top
+    match store.add(fresh) {
+        Ok(at) => {
+            *top += 1;
+            at == *top
+        }
+        Err(_) => false,
+    }
 }
 
 /// So many answers, by the bits of a number.
@@ -208,11 +206,13 @@ fn place(alloc: Global, store: &mut MapStore, row: &mut Row, top: &mut u64, call
     let Ok(answers) = answers(alloc, bits, len) else {
         return false;
     };
-    if store.place(call.at, Cell::Answers(answers)).is_err() {
-        return false;
+    match store.place(call.at, Cell::Answers(answers)) {
+        Ok(()) => {
+            *top = (*top).max(call.at);
+            true
+        }
+        Err(_) => false,
     }
-    *top = (*top).max(call.at);
-    true
 }
 
 /// Whether there is a cell exactly where there is one in the list; where there is none, and may be one, one is placed.
@@ -235,8 +235,7 @@ fn same_write(alloc: Global, store: &mut MapStore, row: &mut Row, top: &mut u64,
     ensures { store.new.top ≡ top.new }
 {
     match call.which {
-        0 => same_set_field(store, row, call),
-        1 => same_set_element(store, row, call),
+        0 | 1 => same_sets(store, row, call),
         2 => same_pop(store, row, call),
         3 => same_remove(store, row, call),
         4 => same_place(alloc, store, row, top, call),
@@ -279,10 +278,13 @@ fn agree(alloc: Global, store: &mut MapStore, rows: &mut [Row]) -> bool
     for _ in 0..100_000 {
         state = next(state);
         let call = random_call(state, top);
-        let Some(row) = rows.get_mut(call.at as usize) else {
-            return false;
+        let is_same = match rows.get_mut(call.at as usize) {
+            Some(row) => {
+                same_write(alloc, store, row, &mut top, call) && same_reads(store, row, call)
+            }
+            None => false,
         };
-        if !same_write(alloc, store, row, &mut top, call) || !same_reads(store, row, call) {
+        if !is_same {
             return false;
         }
     }
