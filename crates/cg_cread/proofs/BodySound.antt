@@ -1,204 +1,150 @@
 -- What has been read of a function is what its state spells.
-use Rattle.std.proofs.Common.{◌≡◌, ℕ, List, [], ◌∷◌, refl, sym, subst, Option, Some, None}
-use Rattle.std.specs.Prelude.{codes, ⊤}
-use Rattle.cg_base.specs.declared.kind.Word.{Word}
+use Rattle.std.proofs.Common.{◌≡◌, ℕ, zero, suc, List, [], ◌∷◌, refl, subst, true, false, Bool, Option, Some, None, arith}
+use Rattle.std.specs.Prelude.{codes, ⊤, ◌&&◌, ◌==◌, ◌-◌, not}
+use Rattle.cg_base.proofs.Spans.{either_way}
+use Rattle.cg_ctree.specs.declared.tree.CDecl.{CDecl}
 use Rattle.cg_ctree.specs.declared.tree.COpnd.{COpnd}
-use Rattle.cg_ctree.specs.declared.tree.CRhs.{CRhs}
-use Rattle.cg_ctree.specs.Spells.{Reading, ◌then◌, token, mark, spelled, ReadsOpnd, ReadsDecl, ReadsSome, ReadsStmt, ReadsBlock, ReadsLocals, ReadsFunction}
-use Rattle.cg_ctree.specs.Tokens.{name, word, sign, Lexeme}
-use Rattle.cg_ctree.specs.Trees.{Stmt, to_block, Function}
-use Rattle.cg_cread.specs.Bodies.{Draft, Body, Locals, LocalTyped, LocalNamed, Statements, InStatement, Stuck, on_statement, on_local, on_typed, on_named, ended, inside, body_step, body_end, function_at}
-use Rattle.cg_cread.specs.Heads as heads
-use Rattle.cg_cread.specs.Heads.{decl_of, head_step, head_end}
-use Rattle.cg_cread.specs.Rights.{opnd_at, right_end}
-use Rattle.cg_cread.specs.Statements.{on_target, returned, statement_step, assignment, statement_end}
-use Rattle.cg_cread.specs.Symbols.{Symbol, named, typed, returning, opening, closing, comma, semicolon, equals}
-use Rattle.cg_cread.specs.declared.head.Signature.{Signature}
-use Rattle.cg_cread.specs.declared.head.Head.{Head}
-use Rattle.cg_cread.specs.declared.head.Head.TheVariants as head
-use Rattle.cg_cread.specs.declared.statement.Statement.{Statement}
-use Rattle.cg_cread.specs.declared.statement.Statement.TheVariants as statement
-use Rattle.cg_cread.proofs.Known.{Means, seen}
-use Rattle.cg_cread.proofs.Lists.{Trailing, some_behind, trailing_behind, local_behind, statement_behind, no_statement}
-use Rattle.cg_cread.proofs.RightSound.{RightRead, RightIs, OpndRead, opnd_seen, right_holds, right_is}
+use Rattle.cg_ctree.specs.Spells.{Reading, ◌then◌, mark, most_open, ReadsStmt, ReadsBlock, ReadsLocals, ReadsFunction}
+use Rattle.cg_ctree.specs.Tokens.{Lexeme}
+use Rattle.cg_ctree.specs.Trees.{Stmt, branch, while, to_block}
+use Rattle.cg_cpieces.specs.Declarations.{row_step, row_is_whole, is_whole}
+use Rattle.cg_cpieces.specs.Lines.{line_begin, line_end, line_test}
+use Rattle.cg_cpieces.specs.Symbols.{Symbol, begin, end, semicolon, is_type}
+use Rattle.cg_cpieces.specs.declared.declaration.Declaration.{Declaration}
+use Rattle.cg_cpieces.specs.declared.declaration.Declaration.TheVariants.{Wanted}
+use Rattle.cg_cpieces.specs.declared.declaration.Row.{Row}
+use Rattle.cg_cpieces.specs.declared.head.Signature.{Signature}
+use Rattle.cg_cpieces.specs.declared.line.Test.{Test}
+use Rattle.cg_cpieces.specs.declared.line.Test.TheVariants as test
+use Rattle.cg_cpieces.specs.declared.line.Line.{Line}
+use Rattle.cg_cpieces.proofs.DeclarationSound.{DeclarationRead, RowRead, SignatureRead, row_holds}
+use Rattle.cg_cpieces.proofs.Known.{Means, seen}
+use Rattle.cg_cpieces.proofs.LineSound.{LineRead, LineIs, TestIs, begin_holds, line_holds, test_is, line_is}
+use Rattle.cg_cread.specs.Blocks.{Level, Opened, Yes, No, Loop, InCase, Frame, frame, Gap, gap_opens, gap_end}
+use Rattle.cg_cread.specs.Bodies.{Nest, Body, Locals, Statements, InLine, InGap, Closed, Stuck, nest, function_at, with_statement, opening, ended, opened, on_test, tested, on_line, on_gap, closes, on_end, on_statement, on_statements, on_locals, body_step}
+use Rattle.cg_cread.proofs.BlockSound.{GapRead, OpenedRead, StackRead, OpensIs, no_statement, no_case_read, stack_more, gap_holds, opens_is, gap_is}
 
--- ---- statements
+-- what is read of a function up to its statements, and with them
+abbrev pub DraftRead : Signature → List CDecl → Reading
+DraftRead s ds = SignatureRead s then mark (codes "{") then ReadsLocals ds
 
--- what is read of a statement
-abbrev pub StatementRead : Statement → Reading
-StatementRead (statement.Target x) all rest = token (name x) all rest
-StatementRead (statement.Assigned x m) all rest = (token (name x) then mark (codes "=") then RightRead m) all rest
-StatementRead statement.Returning all rest = token (word (codes "return")) all rest
-StatementRead (statement.Returned o) all rest = (token (word (codes "return")) then ReadsOpnd o) all rest
-StatementRead statement.Stuck all rest = ⊤
-
--- what is read where a statement ends
-abbrev pub StatementIs : Option Stmt → Reading
-StatementIs None all rest = ⊤
-StatementIs (Some s) all rest = ReadsStmt s all rest
-
-module _ (t : Lexeme) (rest all : List Lexeme) where
-  target_holds : (x : List ℕ) (y : Symbol) → Means t.token y → token (name x) all (t ∷ rest) → StatementRead (on_target x y) all rest
-  target_holds x equals h r = (_, r, (rest, seen _ t rest h, refl))
-  target_holds x _ h r = tt
-
-  returned_holds : (o : Option COpnd) → OpndRead o (t ∷ rest) rest → StatementRead statement.Returning all (t ∷ rest) → StatementRead (returned o) all rest
-  returned_holds None h r = tt
-  returned_holds (Some o) h r = (_, r, h)
-
-  statement_holds : (m : Statement) (y : Symbol) → Means t.token y → StatementRead m all (t ∷ rest) → StatementRead (statement_step m y) all rest
-  statement_holds (statement.Target x) y h r = target_holds x y h r
-  statement_holds (statement.Assigned x m) y h r = (r.0, r.1, (r.2.0, r.2.1, right_holds t rest r.2.0 m y h r.2.2))
-  statement_holds statement.Returning y h r = returned_holds (opnd_at y) (opnd_seen t rest y h) r
-  statement_holds (statement.Returned o) y h r = tt
-  statement_holds statement.Stuck y h r = tt
-
-  -- at the `;` of a statement
-  module _ (h : t.token ≡ sign (codes ";")) where
-    assigned_is : (x : List ℕ) (o : Option CRhs) → (token (name x) then mark (codes "=") then RightIs o) all (t ∷ rest) → StatementIs (assignment x o) all rest
-    assigned_is x None r = tt
-    assigned_is x (Some q) r = (r.0, (r.0, r.1, refl), (r.2.0, r.2.1, (_, r.2.2, seen _ t rest h)))
-
-    statement_is : (m : Statement) → StatementRead m all (t ∷ rest) → StatementIs (statement_end m) all rest
-    statement_is (statement.Assigned x m) r = assigned_is x (right_end m) (r.0, r.1, (r.2.0, r.2.1, right_is m r.2.0 (t ∷ rest) r.2.2))
-    statement_is (statement.Returned o) r = (r.0, r.1, (_, r.2, seen _ t rest h))
-    statement_is _ r = tt
-
--- ---- heads
-
--- what is read of a function's head
-abbrev pub HeadRead : Head → Reading
-HeadRead (head.Typed w) all rest = token (word (spelled w)) all rest
-HeadRead (head.Named w x) all rest = (token (word (spelled w)) then token (name x)) all rest
-HeadRead (head.ParamWanted s) all rest = (token (word (spelled s.word)) then token (name s.name) then mark (codes "(") then Trailing ReadsDecl s.params) all rest
-HeadRead (head.ParamTyped s w) all rest = (token (word (spelled s.word)) then token (name s.name) then mark (codes "(") then Trailing ReadsDecl s.params then token (word (spelled w))) all rest
-HeadRead (head.BehindParam s) all rest = (token (word (spelled s.word)) then token (name s.name) then mark (codes "(") then ReadsSome ReadsDecl s.params) all rest
-HeadRead (head.Closed s) all rest = (token (word (spelled s.word)) then token (name s.name) then mark (codes "(") then ReadsSome ReadsDecl s.params then mark (codes ")")) all rest
-HeadRead head.Stuck all rest = ⊤
-
--- what is read where a head ends
-abbrev pub HeadIs : Option Signature → Reading
-HeadIs None all rest = ⊤
-HeadIs (Some s) all rest = HeadRead (head.Closed s) all rest
-
-module _ (t : Lexeme) (rest all : List Lexeme) where
-  head_typed_holds : (w : Word) (y : Symbol) → Means t.token y → HeadRead (head.Typed w) all (t ∷ rest) → HeadRead (heads.on_typed w y) all rest
-  head_typed_holds w (named x) h r = (_, r, seen _ t rest h)
-  head_typed_holds w _ h r = tt
-
-  head_named_holds : (w : Word) (x : List ℕ) (y : Symbol) → Means t.token y → HeadRead (head.Named w x) all (t ∷ rest) → HeadRead (heads.on_named w x y) all rest
-  head_named_holds w x opening h r = (r.0, r.1, (_, r.2, (rest, seen _ t rest h, refl)))
-  head_named_holds w x _ h r = tt
-
-  param_wanted_holds : (s : Signature) (y : Symbol) → Means t.token y → HeadRead (head.ParamWanted s) all (t ∷ rest) → HeadRead (heads.on_wanted s y) all rest
-  param_wanted_holds s (typed w) h r = (r.0, r.1, (r.2.0, r.2.1, (r.2.2.0, r.2.2.1, (_, r.2.2.2, seen _ t rest h))))
-  param_wanted_holds s _ h r = tt
-
-  param_holds : (s : Signature) (w : Word) (y : Symbol) → Means t.token y → HeadRead (head.ParamTyped s w) all (t ∷ rest) → HeadRead (heads.on_param s w y) all rest
-  param_holds s w (named x) h r =
-      let q = r.2.2.2 in
-      (r.0, r.1, (r.2.0, r.2.1, (r.2.2.0, r.2.2.1, some_behind ReadsDecl s.params (decl_of w x) r.2.2.0 q.0 rest q.1 (_, q.2, seen _ t rest h))))
-  param_holds s w _ h r = tt
-
-  behind_param_holds : (s : Signature) (y : Symbol) → Means t.token y → HeadRead (head.BehindParam s) all (t ∷ rest) → HeadRead (heads.on_behind s y) all rest
-  behind_param_holds s comma h r = (r.0, r.1, (r.2.0, r.2.1, (r.2.2.0, r.2.2.1, trailing_behind ReadsDecl s.params r.2.2.0 (t ∷ rest) rest r.2.2.2 (seen _ t rest h))))
-  behind_param_holds s closing h r = (r.0, r.1, (r.2.0, r.2.1, (r.2.2.0, r.2.2.1, (_, r.2.2.2, seen _ t rest h))))
-  behind_param_holds s _ h r = tt
-
-  -- one token more of a head
-  pub head_holds : (m : Head) (y : Symbol) → Means t.token y → HeadRead m all (t ∷ rest) → HeadRead (head_step m y) all rest
-  head_holds (head.Typed w) y h r = head_typed_holds w y h r
-  head_holds (head.Named w x) y h r = head_named_holds w x y h r
-  head_holds (head.ParamWanted s) y h r = param_wanted_holds s y h r
-  head_holds (head.ParamTyped s w) y h r = param_holds s w y h r
-  head_holds (head.BehindParam s) y h r = behind_param_holds s y h r
-  head_holds (head.Closed s) y h r = tt
-  head_holds head.Stuck y h r = tt
-
-pub head_is : (m : Head) (all rest : List Lexeme) → HeadRead m all rest → HeadIs (head_end m) all rest
-head_is (head.Closed s) all rest r = r
-head_is _ all rest r = tt
-
--- ---- bodies
-
--- a function's head, its `{` and its locals, and these with the statements
-abbrev pub LocalsRead : Draft → Reading
-LocalsRead d = HeadRead (head.Closed d.head) then mark (codes "{") then ReadsLocals d.locals
-
-abbrev pub DraftRead : Draft → Reading
-DraftRead d = HeadRead (head.Closed d.head) then mark (codes "{") then ReadsLocals d.locals then ReadsBlock (to_block d.stmts)
+abbrev pub NestRead : Nest → Reading
+NestRead n = DraftRead n.head n.locals then StackRead n.frames n.level
 
 -- what is read of a function, from its head on
 abbrev pub BodyRead : Body → Reading
-BodyRead (Locals d) all rest = (d.stmts ≡ []) × LocalsRead d all rest
-BodyRead (LocalTyped d w) all rest = (d.stmts ≡ []) × (HeadRead (head.Closed d.head) then mark (codes "{") then ReadsLocals d.locals then token (word (spelled w))) all rest
-BodyRead (LocalNamed d w x) all rest = (d.stmts ≡ []) × (HeadRead (head.Closed d.head) then mark (codes "{") then ReadsLocals d.locals then token (word (spelled w)) then token (name x)) all rest
-BodyRead (Statements d) all rest = DraftRead d all rest
-BodyRead (InStatement d m) all rest = (HeadRead (head.Closed d.head) then mark (codes "{") then ReadsLocals d.locals then ReadsBlock (to_block d.stmts) then StatementRead m) all rest
+BodyRead (Locals s r) all rest = (SignatureRead s then mark (codes "{") then RowRead r) all rest
+BodyRead (Statements n) all rest = NestRead n all rest
+BodyRead (InLine r n m) all rest = (n.level.room ≡ suc r) × (NestRead n then LineRead m) all rest
+BodyRead (InGap r n g) all rest = (n.level.room ≡ suc r) × (NestRead n then GapRead r g) all rest
+BodyRead (Closed f) all rest = ReadsFunction f all rest
 BodyRead Stuck all rest = ⊤
 
--- what is read where a function ends
-abbrev pub FunctionIs : Option Function → Reading
-FunctionIs None all rest = ⊤
-FunctionIs (Some f) all rest = ReadsFunction f all rest
+room_left : (k : ℕ) → (k == 0) ≡ false → k ≡ suc (k - 1)
+room_left zero e = cc
+room_left (suc k) e = omega arith
 
-draft_read : (d : Draft) (all rest : List Lexeme) → BodyRead (Locals d) all rest → DraftRead d all rest
-draft_read d all rest r =
-    let q = r.1 in
-    let b : ReadsBlock (to_block d.stmts) rest rest = let P : List Stmt → Type 0 = λ ss. ReadsBlock (to_block ss) rest rest in subst P (sym r.0) (no_statement rest) in
-    (q.0, q.1, (q.2.0, q.2.1, (_, q.2.2, b)))
+pub whole_read : (m : Declaration) (all rest : List Lexeme) → is_whole m ≡ true → DeclarationRead m all rest → all ≡ rest
+whole_read Wanted all rest e r = r
+whole_read _ all rest e r = cc
+
+both_true : (a b : Bool) → (a && b) ≡ true → a ≡ true
+both_true true b e = refl
+both_true false b e = cc
 
 module _ (t : Lexeme) (rest all : List Lexeme) where
-  on_statement_holds : (d : Draft) (y : Symbol) → Means t.token y → DraftRead d all (t ∷ rest) → BodyRead (on_statement d y) all rest
-  on_statement_holds d (named x) h r = (r.0, r.1, (r.2.0, r.2.1, (r.2.2.0, r.2.2.1, (_, r.2.2.2, seen _ t rest h))))
-  on_statement_holds d returning h r = (r.0, r.1, (r.2.0, r.2.1, (r.2.2.0, r.2.2.1, (_, r.2.2.2, seen _ t rest h))))
-  on_statement_holds d _ h r = tt
+  -- a statement ends, and a block opens
+  module _ (n : Nest) (r : ℕ) (e : n.level.room ≡ suc r) where
+    statement_holds : (s : Stmt) → (NestRead n then ReadsStmt r s) all rest → NestRead (with_statement n s) all rest
+    statement_holds s q = let a = q.1 in (a.0, a.1, stack_more n.frames n.level r e s a.0 q.0 rest a.2 q.2)
 
-  local_holds : (d : Draft) (y : Symbol) → Means t.token y → BodyRead (Locals d) all (t ∷ rest) → BodyRead (on_local d y) all rest
-  local_holds d (typed w) h r = let q = r.1 in (r.0, (q.0, q.1, (q.2.0, q.2.1, (_, q.2.2, seen _ t rest h))))
-  local_holds d y h r = on_statement_holds d y h (draft_read d all (t ∷ rest) r)
+    ended_holds : (o : Option Stmt) → (NestRead n then LineIs r o) all rest → BodyRead (ended n o) all rest
+    ended_holds None q = tt
+    ended_holds (Some s) q = statement_holds s q
 
-  local_typed_holds : (d : Draft) (w : Word) (y : Symbol) → Means t.token y → BodyRead (LocalTyped d w) all (t ∷ rest) → BodyRead (on_typed d w y) all rest
-  local_typed_holds d w (named x) h r = let q = r.1 in (r.0, (q.0, q.1, (q.2.0, q.2.1, (q.2.2.0, q.2.2.1, (_, q.2.2.2, seen _ t rest h)))))
-  local_typed_holds d w _ h r = tt
+    opening_holds : (o : Opened) → (NestRead n then OpenedRead r o) all rest → NestRead (opening r n o) all rest
+    opening_holds o q = let a = q.1 in (a.0, a.1, (e, (q.0, a.2, (rest, q.2, no_statement r rest))))
 
-  local_named_holds : (d : Draft) (w : Word) (x : List ℕ) (y : Symbol) → Means t.token y → BodyRead (LocalNamed d w x) all (t ∷ rest) → BodyRead (on_named d w x y) all rest
-  local_named_holds d w x semicolon h r =
-      let q = r.1 in let l = q.2.2 in
-      (r.0, (q.0, q.1, (q.2.0, q.2.1, local_behind d.locals (decl_of w x) q.2.0 l.0 rest l.1 (_, l.2, seen _ t rest h))))
-  local_named_holds d w x _ h r = tt
+    opened_holds : (o : Option Opened) → (NestRead n then OpensIs r o) all rest → BodyRead (opened r n o) all rest
+    opened_holds None q = tt
+    opened_holds (Some o) q = opening_holds o q
 
-  ended_holds : (d : Draft) (o : Option Stmt) → (HeadRead (head.Closed d.head) then mark (codes "{") then ReadsLocals d.locals then ReadsBlock (to_block d.stmts) then StatementIs o) all rest → BodyRead (ended d o) all rest
-  ended_holds d None r = tt
-  ended_holds d (Some s) r =
-      let q = r.2.2.2 in
-      (r.0, r.1, (r.2.0, r.2.1, (r.2.2.0, r.2.2.1, statement_behind d.stmts s r.2.2.0 q.0 rest q.1 q.2)))
+    test_holds : Means t.token begin → (k : Test) (o : COpnd) → (NestRead n then TestIs (Some (k, o))) all (t ∷ rest) → BodyRead (on_test r n k o) all rest
+    test_holds h test.If o q = opening_holds (Yes o) (q.0, q.1, (_, q.2, seen _ t rest h))
+    test_holds h test.While o q = opening_holds (Loop o) (q.0, q.1, (_, q.2, seen _ t rest h))
+    test_holds h test.Switch o q = (e, (q.0, q.1, (_, q.2, (rest, seen _ t rest h, no_case_read r rest))))
 
-  inside_holds : (d : Draft) (m : Statement) (y : Symbol) → Means t.token y → BodyRead (InStatement d m) all (t ∷ rest) → BodyRead (inside d m y) all rest
-  inside_holds d m semicolon h r =
-      let q = r.2.2.2 in
-      ended_holds d (statement_end m) (r.0, r.1, (r.2.0, r.2.1, (r.2.2.0, r.2.2.1, (q.0, q.1, statement_is t rest q.0 h m q.2))))
-  inside_holds d m y h r =
-      let q = r.2.2.2 in
-      (r.0, r.1, (r.2.0, r.2.1, (r.2.2.0, r.2.2.1, (q.0, q.1, statement_holds t rest q.0 m y h q.2))))
+    tested_holds : Means t.token begin → (o : Option (Test × COpnd)) → (NestRead n then TestIs o) all (t ∷ rest) → BodyRead (tested r n o) all rest
+    tested_holds h None q = tt
+    tested_holds h (Some p) q = test_holds h p.0 p.1 q
+
+    line_step_holds : (m : Line) (y : Symbol) → Means t.token y → (NestRead n then LineRead m) all (t ∷ rest) → BodyRead (on_line r n m y) all rest
+    line_step_holds m semicolon h q = ended_holds (line_end m) (q.0, q.1, line_is r q.0 (t ∷ rest) rest (seen _ t rest h) m q.2)
+    line_step_holds m begin h q = tested_holds h (line_test m) (q.0, q.1, test_is m q.0 (t ∷ rest) q.2)
+    line_step_holds m y h q = (e, (q.0, q.1, line_holds t rest q.0 m y h q.2))
+
+    gap_step_holds : (g : Gap) (y : Symbol) → Means t.token y → (NestRead n then GapRead r g) all (t ∷ rest) → BodyRead (on_gap r n g y) all rest
+    gap_step_holds g begin h q = opened_holds (gap_opens g) (q.0, q.1, opens_is t rest q.0 r h g q.2)
+    gap_step_holds g end h q = ended_holds (gap_end g) (q.0, q.1, gap_is t rest q.0 r h g q.2)
+    gap_step_holds g y h q = (e, (q.0, q.1, gap_holds t rest q.0 r g y h q.2))
+
+  -- at a `}`
+  module _ (h : Means t.token end) where
+    closes_holds : (l : Level) (n : Nest) (e : n.level.room ≡ suc l.room) (o : Opened) → (NestRead n then OpenedRead l.room o then ReadsBlock l.room (to_block l.stmts)) all (t ∷ rest) → BodyRead (closes l n o) all rest
+    unfolding ReadsStmt
+    closes_holds l n e (Yes o) q =
+        let b = q.2 in let a = b.1 in
+        (e, (q.0, q.1, (a.0, a.1, (b.0, a.2, (_, b.2, seen _ t rest h)))))
+    closes_holds l n e (No o xs) q =
+        let b = q.2 in let a = b.1 in let c = a.1 in let d = c.2 in
+        statement_holds n l.room e (branch o (to_block xs) (to_block l.stmts)) (q.0, q.1, (c.0, c.1, (d.0, d.1, (a.0, d.2, (b.0, a.2, (_, b.2, seen _ t rest h))))))
+    closes_holds l n e (Loop o) q =
+        let b = q.2 in let a = b.1 in
+        statement_holds n l.room e (while o (to_block l.stmts)) (q.0, q.1, (a.0, a.1, (b.0, a.2, (_, b.2, seen _ t rest h))))
+    closes_holds l n e (InCase a k) q =
+        let b = q.2 in let f = b.1 in let c = f.1 in let d = c.2 in let g = d.2 in let i = g.2 in
+        (e, (q.0, q.1, (f.0, (c.0, c.1, (d.0, d.1, (g.0, g.1, (i.0, i.1, (b.0, i.2, (_, b.2, seen _ t rest h)))))))))
+
+    function_holds : (s : Signature) (ds : List CDecl) (l : Level) → (DraftRead s ds then StackRead [] l) all (t ∷ rest) → ReadsFunction (function_at (record { head = s; locals = ds; frames = []; level = l })) all rest
+    function_holds s ds l q =
+        let a = q.1 in let b = a.2 in let c = a.1 in let d = c.1 in let f = c.2 in let g = f.2 in
+        let P : ℕ → Type 0 = λ z. ReadsBlock z (to_block l.stmts) q.0 (t ∷ rest) in
+        (d.0, d.1, (c.0, d.2, (f.0, f.1, (g.0, g.1, (a.0, g.2, (b.0, b.1, (_, (q.0, b.2, subst P q.2.0 q.2.1), seen _ t rest h)))))))
+
+    on_end_holds : (s : Signature) (ds : List CDecl) (fs : List Frame) (l : Level) → (DraftRead s ds then StackRead fs l) all (t ∷ rest) → BodyRead (on_end (record { head = s; locals = ds; frames = fs; level = l }) fs) all rest
+    on_end_holds s ds [] l q = function_holds s ds l q
+    on_end_holds s ds (frame o k ∷ fs) l q =
+        let a = q.2.1 in
+        closes_holds l (record { head = s; locals = ds; frames = fs; level = k }) q.2.0 o (a.0, (q.0, q.1, a.1), a.2)
+
+  on_statement_holds : (n : Nest) (y : Symbol) → Means t.token y → NestRead n all (t ∷ rest) → BodyRead (on_statement n y) all rest
+  on_statement_holds n y h q =
+      either_way (λ z. BodyRead z all rest) (n.level.room == 0) Stuck (InLine (n.level.room - 1) n (line_begin y))
+      (λ e. tt)
+      (λ e. (room_left n.level.room e, (t ∷ rest, q, begin_holds t rest (t ∷ rest) y h refl)))
+
+  statements_holds : (n : Nest) (y : Symbol) → Means t.token y → NestRead n all (t ∷ rest) → BodyRead (on_statements n y) all rest
+  statements_holds n end h q = on_end_holds h n.head n.locals n.frames n.level q
+  statements_holds n y h q = on_statement_holds n y h q
+
+  -- behind the locals
+  first_read : (s : Signature) (r : Row) → row_is_whole r ≡ true → BodyRead (Locals s r) all (t ∷ rest) → NestRead (nest s r.before) all (t ∷ rest)
+  first_read s r e q =
+      let b = q.2 in let d = b.2 in
+      let P : List Lexeme → Type 0 = λ z. ReadsLocals r.before b.0 z in
+      (t ∷ rest, (q.0, q.1, (b.0, b.1, subst P (whole_read r.at d.0 (t ∷ rest) e d.2) d.1)), (refl, no_statement most_open (t ∷ rest)))
+
+  locals_holds : (s : Signature) (r : Row) (y : Symbol) → Means t.token y → BodyRead (Locals s r) all (t ∷ rest) → BodyRead (on_locals s r y) all rest
+  locals_holds s r y h q =
+      either_way (λ z. BodyRead z all rest) (row_is_whole r && not (is_type y)) (on_statements (nest s r.before) y) (Locals s (row_step r y))
+      (λ e. statements_holds (nest s r.before) y h (first_read s r (both_true (row_is_whole r) (not (is_type y)) e) q))
+      (λ e. let b = q.2 in (q.0, q.1, (b.0, b.1, row_holds t rest b.0 r y h b.2)))
 
   -- one token more of a body
   pub body_holds : (m : Body) (y : Symbol) → Means t.token y → BodyRead m all (t ∷ rest) → BodyRead (body_step m y) all rest
-  body_holds (Locals d) y h r = local_holds d y h r
-  body_holds (LocalTyped d w) y h r = local_typed_holds d w y h r
-  body_holds (LocalNamed d w x) y h r = local_named_holds d w x y h r
-  body_holds (Statements d) y h r = on_statement_holds d y h r
-  body_holds (InStatement d m) y h r = inside_holds d m y h r
-  body_holds Stuck y h r = tt
-
-  -- at the `}` of a function
-  module _ (h : t.token ≡ sign (codes "}")) where
-    function_is : (d : Draft) → DraftRead d all (t ∷ rest) → ReadsFunction (function_at d) all rest
-    function_is d r =
-        let s = r.1 in let b = r.2 in let l = b.2 in
-        (s.0, s.1, (s.2.0, s.2.1, (s.2.2.0, s.2.2.1, (s.2.2.2.0, s.2.2.2.1, (r.0, s.2.2.2.2, (b.0, b.1, (l.0, l.1, (_, l.2, seen _ t rest h))))))))
-
-    pub body_is : (m : Body) → BodyRead m all (t ∷ rest) → FunctionIs (body_end m) all rest
-    body_is (Locals d) r = function_is d (draft_read d all (t ∷ rest) r)
-    body_is (Statements d) r = function_is d r
-    body_is _ r = tt
+  body_holds (Locals s r) y h q = locals_holds s r y h q
+  body_holds (Statements n) y h q = statements_holds n y h q
+  body_holds (InLine r n m) y h q = line_step_holds n r q.0 m y h q.1
+  body_holds (InGap r n g) y h q = gap_step_holds n r q.0 g y h q.1
+  body_holds (Closed f) y h q = tt
+  body_holds Stuck y h q = tt

@@ -1,13 +1,10 @@
+pub mod BlockSound
 pub mod BodySound
 pub mod Complete
-pub mod Digits
-pub mod Known
-pub mod Lists
 pub mod One
-pub mod RightComplete
-pub mod RightSound
 pub mod Says
 pub mod Sound
+pub mod StatementsComplete
 pub mod Steps
 pub mod Viable
 pub mod Walked

@@ -1,53 +1,97 @@
 -- The machine, token by token, on what the tokens spell.
-use Rattle.std.proofs.Common.{◌≡◌, ℕ, List, [], ◌∷◌, ◌++◌, refl, sym, ap, ◌∙◌, append_assoc, false, Bool}
-use Rattle.std.proofs.lemmas.List.{append-nil}
+use Rattle.std.proofs.Common.{◌≡◌, ℕ, suc, List, refl, ap, ◌∙◌, true, false, Bool, cond, Some, arith}
+use Rattle.std.specs.Prelude.{◌&&◌, ◌==◌, ◌-◌, not}
+use Rattle.std.proofs.lemmas.Bool.Decides.{nat_tests}
 use Rattle.cg_base.specs.Reader.{run as reader_run}
-use Rattle.cg_ctree.specs.declared.tree.COpnd.{COpnd}
-use Rattle.cg_ctree.specs.declared.tree.COpnd.TheVariants.{Number, Path}
-use Rattle.cg_ctree.specs.declared.tree.CPath.{CPath}
-use Rattle.cg_ctree.specs.Spells.{Reading, token, ReadsMore, ReadsSome, ReadsMembers, ReadsPath, ReadsOpnd}
-use Rattle.cg_ctree.specs.Tokens.{name, Lexeme}
-use Rattle.cg_cread.specs.Machine.{State, at, reader}
-use Rattle.cg_cread.specs.Rights.{path_of}
-use Rattle.cg_cread.specs.Symbols.{Symbol, named, number, comma, token_of}
-use Rattle.cg_cread.proofs.Known.{Fits, back}
+use Rattle.cg_ctree.specs.declared.tree.CDecl.{CDecl}
+use Rattle.cg_ctree.specs.Spells.{token}
+use Rattle.cg_ctree.specs.Tokens.{Lexeme}
+use Rattle.cg_ctree.specs.Trees.{Stmt, Program}
+use Rattle.cg_cpieces.specs.Declarations.{is_whole, row_step}
+use Rattle.cg_cpieces.specs.Heads.{head_step}
+use Rattle.cg_cpieces.specs.Lines.{line_begin, line_step}
+use Rattle.cg_cpieces.specs.Symbols.{Symbol, begin, end, semicolon, is_type, goes_on, is_end, token_of}
+use Rattle.cg_cpieces.specs.declared.declaration.Declaration.{Declaration}
+use Rattle.cg_cpieces.specs.declared.declaration.Declaration.TheVariants.{Wanted}
+use Rattle.cg_cpieces.specs.declared.declaration.Row.{Row}
+use Rattle.cg_cpieces.specs.declared.head.Head.{Head}
+use Rattle.cg_cpieces.specs.declared.head.Signature.{Signature}
+use Rattle.cg_cpieces.specs.declared.line.Line.{Line}
+use Rattle.cg_cpieces.proofs.DeclarationComplete.{in_row, in_a_row, in_head}
+use Rattle.cg_cpieces.proofs.Known.{Fits, back}
+use Rattle.cg_cread.specs.Blocks.{Frame}
+use Rattle.cg_cread.specs.Bodies.{Nest, Body, Locals, Statements, InLine, on_statements, on_statement, on_locals, nest}
+use Rattle.cg_cread.specs.Bodies as bodies
+use Rattle.cg_cread.specs.Machine.{State, InHead, InMembers, InBody, in_body, on_head, on_members, at, finish, reader}
 
 abbrev pub run : State → List Lexeme → State
 run = reader_run reader
 
--- one token
-pub move : (s to : State) (y : Symbol) (ts rest : List Lexeme) → Fits y → token (token_of y) ts rest → ((later : Bool) → at s y later ≡ to) → run s ts ≡ run to rest
-move s to y ts rest f r h = ap (run s) r.1 ∙ ap (λ x. run x rest) (ap (λ z. at s z r.0) (back y f) ∙ h r.0)
+-- a function so far
+abbrev pub nest_at : Signature → List CDecl → List Frame → ℕ → List Stmt → Nest
+nest_at s ls fs room ss = record { head = s; locals = ls; frames = fs; level = record { room = room; stmts = ss } }
 
--- things with commas between
-module _ {A : Type 0} (reads : A → Reading) (wanted behind : List A → State) (on_comma : (xs : List A) (later : Bool) → at (behind xs) comma later ≡ wanted xs) (one : (xs : List A) (x : A) (ts rest : List Lexeme) → reads x ts rest → run (wanted xs) ts ≡ run (behind (xs ++ x ∷ [])) rest) where
-  more_read : (xs before : List A) (ts rest : List Lexeme) → ReadsMore reads xs ts rest → run (behind before) ts ≡ run (behind (before ++ xs)) rest
-  more_read [] before ts rest r = ap (run (behind before)) r ∙ ap (λ z. run (behind z) rest) (sym (append-nil before))
-  more_read (x ∷ xs) before ts rest r =
-      move (behind before) (wanted before) comma ts r.0 tt r.1 (on_comma before)
-      ∙ one before x r.0 r.2.0 r.2.1
-      ∙ more_read xs (before ++ x ∷ []) r.2.0 rest r.2.2
-      ∙ ap (λ z. run (behind z) rest) (append_assoc before (x ∷ []) xs)
+module _ (q : Program) where
+  -- the rest of the tokens completes the program
+  abbrev pub Gives : State → List Lexeme → Type 0
+  Gives s ts = finish (run s ts) ≡ Some q
 
-  pub some_read : (xs : List A) (ts rest : List Lexeme) → ReadsSome reads xs ts rest → run (wanted []) ts ≡ run (behind xs) rest
-  some_read [] ts rest r = absurd r
-  some_read (x ∷ xs) ts rest r = one [] x ts r.0 r.1 ∙ more_read xs (x ∷ []) r.0 rest r.2
+  -- one token
+  pub move : (y : Symbol) → Fits y → (s : State) (ts rest : List Lexeme) → token (token_of y) ts rest → ((later : Bool) → Gives (at s y later) rest) → Gives s ts
+  move y f s ts rest r h = ap (λ x. finish (run s x)) r.1 ∙ ap (λ z. finish (run (at s z r.0) rest)) (back y f) ∙ h r.0
 
--- a path is its name alone
-no_members : (arrow : Bool) (members : List (List ℕ)) (ts rest : List Lexeme) → ReadsMembers arrow members ts rest → (arrow ≡ false) × (members ≡ []) × (ts ≡ rest)
-no_members false [] ts rest r = (refl, refl, r)
-no_members _ _ ts rest r = absurd r
+-- ---- which symbols go into the pieces
 
-pub path_read : (p : CPath) (ts rest : List Lexeme) → ReadsPath p ts rest → (path_of p.base ≡ p) × token (name p.base) ts rest
-path_read p ts rest r =
-    let n = no_members p.arrow p.members r.0 rest r.2 in (
-      ap (λ ms. record { base = p.base; arrow = false; members = ms }) (sym n.1) ∙ ap (λ b. record { base = p.base; arrow = b; members = p.members }) (sym n.0),
-      (r.1.0, r.1.1 ∙ ap (λ x. record { token = name p.base; later = r.1.0 } ∷ x) n.2),
-    )
+pub line_on : (p : Program) (r : ℕ) (n : Nest) (m : Line) (y : Symbol) (later : Bool) → goes_on y ≡ true → at (InBody p (InLine r n m)) y later ≡ InBody p (InLine r n (line_step m y))
+line_on p r n m semicolon later i = cc
+line_on p r n m begin later i = cc
+line_on p r n m _ later i = refl
 
--- an operand
-pub opnd_read : (s : State) (to : COpnd → State) → ((x : List ℕ) (later : Bool) → at s (named x) later ≡ to (Path (path_of x))) → ((n : ℕ) (later : Bool) → at s (number n) later ≡ to (Number n)) → (o : COpnd) (ts rest : List Lexeme) → ReadsOpnd o ts rest → run s ts ≡ run (to o) rest
-opnd_read s to by_name by_number (Number n) ts rest r = move s (to (Number n)) (number n) ts rest r.0 r.1 (by_number n)
-opnd_read s to by_name by_number (Path p) ts rest r =
-    let q = path_read p ts rest r in
-    move s (to (Path (path_of p.base))) (named p.base) ts rest tt q.1 (by_name p.base) ∙ ap (λ x. run (to (Path x)) rest) q.0
+-- a statement begins at each symbol but `}`
+statements_at : (n : Nest) (y : Symbol) → is_end y ≡ false → on_statements n y ≡ on_statement n y
+statements_at n end i = cc
+statements_at n _ i = refl
+
+pub statement_on : (p : Program) (s : Signature) (ls : List CDecl) (fs : List Frame) (r : ℕ) (ss : List Stmt) (y : Symbol) (later : Bool) → is_end y ≡ false → at (InBody p (Statements (nest_at s ls fs (suc r) ss))) y later ≡ InBody p (InLine r (nest_at s ls fs (suc r) ss) (line_begin y))
+statement_on p s ls fs r ss y later i =
+    let n = nest_at s ls fs (suc r) ss in
+    let some : (suc r == 0) ≡ false = grind (arith, nat_tests) in
+    let less : suc r - 1 ≡ r = omega arith in
+    ap (in_body p) (statements_at n y i)
+    ∙ ap (λ b. in_body p (cond b bodies.Stuck (InLine (suc r - 1) n (line_begin y)))) some
+    ∙ ap (λ k. InBody p (InLine k n (line_begin y))) less
+
+row_stays : (m : Declaration) (y : Symbol) → in_row m y ≡ true → (is_whole m && not (is_type y)) ≡ false
+row_stays Wanted semicolon i = cc
+row_stays Wanted y i = ap not (wanted y i)
+  where
+    wanted : (y : Symbol) → in_row Wanted y ≡ true → is_type y ≡ true
+    wanted semicolon i = cc
+    wanted y i = i
+row_stays _ y i = refl
+
+pub locals_on : (p : Program) (s : Signature) (r : Row) (y : Symbol) (later : Bool) → in_a_row r y ≡ true → at (InBody p (Locals s r)) y later ≡ InBody p (Locals s (row_step r y))
+locals_on p s r y later i = ap (λ b. in_body p (cond b (on_statements (nest s r.before) y) (Locals s (row_step r y)))) (row_stays r.at y i)
+
+end_outside : (m : Declaration) → in_row m end ≡ false
+end_outside Wanted = refl
+end_outside _ = refl
+
+members_at : (p : Program) (x : List ℕ) (r : Row) (y : Symbol) → in_a_row r y ≡ true → on_members p x r y ≡ InMembers p x (row_step r y)
+members_at p x r end i = let n : in_row r.at end ≡ false = end_outside r.at in cc
+members_at p x r _ i = refl
+
+pub members_on : (p : Program) (x : List ℕ) (r : Row) (y : Symbol) (later : Bool) → in_a_row r y ≡ true → at (InMembers p x r) y later ≡ InMembers p x (row_step r y)
+members_on p x r y later i = members_at p x r y i
+
+head_at : (p : Program) (m : Head) (y : Symbol) → in_head y ≡ true → on_head p m y ≡ InHead p (head_step m y)
+head_at p m begin i = cc
+head_at p m semicolon i = cc
+head_at p m _ i = refl
+
+pub head_on : (p : Program) (m : Head) (y : Symbol) (later : Bool) → in_head y ≡ true → at (InHead p m) y later ≡ InHead p (head_step m y)
+head_on p m y later i = head_at p m y i
+
+-- a first statement, or the end of a body, behind the locals
+pub first_on : (p : Program) (s : Signature) (ls : List CDecl) (y : Symbol) (later : Bool) → is_type y ≡ false → at (InBody p (Locals s (record { before = ls; at = Wanted }))) y later ≡ at (InBody p (Statements (nest s ls))) y later
+first_on p s ls y later i = ap (λ b. in_body p (cond (not b) (on_statements (nest s ls) y) (Locals s (row_step (record { before = ls; at = Wanted }) y)))) i

@@ -1,40 +1,39 @@
 -- Whatever the machine has read, something completes it; so it is an exact reader.
-use Rattle.std.proofs.Common.{◌≡◌, ℕ, List, [], ◌∷◌, refl, ap, ◌∙◌, lit<, true, false, Some, None}
-use Rattle.cg_base.specs.declared.kind.Word.{Word}
-use Rattle.cg_base.specs.declared.kind.Word.TheVariants.{U32}
+use Rattle.std.proofs.Common.{◌≡◌, ℕ, List, [], ◌∷◌, ◌++◌, refl, sym, ap, ◌∙◌, subst, lit<, true, false, cond, Option, Some, None}
+use Rattle.std.specs.Prelude.{◌&&◌, not}
+use Rattle.cg_base.proofs.Spans.{either_way}
 use Rattle.cg_base.specs.Reader.{Reads}
-use Rattle.cg_ctree.specs.declared.tree.COp.{COp}
-use Rattle.cg_ctree.specs.declared.tree.COp.TheVariants.{Add}
+use Rattle.cg_ctree.specs.declared.tree.CDecl.{CDecl}
 use Rattle.cg_ctree.specs.declared.tree.COpnd.{COpnd}
-use Rattle.cg_ctree.specs.declared.tree.COpnd.TheVariants.{Number}
-use Rattle.cg_ctree.specs.declared.tree.CRhs.{CRhs}
 use Rattle.cg_ctree.specs.Spells.{SpellsTokens}
 use Rattle.cg_ctree.specs.Tokens.{Lexeme}
-use Rattle.cg_ctree.specs.Trees.{Function, Program}
+use Rattle.cg_ctree.specs.Trees.{Stmt, switch, Case, to_cases, Program}
+use Rattle.cg_cpieces.specs.Declarations.{row, row_step, row_is_open}
+use Rattle.cg_cpieces.specs.Heads.{head_step, head_end, head_struct, head_is_whole, head_is_open}
+use Rattle.cg_cpieces.specs.Lines.{line_step, line_end, line_is_open}
+use Rattle.cg_cpieces.specs.Symbols.{Symbol, keyed, count, begin, end, semicolon, colon, first_include, second_include, is_type, goes_on, token_of, symbol_of}
+use Rattle.cg_cpieces.specs.declared.declaration.Declaration.TheVariants.{Wanted}
+use Rattle.cg_cpieces.specs.declared.declaration.Row.{Row}
+use Rattle.cg_cpieces.specs.declared.head.Signature.{Signature}
+use Rattle.cg_cpieces.specs.declared.head.Head.{Head}
+use Rattle.cg_cpieces.specs.declared.head.Head.TheVariants as head
+use Rattle.cg_cpieces.specs.declared.line.Test.{Test}
+use Rattle.cg_cpieces.specs.declared.line.Test.TheVariants as test
+use Rattle.cg_cpieces.specs.declared.line.Line.{Line}
+use Rattle.cg_cpieces.specs.declared.line.Line.TheVariants as line
+use Rattle.cg_cpieces.specs.declared.symbol.Keyword.TheVariants as key
+use Rattle.cg_cpieces.proofs.DeclarationComplete.{in_a_row, in_head}
+use Rattle.cg_cpieces.proofs.Known.{Fits, back}
+use Rattle.cg_cpieces.proofs.Shut.{line_none, no_test, line_shut, row_not_whole, row_shut, head_none, no_head_struct, head_shut}
+use Rattle.cg_cpieces.proofs.Viable.{Feeds, FeedsAt, line_viable, row_viable, head_viable}
+use Rattle.cg_cread.specs.Blocks as blocks
+use Rattle.cg_cread.specs.Blocks.{Level, Arms, Opened, Yes, No, Loop, InCase, Frame, frame, Gap, BehindYes, BehindElse, CaseWanted, CaseRead, Tagged, ColonRead, CaseClosed, BreakRead, with_case, switched, gap_is_open}
 use Rattle.cg_cread.specs.Bodies as bodies
-use Rattle.cg_cread.specs.Bodies.{Draft, Body, Locals, LocalTyped, LocalNamed, Statements, InStatement, draft, body_step, body_end, body_is_open}
-use Rattle.cg_cread.specs.Heads.{bare, head_step, head_end, head_is_open}
-use Rattle.cg_cread.specs.Machine.{State, Start, First, Second, Between, InHead, InBody, Failed, opened, on_head, closed, on_body, at, step, is_open, finish, reader}
-use Rattle.cg_cread.specs.Rights.{allows, right_step, right_end, right_is_open}
-use Rattle.cg_cread.specs.Statements.{assignment, statement_step, statement_end, statement_is_open}
-use Rattle.cg_cread.specs.Symbols.{Symbol, named, typed, number, opening, closing, begin, end, semicolon, equals, tilde, operation, first_include, second_include, token_of, symbol_of}
-use Rattle.cg_cread.specs.declared.head.Signature.{Signature}
-use Rattle.cg_cread.specs.declared.head.Head.{Head}
-use Rattle.cg_cread.specs.declared.head.Head.TheVariants as head
-use Rattle.cg_cread.specs.declared.right.Cast.{Cast}
-use Rattle.cg_cread.specs.declared.right.Cast.TheVariants.{OfFlip, OfLeft, OfRight}
-use Rattle.cg_cread.specs.declared.right.Spot.{Spot}
-use Rattle.cg_cread.specs.declared.right.Spot.TheVariants.{Before, Opened, Typed, Closed}
-use Rattle.cg_cread.specs.declared.right.Right.{Right}
-use Rattle.cg_cread.specs.declared.right.Right.TheVariants as right
-use Rattle.cg_cread.specs.declared.statement.Statement.{Statement}
-use Rattle.cg_cread.specs.declared.statement.Statement.TheVariants as statement
+use Rattle.cg_cread.specs.Bodies.{Nest, Body, Locals, Statements, InLine, InGap, Closed, nest, ended, tested, on_test, on_line, on_gap, on_statements, on_locals, body_step, body_is_open}
+use Rattle.cg_cread.specs.Machine.{State, Start, First, Second, Between, InHead, InMembers, MembersClosed, InBody, Failed, defined, members, declared, on_head, structured, on_members, in_body, at, step, is_open, finish, reader}
 use Rattle.cg_cread.proofs.Complete.{complete}
-use Rattle.cg_cread.proofs.Known.{Fits, back}
-use Rattle.cg_base.proofs.WordLaws.{word_same}
-use Rattle.cg_cread.proofs.RightComplete.{in_right}
 use Rattle.cg_cread.proofs.Sound.{sound}
-use Rattle.cg_cread.proofs.Steps.{run}
+use Rattle.cg_cread.proofs.Steps.{run, line_on, locals_on, members_on, head_on}
 
 -- some tokens complete the state
 abbrev pub Completable : State → Type 0
@@ -44,128 +43,136 @@ Completable s = (rest : List Lexeme) × (p : Program) × (finish (run s rest) �
 fed : (y : Symbol) → Fits y → (s : State) → Completable (at s y true) → Completable s
 fed y f s c = (record { token = token_of y; later = true } ∷ c.0, c.1, ap (λ z. finish (run (at s z true) c.0)) (back y f) ∙ c.2)
 
--- ---- right sides
+some_case : (o : COpnd) (cs : List Case) (c : Case) → switched o (cs ++ c ∷ []) ≡ Some (switch o (to_cases (cs ++ c ∷ [])))
+some_case o [] c = refl
+some_case o (d ∷ cs) c = refl
 
-module _ (done : List Function) (d : Draft) (x : List ℕ) where
-  whole : (r : CRhs) → Completable (in_right done d x (right.Whole r))
-  whole r = fed semicolon tt (in_right done d x (right.Whole r)) (fed end tt (InBody done (Statements _)) ([], _, refl))
+module _ (p : Program) where
+  -- ---- blocks
 
-  named_completable : (y : List ℕ) → Completable (in_right done d x (right.Named y))
-  named_completable y = fed semicolon tt (in_right done d x (right.Named y)) (fed end tt (InBody done (Statements _)) ([], _, refl))
+  module _ (s : Signature) (ls : List CDecl) where
+    abbrev at_level : List Frame → Level → Nest
+    at_level fs l = record { head = s; locals = ls; frames = fs; level = l }
 
-  behind_argument : (f : List ℕ) (os : List COpnd) → Completable (in_right done d x (right.BehindArgument f os))
-  behind_argument f os = fed closing tt (in_right done d x (right.BehindArgument f os)) (whole _)
+    abbrev before : List Frame → Level → State
+    before fs l = InBody p (Statements (at_level fs l))
 
-  -- a cast, where what is behind it can be completed
-  module _ (w : Word) (c : Cast) (v : Word) (fit : allows c v ≡ true) (behind : (u : Word) (o : COpnd) → Completable (in_right done d x (right.BehindCast w c u o))) where
-    cast_closed : (u : Word) → Completable (in_right done d x (right.InCast w c (Closed u)))
-    cast_closed u = fed (number 0) (lit< tt) (in_right done d x (right.InCast w c (Closed u))) (behind u (Number 0))
+    abbrev gap : List Frame → Level → ℕ → Gap → State
+    gap fs l r g = InBody p (InGap r (at_level fs l) g)
 
-    cast_typed : (u : Word) → Completable (in_right done d x (right.InCast w c (Typed u)))
-    cast_typed u = fed closing tt (in_right done d x (right.InCast w c (Typed u))) (cast_closed u)
+    -- whatever is open can be closed
+    close : (fs : List Frame) (l : Level) → Completable (before fs l)
+    close [] l = fed end tt (before [] l) ([], _, refl)
+    close (frame (Yes o) k ∷ fs) l =
+        fed end tt (before (frame (Yes o) k ∷ fs) l)
+        (fed (keyed key.Else) tt (gap fs k l.room (BehindYes o l.stmts))
+        (fed begin tt (gap fs k l.room (BehindElse o l.stmts))
+        (fed end tt (before (frame (No o l.stmts) k ∷ fs) (record { room = l.room; stmts = [] })) (close fs _))))
+    close (frame (No o xs) k ∷ fs) l = fed end tt (before (frame (No o xs) k ∷ fs) l) (close fs _)
+    close (frame (Loop o) k ∷ fs) l = fed end tt (before (frame (Loop o) k ∷ fs) l) (close fs _)
+    close (frame (InCase a n) k ∷ fs) l =
+        let c : Case = bodies.case_at n l.stmts in
+        let Q : Option Stmt → Type 0 = λ z. Completable (in_body p (ended (at_level fs k) z)) in
+        fed end tt (before (frame (InCase a n) k ∷ fs) l)
+        (fed (keyed key.Break) tt (gap fs k l.room (CaseClosed a c))
+        (fed semicolon tt (gap fs k l.room (BreakRead a c))
+        (fed end tt (gap fs k l.room (CaseWanted (with_case a c))) (subst Q (sym (some_case a.operand a.cases c)) (close fs _)))))
 
-    cast_opened : Completable (in_right done d x (right.InCast w c Opened))
-    cast_opened = fed (typed v) tt (in_right done d x (right.InCast w c Opened)) (rw fit (cast_typed v))
+    module _ (fs : List Frame) (l : Level) (r : ℕ) where
+      colon_read : (a : Arms) (n : ℕ) → Completable (gap fs l r (ColonRead a n))
+      colon_read a n = fed begin tt (gap fs l r (ColonRead a n)) (close (frame (InCase a n) l ∷ fs) (record { room = r; stmts = [] }))
 
-    in_cast : (s : Spot) → Completable (in_right done d x (right.InCast w c s))
-    in_cast Before = fed opening tt (in_right done d x (right.InCast w c Before)) cast_opened
-    in_cast Opened = cast_opened
-    in_cast (Typed u) = cast_typed u
-    in_cast (Closed u) = cast_closed u
+      tag_read : (a : Arms) (n : ℕ) → Completable (gap fs l r (Tagged a n))
+      tag_read a n = fed colon tt (gap fs l r (Tagged a n)) (colon_read a n)
 
-  -- behind a cast
-  behind_flip : (w v : Word) (o : COpnd) → Completable (in_right done d x (right.BehindCast w OfFlip v o))
-  behind_flip w v o = fed closing tt (in_right done d x (right.BehindCast w OfFlip v o)) (whole _)
+      case_read : (a : Arms) → Completable (gap fs l r (CaseRead a))
+      case_read a = fed (count 0) (lit< tt) (gap fs l r (CaseRead a)) (tag_read a 0)
 
-  behind_right : (w u : Word) (p : COp) (l : COpnd) (v : Word) (o : COpnd) → Completable (in_right done d x (right.BehindCast w (OfRight u p l) v o))
-  behind_right w u p l v o = fed closing tt (in_right done d x (right.BehindCast w (OfRight u p l) v o)) (whole _)
+      case_wanted : (a : Arms) → Completable (gap fs l r (CaseWanted a))
+      case_wanted a = fed (keyed key.Case) tt (gap fs l r (CaseWanted a)) (case_read a)
 
-  behind_left : (w v : Word) (o : COpnd) → Completable (in_right done d x (right.BehindCast w OfLeft v o))
-  behind_left w v o = fed (operation Add) tt (in_right done d x (right.BehindCast w OfLeft v o)) (in_cast w (OfRight v Add o) v (word_same v) (behind_right w v Add o) Before)
+      break_read : (a : Arms) (c : Case) → Completable (gap fs l r (BreakRead a c))
+      break_read a c = fed semicolon tt (gap fs l r (BreakRead a c)) (case_wanted (with_case a c))
 
-  cast_completable : (w : Word) (c : Cast) (s : Spot) → Completable (in_right done d x (right.InCast w c s))
-  cast_completable w OfFlip s = in_cast w OfFlip U32 refl (behind_flip w) s
-  cast_completable w OfLeft s = in_cast w OfLeft U32 refl (behind_left w) s
-  cast_completable w (OfRight u p l) s = in_cast w (OfRight u p l) u (word_same u) (behind_right w u p l) s
+      behind_else : (o : COpnd) (xs : List Stmt) → Completable (gap fs l r (BehindElse o xs))
+      behind_else o xs = fed begin tt (gap fs l r (BehindElse o xs)) (close (frame (No o xs) l ∷ fs) (record { room = r; stmts = [] }))
 
-  behind_completable : (w : Word) (c : Cast) (v : Word) (o : COpnd) → Completable (in_right done d x (right.BehindCast w c v o))
-  behind_completable w OfFlip v o = behind_flip w v o
-  behind_completable w OfLeft v o = behind_left w v o
-  behind_completable w (OfRight u p l) v o = behind_right w u p l v o
+      gap_completable : (g : Gap) → gap_is_open g ≡ true → Completable (gap fs l r g)
+      gap_completable (BehindYes o xs) h = fed (keyed key.Else) tt (gap fs l r (BehindYes o xs)) (behind_else o xs)
+      gap_completable (BehindElse o xs) h = behind_else o xs
+      gap_completable (CaseWanted a) h = case_wanted a
+      gap_completable (CaseRead a) h = case_read a
+      gap_completable (Tagged a n) h = tag_read a n
+      gap_completable (ColonRead a n) h = colon_read a n
+      gap_completable (CaseClosed a c) h = fed (keyed key.Break) tt (gap fs l r (CaseClosed a c)) (break_read a c)
+      gap_completable (BreakRead a c) h = break_read a c
+      gap_completable blocks.Stuck h = cc
 
-  outer : (w : Word) → Completable (in_right done d x (right.Outer w))
-  outer w = fed (number 0) (lit< tt) (in_right done d x (right.Outer w)) (whole _)
+      -- ---- statements
 
-  after_word : (w : Word) → Completable (in_right done d x (right.Typed w))
-  after_word w = fed closing tt (in_right done d x (right.Typed w)) (outer w)
+      abbrev in_line : Line → State
+      in_line m = InBody p (InLine r (at_level fs l) m)
 
-  wanted : Completable (in_right done d x right.Wanted)
-  wanted = fed (number 0) (lit< tt) (in_right done d x right.Wanted) (whole _)
+      line_fed : Feeds Line line_step goes_on (λ m. Completable (in_line m))
+      line_fed y f i m c =
+          let Q : State → Type 0 = Completable in
+          fed y f (in_line m) (subst Q (sym (line_on p r (at_level fs l) m y true i)) c)
 
-  right_completable : (m : Right) → right_is_open m ≡ true → Completable (in_right done d x m)
-  right_completable right.Wanted o = wanted
-  right_completable (right.Named y) o = named_completable y
-  right_completable right.Opened o = fed (typed U32) tt (in_right done d x right.Opened) (after_word U32)
-  right_completable (right.Typed w) o = after_word w
-  right_completable (right.Outer w) o = outer w
-  right_completable (right.Inner w) o = fed tilde tt (in_right done d x (right.Inner w)) (cast_completable w OfFlip Before)
-  right_completable (right.InCast w c s) o = cast_completable w c s
-  right_completable (right.BehindCast w c v q) o = behind_completable w c v q
-  right_completable (right.ArgumentWanted f os) o = fed (number 0) (lit< tt) (in_right done d x (right.ArgumentWanted f os)) (behind_argument f _)
-  right_completable (right.BehindArgument f os) o = behind_argument f os
-  right_completable (right.Whole r) o = whole r
-  right_completable right.Stuck o = cc
+      line_ends : (m : Line) (x : Stmt) → line_end m ≡ Some x → Completable (in_line m)
+      line_ends m x e =
+          let Q : Option Stmt → Type 0 = λ z. Completable (in_body p (ended (at_level fs l) z)) in
+          fed semicolon tt (in_line m) (subst Q (sym e) (close fs _))
 
--- ---- statements, bodies and heads
+      line_tests : (k : Test) (o : COpnd) → Completable (in_line (line.TestClosed k o))
+      line_tests test.If o = fed begin tt (in_line (line.TestClosed test.If o)) (close (frame (Yes o) l ∷ fs) (record { room = r; stmts = [] }))
+      line_tests test.While o = fed begin tt (in_line (line.TestClosed test.While o)) (close (frame (Loop o) l ∷ fs) (record { room = r; stmts = [] }))
+      line_tests test.Switch o = fed begin tt (in_line (line.TestClosed test.Switch o)) (case_wanted _)
 
-module _ (done : List Function) where
-  returned : (d : Draft) (o : COpnd) → Completable (InBody done (InStatement d (statement.Returned o)))
-  returned d o = fed semicolon tt (InBody done (InStatement d (statement.Returned o))) (fed end tt (InBody done (Statements _)) ([], _, refl))
+      line_completable : (m : Line) → line_is_open m ≡ true → Completable (in_line m)
+      line_completable m h = line_viable (λ x. Completable (in_line x)) line_fed line_ends line_tests m h
 
-  statement_completable : (d : Draft) (m : Statement) → statement_is_open m ≡ true → Completable (InBody done (InStatement d m))
-  statement_completable d (statement.Target x) o = fed equals tt (InBody done (InStatement d (statement.Target x))) (wanted done d x)
-  statement_completable d (statement.Assigned x m) o = right_completable done d x m o
-  statement_completable d statement.Returning o = fed (number 0) (lit< tt) (InBody done (InStatement d statement.Returning)) (returned d (Number 0))
-  statement_completable d (statement.Returned q) o = returned d q
-  statement_completable d statement.Stuck o = cc
+  -- ---- bodies
 
-  locals : (d : Draft) → Completable (InBody done (Locals d))
-  locals d = fed end tt (InBody done (Locals d)) ([], _, refl)
+  locals_fed : (s : Signature) → FeedsAt Row row_step in_a_row (λ r. Completable (InBody p (Locals s r)))
+  locals_fed s y f r i c =
+      let Q : State → Type 0 = Completable in
+      fed y f (InBody p (Locals s r)) (subst Q (sym (locals_on p s r y true i)) c)
 
-  local_named : (d : Draft) (w : Word) (x : List ℕ) → Completable (InBody done (LocalNamed d w x))
-  local_named d w x = fed semicolon tt (InBody done (LocalNamed d w x)) (locals _)
+  locals_whole : (s : Signature) (ds : List CDecl) → Completable (InBody p (Locals s (row ds Wanted)))
+  locals_whole s ds = fed end tt (InBody p (Locals s (row ds Wanted))) ([], _, refl)
 
-  body_completable : (m : Body) → body_is_open m ≡ true → Completable (InBody done m)
-  body_completable (Locals d) o = locals d
-  body_completable (LocalTyped d w) o = fed (named []) tt (InBody done (LocalTyped d w)) (local_named d w [])
-  body_completable (LocalNamed d w x) o = local_named d w x
-  body_completable (Statements d) o = fed end tt (InBody done (Statements d)) ([], _, refl)
-  body_completable (InStatement d m) o = statement_completable d m o
-  body_completable bodies.Stuck o = cc
+  body_completable : (m : Body) → body_is_open m ≡ true → Completable (InBody p m)
+  body_completable (Locals s r) h = row_viable (λ x. Completable (InBody p (Locals s x))) (locals_fed s) r.before r.at h (λ d. locals_whole s _)
+  body_completable (Statements n) h = close n.head n.locals n.frames n.level
+  body_completable (InLine r n m) h = line_completable n.head n.locals n.frames n.level r m h
+  body_completable (InGap r n g) h = gap_completable n.head n.locals n.frames n.level r g h
+  body_completable (Closed f) h = cc
+  body_completable bodies.Stuck h = cc
 
-  head_closed : (s : Signature) → Completable (InHead done (head.Closed s))
-  head_closed s = fed begin tt (InHead done (head.Closed s)) (locals (draft s))
+  -- ---- heads and structs
 
-  behind_param : (s : Signature) → Completable (InHead done (head.BehindParam s))
-  behind_param s = fed closing tt (InHead done (head.BehindParam s)) (head_closed s)
+  head_fed : Feeds Head head_step in_head (λ m. Completable (InHead p m))
+  head_fed y f i m c =
+      let Q : State → Type 0 = Completable in
+      fed y f (InHead p m) (subst Q (sym (head_on p m y true i)) c)
 
-  param_typed : (s : Signature) (w : Word) → Completable (InHead done (head.ParamTyped s w))
-  param_typed s w = fed (named []) tt (InHead done (head.ParamTyped s w)) (behind_param _)
+  head_closed : (s : Signature) → Completable (InHead p (head.Closed s))
+  head_closed s = fed semicolon tt (InHead p (head.Closed s)) ([], _, refl)
 
-  param_wanted : (s : Signature) → Completable (InHead done (head.ParamWanted s))
-  param_wanted s = fed (typed U32) tt (InHead done (head.ParamWanted s)) (param_typed s U32)
+  members_fed : (x : List ℕ) → FeedsAt Row row_step in_a_row (λ r. Completable (InMembers p x r))
+  members_fed x y f r i c =
+      let Q : State → Type 0 = Completable in
+      fed y f (InMembers p x r) (subst Q (sym (members_on p x r y true i)) c)
 
-  head_named : (w : Word) (x : List ℕ) → Completable (InHead done (head.Named w x))
-  head_named w x = fed opening tt (InHead done (head.Named w x)) (param_wanted (bare w x))
+  structured_some : (x : List ℕ) (ds : List CDecl) (d : CDecl) → Completable (structured p x (ds ++ d ∷ []))
+  structured_some x [] d = fed semicolon tt (MembersClosed p _) ([], _, refl)
+  structured_some x (e ∷ ds) d = fed semicolon tt (MembersClosed p _) ([], _, refl)
 
-  head_completable : (m : Head) → head_is_open m ≡ true → Completable (InHead done m)
-  head_completable (head.Typed w) o = fed (named []) tt (InHead done (head.Typed w)) (head_named w [])
-  head_completable (head.Named w x) o = head_named w x
-  head_completable (head.ParamWanted s) o = param_wanted s
-  head_completable (head.ParamTyped s w) o = param_typed s w
-  head_completable (head.BehindParam s) o = behind_param s
-  head_completable (head.Closed s) o = head_closed s
-  head_completable head.Stuck o = cc
+  members_whole : (x : List ℕ) (ds : List CDecl) (d : CDecl) → Completable (InMembers p x (row (ds ++ d ∷ []) Wanted))
+  members_whole x ds d = fed end tt (InMembers p x (row (ds ++ d ∷ []) Wanted)) (structured_some x ds d)
+
+  members_completable : (x : List ℕ) (r : Row) → row_is_open r ≡ true → Completable (InMembers p x r)
+  members_completable x r h = row_viable (λ z. Completable (InMembers p x z)) (members_fed x) r.before r.at h (λ d. members_whole x r.before d)
 
 -- ---- files
 
@@ -176,70 +183,64 @@ completable : (s : State) → is_open s ≡ true → Completable s
 completable Start o = fed first_include tt Start first
 completable First o = first
 completable Second o = ([], _, refl)
-completable (Between done) o = ([], _, refl)
-completable (InHead done m) o = head_completable done m o
-completable (InBody done m) o = body_completable done m o
+completable (Between p) o = ([], _, refl)
+completable (InHead p m) o = head_viable (λ x. Completable (InHead p x)) (head_fed p) (head_closed p) m o
+completable (InMembers p x r) o = members_completable p x r o
+completable (MembersClosed p s) o = fed semicolon tt (MembersClosed p s) ([], _, refl)
+completable (InBody p m) o = body_completable p m o
 completable Failed o = cc
 
 -- ---- what is shut has no end, and stays shut
 
-right_none : (m : Right) → right_is_open m ≡ false → right_end m ≡ None
-right_none right.Stuck h = refl
-right_none _ h = cc
+module _ (p : Program) where
+  locals_shut : (s : Signature) (r : Row) (y : Symbol) → row_is_open r ≡ false → is_open (in_body p (on_locals s r y)) ≡ false
+  locals_shut s r y h =
+      ap (λ b. is_open (in_body p (cond (b && not (is_type y)) (on_statements (nest s r.before) y) (Locals s (row_step r y))))) (row_not_whole r h) ∙ row_shut r y h
 
-right_shut : (m : Right) (y : Symbol) → right_is_open m ≡ false → right_is_open (right_step m y) ≡ false
-right_shut right.Stuck y h = refl
-right_shut _ y h = cc
+  in_line_shut : (r : ℕ) (n : Nest) (m : Line) (y : Symbol) → line_is_open m ≡ false → is_open (in_body p (on_line r n m y)) ≡ false
+  in_line_shut r n m semicolon h = ap (λ o. is_open (in_body p (ended n o))) (line_none m h)
+  in_line_shut r n m begin h = ap (λ o. is_open (in_body p (tested r n o))) (no_test m h)
+  in_line_shut r n m y h = line_shut m y h
 
-statement_none : (m : Statement) → statement_is_open m ≡ false → statement_end m ≡ None
-statement_none (statement.Assigned x m) h = ap (assignment x) (right_none m h)
-statement_none statement.Stuck h = refl
-statement_none _ h = cc
+  stuck_shut : (r : ℕ) (n : Nest) (y : Symbol) → is_open (in_body p (on_gap r n blocks.Stuck y)) ≡ false
+  stuck_shut r n begin = refl
+  stuck_shut r n end = refl
+  stuck_shut r n y = refl
 
-statement_shut : (m : Statement) (y : Symbol) → statement_is_open m ≡ false → statement_is_open (statement_step m y) ≡ false
-statement_shut (statement.Assigned x m) y h = right_shut m y h
-statement_shut statement.Stuck y h = refl
-statement_shut _ y h = cc
+  gap_shut : (r : ℕ) (n : Nest) (g : Gap) (y : Symbol) → gap_is_open g ≡ false → is_open (in_body p (on_gap r n g y)) ≡ false
+  gap_shut r n blocks.Stuck y h = stuck_shut r n y
+  gap_shut r n _ y h = cc
 
-inside_shut : (d : Draft) (m : Statement) (y : Symbol) → statement_is_open m ≡ false → body_is_open (bodies.inside d m y) ≡ false
-inside_shut d m semicolon h = ap (λ o. body_is_open (bodies.ended d o)) (statement_none m h)
-inside_shut d m y h = statement_shut m y h
+  body_shut : (m : Body) (y : Symbol) → body_is_open m ≡ false → is_open (in_body p (body_step m y)) ≡ false
+  body_shut (Locals s r) y h = locals_shut s r y h
+  body_shut (Statements n) y h = cc
+  body_shut (InLine r n m) y h = in_line_shut r n m y h
+  body_shut (InGap r n g) y h = gap_shut r n g y h
+  body_shut (Closed f) y h = refl
+  body_shut bodies.Stuck y h = refl
 
-body_none : (m : Body) → body_is_open m ≡ false → body_end m ≡ None
-body_none (InStatement d m) h = refl
-body_none bodies.Stuck h = refl
-body_none _ h = cc
+  on_head_shut : (m : Head) (y : Symbol) → head_is_open m ≡ false → is_open (on_head p m y) ≡ false
+  on_head_shut m begin h =
+      either_way (λ z. is_open z ≡ false) (head_is_whole m) (defined p (head_end m)) (members p (head_struct m))
+      (λ e. ap (λ o. is_open (defined p o)) (head_none m h))
+      (λ e. ap (λ o. is_open (members p o)) (no_head_struct m h))
+  on_head_shut m semicolon h = ap (λ o. is_open (declared p o)) (head_none m h)
+  on_head_shut m y h = head_shut m y h
 
-body_shut : (m : Body) (y : Symbol) → body_is_open m ≡ false → body_is_open (body_step m y) ≡ false
-body_shut (InStatement d m) y h = inside_shut d m y h
-body_shut bodies.Stuck y h = refl
-body_shut _ y h = cc
-
-head_none : (m : Head) → head_is_open m ≡ false → head_end m ≡ None
-head_none head.Stuck h = refl
-head_none _ h = cc
-
-head_shut : (m : Head) (y : Symbol) → head_is_open m ≡ false → head_is_open (head_step m y) ≡ false
-head_shut head.Stuck y h = refl
-head_shut _ y h = cc
-
-on_head_shut : (done : List Function) (m : Head) (y : Symbol) → head_is_open m ≡ false → is_open (on_head done m y) ≡ false
-on_head_shut done m begin h = ap (λ o. is_open (opened done o)) (head_none m h)
-on_head_shut done m y h = head_shut m y h
-
-on_body_shut : (done : List Function) (m : Body) (y : Symbol) → body_is_open m ≡ false → is_open (on_body done m y) ≡ false
-on_body_shut done m end h = ap (λ o. is_open (closed done o)) (body_none m h)
-on_body_shut done m y h = body_shut m y h
+  on_members_shut : (x : List ℕ) (r : Row) (y : Symbol) → row_is_open r ≡ false → is_open (on_members p x r y) ≡ false
+  on_members_shut x r end h = ap (λ b. is_open (cond b (structured p x r.before) Failed)) (row_not_whole r h)
+  on_members_shut x r y h = row_shut r y h
 
 shut : (s : State) (t : Lexeme) → is_open s ≡ false → is_open (step s t) ≡ false
-shut (InHead done m) t h = on_head_shut done m (symbol_of t.token) h
-shut (InBody done m) t h = on_body_shut done m (symbol_of t.token) h
+shut (InHead p m) t h = on_head_shut p m (symbol_of t.token) h
+shut (InMembers p x r) t h = on_members_shut p x r (symbol_of t.token) h
+shut (InBody p m) t h = body_shut p m (symbol_of t.token) h
 shut Failed t h = refl
 shut _ t h = cc
 
 no_tree : (s : State) → is_open s ≡ false → finish s ≡ None
 no_tree Second h = cc
-no_tree (Between done) h = cc
+no_tree (Between p) h = cc
 no_tree _ h = refl
 
 -- the six laws

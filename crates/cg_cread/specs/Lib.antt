@@ -1,9 +1,6 @@
 pub mod Answers
+pub mod Blocks
 pub mod Bodies
-pub mod Heads
 pub mod Laws
 pub mod Machine
-pub mod Rights
-pub mod Statements
-pub mod Symbols
 pub mod Views

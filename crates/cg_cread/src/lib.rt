@@ -2,15 +2,13 @@
 //! docs/LANGUAGE.md, "The C text", says what is spelled.
 #![tactic(auto)]
 
+mod block;
 mod body;
 mod fault;
 mod file;
-mod head;
+mod gap;
 mod law;
 mod read;
-mod right;
-mod statement;
-mod symbol;
 
 pub use fault::CFault;
 pub use law::one_program;

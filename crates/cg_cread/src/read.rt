@@ -3,7 +3,7 @@ ghost use Rattle.std.specs.Prelude.{◌≡◌};
 ghost use Rattle.cg_cread.specs.Answers.{Answers};
 
 use crate::CFault;
-use crate::file::{Phase, conclude, is_open, step};
+use crate::file::Phase;
 use cg_base::Place;
 use cg_clexer::{Lexer, TokenKind};
 use cg_ctree::CProgram;
@@ -30,10 +30,10 @@ pub fn read_c(alloc: Global, bytes: &[u8]) -> Result<CProgram, CFault>
         let token = lexer.next();
         match token.kind {
             TokenKind::Unknown => return unexpected(phase, token.place),
-            TokenKind::End => return conclude(alloc, phase, token.place),
-            _ => phase = step(alloc, phase, &token)?,
+            TokenKind::End => return phase.conclude(alloc, token.place),
+            _ => phase = phase.step(alloc, &token)?,
         }
-        if !is_open(&phase) {
+        if !phase.is_open() {
             return unexpected(phase, token.place);
         }
     }

@@ -1,11 +1,12 @@
 -- Tokens with the white space before each, and that the text of such a list is divided into them.
-use Rattle.std.proofs.Common.{◌≡◌, ℕ, ◌+◌, ◌<◌, ◌^◌, ◌%◌, true, false, List, [], ◌∷◌, ◌++◌, map, codes, decimal, refl, sym, ap, arith}
+use Rattle.std.proofs.Common.{◌≡◌, ℕ, zero, suc, ◌+◌, ◌<◌, ◌^◌, ◌%◌, true, false, List, [], ◌∷◌, ◌++◌, map, codes, decimal, refl, sym, ap, arith}
 use Rattle.std.specs.Prelude.{⊤}
 use Rattle.std.specs.List.{AllByRecursion}
 use Rattle.std.proofs.lemmas.Bool.Decides.{nat_tests}
 use Rattle.std.proofs.lemmas.Fmt.{decimal_by_steps}
 use Rattle.cg_base.specs.Bytes.{white, digit, Each, Starts, Stops}
 use Rattle.cg_ctree.specs.Tokens.{part_of_name, Token, literal, token_text, IsToken, goes_on, Ends, blank, IsPiece, gap_text, has_line_feed, Lexeme, Divides, Lexes}
+use Rattle.cg_ctext.specs.Printed.{spaces, line_at}
 
 -- a token with the white space before it
 pub record Spaced : Type 0 where
@@ -109,3 +110,26 @@ semicolon_ends = either_rest (codes ";") (λ b rest. refl)
 
 pub flip_ends : (rest : List ℕ) → goes_on (codes "~") rest ≡ false
 flip_ends = either_rest (codes "~") (λ b rest. refl)
+
+pub dot_ends : (rest : List ℕ) → goes_on (codes ".") rest ≡ false
+dot_ends = either_rest (codes ".") (λ b rest. refl)
+
+pub arrow_ends : (rest : List ℕ) → goes_on (codes "->") rest ≡ false
+arrow_ends = either_rest (codes "->") (λ b rest. refl)
+
+pub star_ends : (rest : List ℕ) → goes_on (codes "*") rest ≡ false
+star_ends = either_rest (codes "*") (λ b rest. refl)
+
+pub colon_ends : (rest : List ℕ) → goes_on (codes ":") rest ≡ false
+colon_ends = either_rest (codes ":") (λ b rest. refl)
+
+-- ---- lines
+
+white_spaces : (level : ℕ) → Each white (spaces level)
+white_spaces zero = tt
+white_spaces (suc level) = (refl, (refl, (refl, (refl, white_spaces level))))
+
+-- a new line and its spaces are white space
+pub white_line : (level : ℕ) → Each white (line_at level)
+unfolding line_at
+white_line level = (refl, white_spaces level)

@@ -5,8 +5,9 @@ ghost use Rattle.cg_ctree.specs.Trees.{program_of};
 ghost use Rattle.cg_ctree.specs.Tokens.{first_line};
 ghost use Rattle.cg_ctext.specs.Printed.{printed, BeginsWith};
 
+use crate::declaration::structs;
+use crate::function::functions;
 use crate::put::put;
-use crate::statement::functions;
 use cg_base::Memory;
 use cg_ctree::CProgram;
 use std::alloc::Global;
@@ -16,9 +17,9 @@ fn text_of(alloc: Global, program: &CProgram) -> Result<Vec<u8>, Memory>
     ensures { IfOk result (λ text. text.items ≡ printed (program_of program.now)) }
 {
     let mut text = Vec::new(alloc);
-    put(&mut text, b"#include <stdint.h>\n")?;
-    put(&mut text, b"#include \"cogent.h\"")?;
-    functions(&mut text, program.funs.as_slice())?;
+    put(&mut text, b"#include <stdint.h>\n#include \"cogent.h\"")?;
+    structs(&mut text, program.structs.as_slice())?;
+    functions(alloc, &mut text, program.funs.as_slice())?;
     put(&mut text, b"\n")?;
     Ok(text)
 }

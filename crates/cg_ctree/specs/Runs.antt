@@ -1,6 +1,6 @@
 -- What a program of the C subset does, on words (docs/LANGUAGE.md, "The C subset"). Structs, pointers, the heap and the
 -- built-ins join here; until then what needs them is stuck.
-use Rattle.std.specs.Prelude.{ℕ, zero, suc, ◌+◌, ◌-◌, ◌*◌, ◌/◌, ◌%◌, ◌^◌, Bool, true, false, not, List, [], ◌∷◌, Option, Some, None, nat_lt, nat_le, nat_eq, bytes_eq, cond}
+use Rattle.std.specs.Prelude.{ℕ, zero, suc, ◌+◌, ◌-◌, ◌*◌, ◌/◌, ◌%◌, ◌^◌, Bool, not, List, [], ◌∷◌, Option, Some, None, nat_lt, nat_le, nat_eq, bytes_eq, cond}
 use Rattle.std.specs.Int.Bits.{bit_and, bit_or, bit_xor}
 use Rattle.cg_base.specs.declared.kind.Word.{Word}
 use Rattle.cg_base.specs.Words.{bits, same_word}

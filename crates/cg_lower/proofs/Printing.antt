@@ -12,10 +12,12 @@ use Rattle.cg_core.specs.Terms.{Note, Tree, term, Shape, var, lit, fun, op, app,
 use Rattle.cg_ctree.specs.declared.tree.COpnd.{COpnd}
 use Rattle.cg_ctree.specs.declared.tree.COpnd.TheVariants.{Number, Path}
 use Rattle.cg_ctree.specs.declared.tree.COp.TheVariants.{Add}
+use Rattle.cg_ctree.specs.declared.tree.CPath.{CPath}
+use Rattle.cg_ctree.specs.declared.tree.CRhs.{CRhs}
 use Rattle.cg_ctree.specs.declared.tree.CRhs.TheVariants.{Binary, Call}
 use Rattle.cg_base.specs.Bytes.{Each}
 use Rattle.cg_ctree.specs.Tokens.{part_of_name}
-use Rattle.cg_ctree.specs.Spells.{IsCName, IsPrintableDecl, IsPrintableOpnd, IsPrintableStmt, IsPrintableBlock, IsPrintableFunction, IsPrintable}
+use Rattle.cg_ctree.specs.Spells.{IsCName, IsPrintableDecl, IsPrintablePath, IsPrintableOpnd, IsPrintableRight, IsPrintableStmt, IsPrintableBlock, ArePrintableCases, IsPrintableFunction, IsPrintable}
 use Rattle.cg_ctree.specs.Trees.{Stmt, assign, return', to_block, Program}
 use Rattle.cg_typing.specs.declared.checked.Checked.{Checked}
 use Rattle.cg_typing.specs.Holds.{kernel_in, cores_in}
@@ -63,9 +65,25 @@ argument_is_name = (refl, (refl, digits_of_name 0 (omega arith)), refl)
 
 -- ---- terms
 
+-- how many statements may be open inside a statement of a body
+abbrev room : ℕ
+room = 4095
+
+-- a statement that can be printed there
+abbrev CanStand : Stmt → Type 0
+CanStand s = IsPrintableStmt room s
+
+assign_prints : (p : CPath) (r : CRhs) → IsPrintablePath p → IsPrintableRight r → CanStand (assign p r)
+unfolding IsPrintableStmt IsPrintableBlock ArePrintableCases
+assign_prints p r h i = (h, i)
+
+return_prints : (o : COpnd) → IsPrintableOpnd o → CanStand (return' o)
+unfolding IsPrintableStmt IsPrintableBlock ArePrintableCases
+return_prints o h = h
+
 -- a lowered term can be printed
 abbrev Prints : Low → Type 0
-Prints l = IsPrintableOpnd l.value × AllByRecursion IsPrintableStmt l.code
+Prints l = IsPrintableOpnd l.value × AllByRecursion CanStand l.code
 
 module _ (n : ℕ) (most : n ≤ 2 ^ 64) where
   abbrev Printed : Tree Note → Type 0
@@ -88,7 +106,7 @@ module _ (n : ℕ) (most : n ≤ 2 ^ 64) where
       let pb : Prints B = hb (k + A.count) depth os e all w.2 (omega (arith, bound)) in
       let named : IsCName (local (k + (A.count + B.count))) = local_is_name (k + (A.count + B.count)) (omega (arith, bound)) in
       let s : Stmt = assign (path (local (k + (A.count + B.count)))) (Binary U32 U32 Add A.value B.value) in
-      ((named, tt), all_append IsPrintableStmt (A.code ++ B.code) (s ∷ []) (all_append IsPrintableStmt A.code B.code pa.1 pb.1) (((named, tt), (tt, pa.0, pb.0)), tt))
+      ((named, tt), all_append CanStand (A.code ++ B.code) (s ∷ []) (all_append CanStand A.code B.code pa.1 pb.1) (assign_prints _ _ (named, tt) (tt, pa.0, pb.0), tt))
 
   print_let : (note : Note) (place : Place) (a b : Tree Note) → Printed a → Printed b → Printed (term note (lets place a b))
   unfolding low
@@ -98,7 +116,7 @@ module _ (n : ℕ) (most : n ≤ 2 ^ 64) where
       let pa : Prints A = ha k depth os e all w.0 (omega (arith, bound)) in
       let pb : Prints B =
       hb (k + A.count) (suc depth) (os ++ A.value ∷ []) (omega (arith, e, length-append os (A.value ∷ []))) (all_append IsPrintableOpnd os (A.value ∷ []) all (pa.0, tt)) w.1 (omega (arith, bound)) in
-      (pb.0, all_append IsPrintableStmt A.code B.code pa.1 pb.1)
+      (pb.0, all_append CanStand A.code B.code pa.1 pb.1)
 
   print_call : (note at : Note) (f : ℕ) (x : Tree Note) → Printed x → Printed (term note (app (term at (fun (User f) [])) x))
   unfolding low
@@ -108,7 +126,7 @@ module _ (n : ℕ) (most : n ≤ 2 ^ 64) where
       let named : IsCName (local (k + A.count)) = local_is_name (k + A.count) (omega (arith, bound)) in
       let called : IsCName (function_name f) = function_is_name f (omega (arith, w.0, most)) in
       let s : Stmt = assign (path (local (k + A.count))) (Call (function_name f) (A.value ∷ [])) in
-      ((named, tt), all_append IsPrintableStmt A.code (s ∷ []) pa.1 (((named, tt), (called, (pa.0, tt))), tt))
+      ((named, tt), all_append CanStand A.code (s ∷ []) pa.1 (assign_prints _ _ (named, tt) (called, (pa.0, tt)), tt))
 
   mutual
     print_term : (t : Tree Note) → Printed t
@@ -124,8 +142,8 @@ module _ (n : ℕ) (most : n ≤ 2 ^ 64) where
 
   -- ---- functions
 
-  block_prints : (ss : List Stmt) → AllByRecursion IsPrintableStmt ss → IsPrintableBlock (to_block ss)
-  unfolding to_block
+  block_prints : (ss : List Stmt) → AllByRecursion CanStand ss → IsPrintableBlock (suc room) (to_block ss)
+  unfolding to_block IsPrintableStmt IsPrintableBlock ArePrintableCases
   block_prints [] h = tt
   block_prints (s ∷ ss) h = (h.0, block_prints ss h.1)
 
@@ -140,7 +158,7 @@ module _ (n : ℕ) (most : n ≤ 2 ^ 64) where
         tt,
         function_is_name i (omega (arith, h, most)),
         ((tt, argument_is_name), tt),
-        (locals_print 0 (low_body t).count (omega (arith, few)), block_prints ((low_body t).code ++ s ∷ []) (all_append IsPrintableStmt (low_body t).code (s ∷ []) p.1 (p.0, tt))),
+        (locals_print 0 (low_body t).count (omega (arith, few)), block_prints ((low_body t).code ++ s ∷ []) (all_append CanStand (low_body t).code (s ∷ []) p.1 (return_prints _ p.0, tt))),
       )
 
   functions_print : (bodies : ℕ → Option (Tree Note)) (order : List ℕ) → AreWordBodies bodies n → ((i : ℕ) → Contains order i → i < n) → AllFew bodies order → AllByRecursion IsPrintableFunction (functions_at bodies order)
@@ -153,7 +171,7 @@ module _ (n : ℕ) (most : n ≤ 2 ^ 64) where
       subst P (sym b.1) (function_prints i b.0 h b.2 (few.0 b.0 b.1), rest)
 
 pub lowering_is_printable : LoweringIsPrintable
-lowering_is_printable bodies n order most words below few = (refl, functions_print n most bodies order words below few)
+lowering_is_printable bodies n order most words below few = (tt, functions_print n most bodies order words below few)
 
 pub printable_at : (checked : Checked) (program : Program) (n : ℕ) → n ≡ length (kernel_of (kernel_in checked)) → n < 2 ^ 32 → program ≡ lowered (bodies_of (cores_in checked)) (length (kernel_of (kernel_in checked)))
     → AllFew (bodies_of (cores_in checked)) (in_order (bodies_of (cores_in checked)) (length (kernel_of (kernel_in checked)))) → CanBePrinted checked program
