@@ -1,0 +1,7 @@
+pub mod BuiltIns
+pub mod Layouts
+pub mod Operands
+pub mod Operations
+pub mod Outcomes
+pub mod Runs
+pub mod Targets
