@@ -15,6 +15,11 @@ pub record Out : Type 0 where
   pub made : List ℕ
   pub freed : List ℕ
 
+-- what a table answers to a call: what it costs and what it gives
+pub record Answer : Type 0 where
+  pub cost : ℕ
+  pub out : Out
+
 -- a result and what was made and freed are what a call gives, beside the store
 abbrev pub IsGiven : List Scalar → List ℕ → List ℕ → Out → Type 0
 IsGiven value made freed o = (value ≡ o.result) × (made ≡ o.made) × (freed ≡ o.freed)

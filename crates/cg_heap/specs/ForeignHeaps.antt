@@ -1,11 +1,11 @@
 -- What a table of abstract functions gives on heaps: what its types are there, what its functions do, and the laws of both
 -- (docs/LANGUAGE.md, "Abstract functions").
-use Rattle.std.specs.Prelude.{◌≡◌, ℕ, ◌+◌, ◌<◌, ◌≤◌, ◌&&◌, Bool, IsTrue, List, codes, length, Option, None, if◌then◌else◌}
+use Rattle.std.specs.Prelude.{◌≡◌, ℕ, ◌+◌, ◌<◌, ◌≤◌, ◌&&◌, Bool, IsTrue, List, codes, length, Option, Some, None, if◌then◌else◌}
 use Rattle.std.specs.List.{range_with_len}
 use Rattle.std.specs.Str.{bytes_eq}
 use Rattle.cg_base.specs.Types.{Tau, arrow, abs, variant, fields, none, Parts, end, part}
 use Rattle.cg_base.specs.declared.kind.Sigil.TheVariants.{R, W}
-use Rattle.cg_heap.specs.Calls.{Out, Does, heap_of}
+use Rattle.cg_heap.specs.Calls.{Answer, Out, Does, heap_of}
 use Rattle.cg_heap.specs.declared.cell.Scalar.{Scalar}
 use Rattle.cg_heap.specs.Reps.{AreApart, Heap, HeapWorld, Holds, foot}
 use Rattle.cg_heap.specs.Stored.{Stored}
@@ -13,11 +13,11 @@ use Rattle.cg_value.specs.Foreign.{Foreign}
 use Rattle.cg_value.specs.Values as values
 use Rattle.cg_value.specs.Values.{Val, chosen, parts, answers, Vals}
 
--- Whether an array's elements stand for a value of an abstract type, and what a function does, by its name, with an argument in a
--- store.
+-- Whether an array's elements stand for a value of an abstract type, and what is answered to a call of a function, by its name, with
+-- an argument in a store. Nothing is said of a call that isn't answered.
 pub record ForeignHeap : Type 0 where
   pub stands : List ℕ → List ℕ → Val → Bool
-  pub call : List ℕ → List Scalar → Stored → Out
+  pub asked : List ℕ → List Scalar → Stored → Option Answer
 
 -- what abstract types are on heaps, over any instances: elements stand for values that the type holds, of types that are owned
 abbrev pub world_over : Foreign → ForeignHeap → (ℕ → Option (Val × Tau)) → HeapWorld
@@ -58,10 +58,17 @@ pub record IsAnswered (world : HeapWorld) (s : Stored) (from to : Tau) (us : Lis
   pub few : length o.made ≤ most_made
   pub granted : length o.made + answers_left to v' ≤ answers_left from v
 
--- The laws of a table on heaps. An array's elements stand for one value of a type at most, and each call of a function that is known
--- is answered with what represents its value, in any store that holds no cell above its top.
+-- a call is answered: at this cost, and with what is to come of it
+abbrev pub Answers : HeapWorld → Stored → (from to : Tau) → List Scalar → (v v' : Val) → ℕ → Option Answer → Type 0
+Answers world s from to us v v' cost None = ⊥
+Answers world s from to us v v' cost (Some a) = (a.cost ≡ cost) × IsAnswered world s from to us v v' a.out
+
+-- The laws of a table on heaps. An array's elements stand for one value of a type at most, and each call of a function that is known,
+-- on scalars that represent a value that it takes, is answered at that value's cost with what represents its result, in any store that
+-- holds no cell above its top. No call that is answered raises the top by more than the cells that one may make.
 pub record IsLawfulOnHeaps (x : Foreign) (y : ForeignHeap) : Type 0 where
   pub stands_once : (name ns : List ℕ) (v v' : Val) → IsTrue (y.stands name ns v) → IsTrue (y.stands name ns v') → v ≡ v'
   pub is_answered : (instances : ℕ → Option (Val × Tau)) (name : List ℕ) (s : Stored) (us : List Scalar) (from to : Tau) (v : Val)
       → IsCall x y instances name (heap_of s) us from to v → ((q : ℕ) → s.top < q → heap_of s q ≡ None)
-      → IsAnswered (world_over x y instances) s from to us v (x.value name v) (y.call name us s)
+      → Answers (world_over x y instances) s from to us v (x.value name v) (x.cost name v) (y.asked name us s)
+  pub rises_little : (name : List ℕ) (us : List Scalar) (s : Stored) (a : Answer) → y.asked name us s ≡ Some a → a.out.store.top ≤ s.top + most_made

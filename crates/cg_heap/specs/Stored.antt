@@ -6,6 +6,8 @@ use Rattle.std.specs.Option.{option_map}
 use Rattle.std.specs.Ordering.{nat_cmp}
 use Rattle.cg_heap.specs.declared.cell.Cell.{Cell}
 use Rattle.cg_heap.specs.declared.cell.Cell.TheVariants.{Slots, Words, Answers}
+use Rattle.cg_heap.specs.declared.cell.Form.{Form}
+use Rattle.cg_heap.specs.declared.cell.Form.TheVariants as form
 use Rattle.cg_heap.specs.declared.cell.Fresh.{Fresh}
 use Rattle.cg_heap.specs.declared.cell.Fresh.TheVariants as fresh
 use Rattle.cg_heap.specs.declared.cell.Scalar.{Scalar}
@@ -25,6 +27,12 @@ abbrev pub cell_length : Cell → ℕ
 cell_length (Slots ss) = length ss
 cell_length (Words ns) = length ns
 cell_length (Answers bs) = length bs
+
+-- what it holds
+abbrev pub form_of : Cell → Form
+form_of (Slots ss) = form.Slots
+form_of (Words ns) = form.Words
+form_of (Answers bs) = form.Answers
 
 -- a slot as it stands, or an element as a word; a list of answers has neither
 abbrev pub slot_of : ℕ → Cell → Option Scalar

@@ -48,6 +48,17 @@ pub enum Cell {
     Answers(Items<bool>),
 }
 
+/// What a cell holds.
+#[derive(Clone, Copy, PartialEq, Eq)]
+pub enum Form {
+    /// Slots of fields.
+    Slots,
+    /// Elements of an array.
+    Words,
+    /// Answers of an allocator.
+    Answers,
+}
+
 /// A cell to be made.
 #[derive(Clone, Copy)]
 pub enum Fresh {

@@ -1,9 +1,7 @@
 // Tables of abstract functions, on heaps.
-ghost use Rattle.std.specs.Prelude.{◌≡◌, ℕ, ◌+◌, ◌<◌, ◌^◌, IfOk, OnErr, OnOk, Option};
-ghost use Rattle.cg_base.specs.Types.{Tau};
-ghost use Rattle.cg_heap.specs.Calls.{IsGiven, heap_of};
-ghost use Rattle.cg_heap.specs.ForeignHeaps.{ForeignHeap, IsCall, IsLawfulOnHeaps, most_made};
-ghost use Rattle.cg_value.specs.Values.{Val};
+ghost use Rattle.std.specs.Prelude.{◌≡◌, ◌+◌, ◌<◌, ◌^◌, IfOk, OnErr, OnOk, Some};
+ghost use Rattle.cg_heap.specs.Calls.{Answer, IsGiven};
+ghost use Rattle.cg_heap.specs.ForeignHeaps.{ForeignHeap, IsLawfulOnHeaps, most_made};
 
 use crate::{Scalar, Store};
 use cg_base::{Items, Memory, Name};
@@ -34,14 +32,13 @@ pub struct Link {
 pub trait ExternHeap: Extern {
     ghost on_heaps: { Self → ForeignHeap };
 
-    /// What a call of a known function costs, on scalars that represent a value that it takes; nothing is promised of others.
+    /// What a call costs that the table answers, as it does every call of a known function on scalars that represent a value that it
+    /// takes; nothing is promised of others.
     fn steps<S: Store>(&self, name: &Name, arg: &Items<Scalar>, store: &S) -> u64
-        ensures { (instances : ℕ → Option (Val × Tau)) (from to : Tau) (v : Val)
-            → IsCall (Self.foreign self.now) (on_heaps self.now) instances name.now (heap_of (S.stored store.now)) arg.now from to v
-            → result ≡ (Self.foreign self.now).cost name.now v };
+        ensures { (answer : Answer) → (on_heaps self.now).asked name.now arg.now (S.stored store.now) ≡ Some answer → result ≡ answer.cost };
 
-    /// Calls a known function on scalars that represent a value that it takes; nothing is promised of others. All memory is taken
-    /// first: where there is none, nothing has changed.
+    /// Carries such a call out; nothing is promised of others but that, where there is no memory, nothing has changed. All memory is
+    /// taken first.
     fn run<S: Store>(
         &self,
         alloc: Global,
@@ -50,12 +47,10 @@ pub trait ExternHeap: Extern {
         store: &mut S,
     ) -> Result<Called, Memory>
         requires { (S.stored store.old).top + most_made < 2 ^ 63 }
-        ensures called { (instances : ℕ → Option (Val × Tau)) (from to : Tau) (v : Val)
-            → IsCall (Self.foreign self.now) (on_heaps self.now) instances name.now (heap_of (S.stored store.old)) arg.now from to v
-            → IfOk result (λ called. IsGiven called.value called.made called.freed ((on_heaps self.now).call name.now arg.now (S.stored store.old))) }
-        ensures store { (instances : ℕ → Option (Val × Tau)) (from to : Tau) (v : Val)
-            → IsCall (Self.foreign self.now) (on_heaps self.now) instances name.now (heap_of (S.stored store.old)) arg.now from to v
-            → OnOk result (S.stored store.new ≡ ((on_heaps self.now).call name.now arg.now (S.stored store.old)).store) }
+        ensures called { (answer : Answer) → (on_heaps self.now).asked name.now arg.now (S.stored store.old) ≡ Some answer
+            → IfOk result (λ called. IsGiven called.value called.made called.freed answer.out) }
+        ensures store { (answer : Answer) → (on_heaps self.now).asked name.now arg.now (S.stored store.old) ≡ Some answer
+            → OnOk result (S.stored store.new ≡ answer.out.store) }
         ensures err { OnErr result (S.stored store.new ≡ S.stored store.old) };
 
     ghost lawful_on_heaps: { (x : Self) → IsLawfulOnHeaps (Self.foreign x) (on_heaps x) };

@@ -1,9 +1,9 @@
 // Cells as a store holds them.
 ghost use Rattle.std.specs.Prelude.{◌≡◌, is_some, length, nat_lt, slice_set};
 ghost use Rattle.std.specs.Option.{unwrap_or};
-ghost use Rattle.cg_heap.specs.Stored.{answer_of, cell_length, slot_of, with_element, with_slot, without_answer};
+ghost use Rattle.cg_heap.specs.Stored.{answer_of, cell_length, form_of, slot_of, with_element, with_slot, without_answer};
 
-use crate::{Cell, Scalar};
+use crate::{Cell, Form, Scalar};
 use cg_base::Items;
 use std::marker::Model;
 
@@ -47,6 +47,17 @@ impl HeldCell {
             Cell::Slots(slots) => slots.len(),
             Cell::Words(words) => words.len(),
             Cell::Answers(answers) => answers.len().saturating_sub(self.taken),
+        }
+    }
+
+    // What it holds.
+    pub(crate) fn form(&self) -> Form
+        ensures { result ≡ form_of self.now }
+    {
+        match &self.cell {
+            Cell::Slots(_) => Form::Slots,
+            Cell::Words(_) => Form::Words,
+            Cell::Answers(_) => Form::Answers,
         }
     }
 

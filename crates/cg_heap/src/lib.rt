@@ -17,7 +17,7 @@ mod store;
 #[cfg(test)]
 mod tests;
 
-pub use cell::{Cell, Fresh, Scalar};
+pub use cell::{Cell, Form, Fresh, Scalar};
 pub use foreign::{Called, ExternHeap, Link};
 pub use layout::{slots, slots_of_parts};
 pub use map::MapStore;

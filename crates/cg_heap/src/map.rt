@@ -6,7 +6,7 @@ ghost use Rattle.std.specs.Ordering.{nat_cmp};
 ghost use Rattle.cg_heap.specs.Stored.{cell_length, fresh_cell};
 
 use crate::held::HeldCell;
-use crate::{Cell, Fresh, Scalar, Store};
+use crate::{Cell, Form, Fresh, Scalar, Store};
 use cg_base::{Items, Memory};
 use std::alloc::Global;
 use std::collections::BTreeMap;
@@ -53,9 +53,20 @@ impl MapStore {
 impl Store for MapStore {
     ghost stored = { λ store. store };
 
+    fn top(&self) -> u64 {
+        self.top
+    }
+
     fn len(&self, at: u64) -> Option<u32> {
         match self.cells.get(&at) {
             Some(cell) => Some(cell.len() as u32),
+            None => None,
+        }
+    }
+
+    fn form(&self, at: u64) -> Option<Form> {
+        match self.cells.get(&at) {
+            Some(cell) => Some(cell.form()),
             None => None,
         }
     }

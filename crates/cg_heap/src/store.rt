@@ -1,9 +1,9 @@
 // Stores.
 ghost use Rattle.std.specs.Prelude.{◌≡◌, ◌+◌, ◌<◌, ◌≤◌, ◌^◌, is_some, None, IfOk, OnOk, OnErr};
 ghost use Rattle.std.specs.Option.{option_map};
-ghost use Rattle.cg_heap.specs.Stored.{Stored, IsSound, answer_of, asked_of, cell_at, cell_length, changed, slot_of, with_cell, with_element, with_fresh, with_slot, without_answer, without_cell};
+ghost use Rattle.cg_heap.specs.Stored.{Stored, IsSound, answer_of, asked_of, cell_at, cell_length, changed, form_of, slot_of, with_cell, with_element, with_fresh, with_slot, without_answer, without_cell};
 
-use crate::{Cell, Fresh, Scalar};
+use crate::{Cell, Form, Fresh, Scalar};
 use cg_base::Memory;
 
 /// A heap's cells by their addresses, and a number `top` that is at least every address ever held (docs/LANGUAGE.md, "Layout").
@@ -11,10 +11,18 @@ use cg_base::Memory;
 pub trait Store {
     ghost stored: { Self → Stored };
 
+    /// The number that is at least every address ever held.
+    fn top(&self) -> u64
+        ensures { result ≡ (stored self.now).top };
+
     /// How many slots, elements or answers the cell at an address has; None where there is no cell.
     fn len(&self, at: u64) -> Option<u32>
         ensures len { result ≡ option_map cell_length (cell_at (stored self.now) at) }
         ensures sound { IsSound (stored self.now) };
+
+    /// What the cell at an address holds; None where there is no cell.
+    fn form(&self, at: u64) -> Option<Form>
+        ensures { result ≡ option_map form_of (cell_at (stored self.now) at) };
 
     /// A slot as it stands, or an element as `Word`; None where there is no such slot or element, as in a list of answers.
     fn get(&self, at: u64, slot: u32) -> Option<Scalar>
