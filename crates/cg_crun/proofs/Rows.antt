@@ -1,10 +1,11 @@
 -- The worked rows, computed.
-use Rattle.std.specs.Prelude.{◌≡◌, ℕ, false, refl, List, [], ◌∷◌, codes, Some, None}
+use Rattle.std.specs.Prelude.{◌≡◌, ℕ, false, refl, List, [], ◌∷◌, ◌++◌, codes, Some, None}
 use Rattle.std.specs.FinMap as map
 use Rattle.cg_base.specs.declared.kind.Word.TheVariants.{U16, U32}
 use Rattle.cg_crun.specs.BuiltIns.{built_in, put}
 use Rattle.cg_crun.specs.Layouts.{cell, pointed, size, spot, walk}
 use Rattle.cg_crun.specs.Outcomes.{Outcome, done, stuck, needs}
+use Rattle.cg_crun.specs.Renamed.{renamed, renamed_stmt}
 use Rattle.cg_crun.specs.Runs.{Linked, crun, calls_in, run_stmt}
 use Rattle.cg_ctree.specs.declared.tree.CDecl.{CDecl}
 use Rattle.cg_ctree.specs.declared.tree.COp.TheVariants.{Div, Shl}
@@ -142,3 +143,31 @@ holds_a_circle = refl
 isnt_declared : size (pointed in_circle (codes "F")) ≡ 0
 unfolding size
 isnt_declared = refl
+
+-- ---- other names
+
+-- the function's name behind a variable's
+abbrev longer : List ℕ → List ℕ → List ℕ
+longer f x = x ++ codes "_" ++ f
+
+-- a0 of a variable
+abbrev member_of : List ℕ → CPath
+member_of x = record { base = x; arrow = false; members = codes "a0" ∷ [] }
+
+-- { x = a.a0; return x; }
+abbrev copies : List ℕ → List ℕ → Block
+copies x a = also (assign (variable x) (Opnd (Path (member_of a)))) (also (return' (Path (variable x))) stop)
+
+-- a parameter and a local, and not the member
+renames_variables : renamed longer (only (word (codes "x0") ∷ []) (copies (codes "x0") (codes "a0"))).program
+    ≡ record {
+      structs = [];
+      functions = record {
+        ty = ty.Word U32;
+        name = codes "f0";
+        params = word (codes "a0_f0") ∷ [];
+        body = Some (record { locals = word (codes "x0_f0") ∷ []; block = copies (codes "x0_f0") (codes "a0_f0") });
+      } ∷ [];
+    }
+unfolding renamed_stmt
+renames_variables = refl

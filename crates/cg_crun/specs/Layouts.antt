@@ -1,6 +1,6 @@
 -- Types of the C subset with their structs looked up: trees, so that sizes and paths are recursions on them (docs/LANGUAGE.md, "The C
 -- subset", layouts).
-use Rattle.std.specs.Prelude.{ℕ, zero, suc, ◌+◌, Bool, false, ◌||◌, List, [], ◌∷◌, length, Option, Some, None, if◌then◌else◌}
+use Rattle.std.specs.Prelude.{ℕ, zero, suc, ◌+◌, Bool, false, ◌&&◌, ◌||◌, nat_eq, List, [], ◌∷◌, length, Option, Some, None, if◌then◌else◌}
 use Rattle.std.specs.List.{list_any}
 use Rattle.std.specs.Str.{bytes_eq}
 use Rattle.cg_base.specs.Words.{same_word}
@@ -32,11 +32,11 @@ unfoldable mutual
   sizes empty = 0
   sizes (member x l ms) = size l + sizes ms
 
--- whether a value of the one type is of the other: structs and pointers by the struct's name
+-- whether a value of the one type is of the other: structs and pointers by the struct's name, which also says how many slots there are
 abbrev pub same_layout : Layout → Layout → Bool
 same_layout (cell v) (cell w) = same_word v w
 same_layout (pointer x) (pointer y) = bytes_eq x y
-same_layout (group x ms) (group y ns) = bytes_eq x y
+same_layout (group x ms) (group y ns) = bytes_eq x y && nat_eq (sizes ms) (sizes ns)
 same_layout _ _ = false
 
 -- ---- structs by their names

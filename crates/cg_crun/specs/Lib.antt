@@ -1,7 +1,10 @@
 pub mod BuiltIns
+pub mod Laws
 pub mod Layouts
 pub mod Operands
 pub mod Operations
 pub mod Outcomes
+pub mod Parts
+pub mod Renamed
 pub mod Runs
 pub mod Targets

@@ -52,3 +52,10 @@ spend m (suc left) f = f left
 -- so many steps at once, before anything of them is done
 abbrev pub spend_for : {A : Type 0} → Stored → ℕ → ℕ → (ℕ → Outcome A) → Outcome A
 spend_for m cost left f = cond (nat_lt left cost) (needs m) (f (left - cost))
+
+-- a run that calls no abstract function with what represents no value that it takes
+abbrev pub IsCalm : {A : Type 0} → Outcome A → Type 0
+IsCalm (done a s left) = Unit {0}
+IsCalm (stuck why m) = Unit {0}
+IsCalm (needs m) = Unit {0}
+IsCalm astray = ⊥

@@ -19,19 +19,13 @@ use Rattle.cg_ctree.specs.declared.tree.CStruct.{CStruct}
 use Rattle.cg_ctree.specs.declared.tree.CTy.{CTy}
 use Rattle.cg_ctree.specs.declared.why.Why.TheVariants.{NoFunction, NoBody, NoCase, NoReturn, KindsDiffer}
 use Rattle.cg_ctree.specs.Trees.{Stmt, assign, branch, while, switch, call, return', Block, stop, also, Cases, end, case, Body, Function, Program}
-use Rattle.cg_heap.specs.Calls.{Out}
+use Rattle.cg_heap.specs.Calls.{Answer, Out}
 use Rattle.cg_heap.specs.declared.cell.Scalar.{Scalar}
 use Rattle.cg_heap.specs.declared.cell.Scalar.TheVariants.{Unset}
 use Rattle.cg_heap.specs.declared.foreign.Link.{Link}
 use Rattle.cg_heap.specs.Stored.{Stored}
 
--- what an abstract function does with scalars that represent a value that it takes, and what it costs
-pub record Answer : Type 0 where
-  pub cost : ℕ
-  pub out : Out
-
--- a program, with the abstract functions that some of its functions are, and what those answer; nothing where the scalars represent
--- nothing that they take
+-- a program, with the abstract functions that some of its functions are, and what a table answers to calls of those
 pub record Linked : Type 0 where
   pub program : Program
   pub links : List Link
@@ -123,28 +117,24 @@ state_behind s o = record { store = o.store; made = s.made ++ o.made; freed = s.
 abbrev pub has_size : Layout → List Scalar → Judged (Unit {0})
 has_size l us = cond (nat_eq (length us) (size l)) (ok tt) (no KindsDiffer)
 
--- what an abstract function answers to arguments that agree or don't, as a result of a type; its steps are judged before it runs
+-- What an abstract function answers to arguments that agree or don't, as a result of a type. Its steps are judged before it runs, and what
+-- it did stands, also where its result is of another size.
 abbrev pub answered : Judged (Unit {0}) → Layout → State → ℕ → Option Answer → Outcome (List Scalar)
 answered agrees l s left None = astray
 answered agrees l s left (Some a) =
-    lift s.store (on agrees (λ _. has_size l a.out.result)) (λ _. spend_for s.store a.cost left (λ rest. done a.out.result (state_behind s a.out) rest))
+    lift s.store agrees (λ _. spend_for s.store a.cost left (λ rest.
+    lift a.out.store (has_size l a.out.result) (λ _. done a.out.result (state_behind s a.out) rest)))
 
 abbrev pub call_abstract : Linked → Function → List ℕ → List Value → State → ℕ → Outcome Value
 call_abstract p f name vs s left =
     bind (answered (agree p.program.structs f.params vs) (layout p.program.structs f.ty) s left (p.asked name (flat_map scalars_of vs) s.store)) (λ us after rest.
-    lift s.store (read (layout p.program.structs f.ty) us) (λ v. done v after rest))
+    lift after.store (read (layout p.program.structs f.ty) us) (λ v. done v after rest))
 
 -- ---- statements
 
 module _ (p : Linked) where
   abbrev pub judged : Stored → Frame → COpnd → Judged Value
   judged = judge p.program.structs
-
-  -- a call of what is no function of the program, with whether its value is asked for
-  abbrev pub call_other : Callee → Bool → List Value → State → ℕ → Outcome Given
-  call_other (built b) wanted vs s left = called b wanted vs s left
-  call_other (abstract' f name) wanted vs s left = bind (call_abstract p f name vs s left) (λ v after rest. done (Some v) after rest)
-  call_other own wanted vs s left = done None s left
 
   -- an assignment of a value, in the state behind what gave it; where it is stuck, this store stands
   abbrev pub assigned : Stored → Frame → CPath → Value → State → ℕ → Outcome Flow
@@ -156,16 +146,19 @@ module _ (p : Linked) where
   assigned_given m fr t None s left = stuck KindsDiffer m
   assigned_given m fr t (Some v) s left = assigned m fr t v s left
 
-  -- An assignment of a call. What a function of the program did stands, also where the assignment is stuck behind it; what another
-  -- did is part of the assignment's step.
+  -- An assignment of a call. What a function did stands, also where the assignment is stuck behind it; what a built-in did is part of
+  -- the assignment's step.
   abbrev pub assigned_call : Calls → Callee → Frame → CPath → List ℕ → List Value → State → ℕ → Outcome Flow
   assigned_call calls own fr t f vs s left = bind (calls f vs s left) (λ v after rest. assigned after.store fr t v after rest)
-  assigned_call calls other fr t f vs s left = bind (call_other other true vs s left) (λ g after rest. assigned_given s.store fr t g after rest)
+  assigned_call calls (abstract' g name) fr t f vs s left =
+      bind (call_abstract p g name vs s left) (λ v after rest. assigned after.store fr t v after rest)
+  assigned_call calls (built b) fr t f vs s left = bind (called b true vs s left) (λ g after rest. assigned_given s.store fr t g after rest)
 
   -- a call whose value nobody takes
   abbrev pub dropped_call : Calls → Callee → Frame → List ℕ → List Value → State → ℕ → Outcome Flow
   dropped_call calls own fr f vs s left = bind (calls f vs s left) (λ v after rest. done (goes fr) after rest)
-  dropped_call calls other fr f vs s left = bind (call_other other false vs s left) (λ g after rest. done (goes fr) after rest)
+  dropped_call calls (abstract' g name) fr f vs s left = bind (call_abstract p g name vs s left) (λ v after rest. done (goes fr) after rest)
+  dropped_call calls (built b) fr f vs s left = bind (called b false vs s left) (λ g after rest. done (goes fr) after rest)
 
   -- an assignment, whose step is counted
   abbrev pub run_assign : Calls → CPath → CRhs → Frame → State → ℕ → Outcome Flow
