@@ -1,0 +1,5 @@
+pub mod Groups
+pub mod Members
+pub mod Names
+pub mod Settling
+pub mod Slots
