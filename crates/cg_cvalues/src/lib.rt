@@ -1,0 +1,22 @@
+//! Values of C programs: what stands in frames and cells, what is done with it, and where it is written (docs/LANGUAGE.md, "The C
+//! subset"). A frame is one row of slots here, and a place in it is a number.
+#![tactic(auto)]
+
+mod assign;
+mod copied;
+mod fault;
+mod operate;
+mod place;
+mod read;
+#[cfg(test)]
+mod tests;
+mod value;
+mod words;
+
+pub use assign::write;
+pub use copied::Copied;
+pub use fault::RunFault;
+pub use operate::{compute, convert, flip};
+pub use place::{Operand, Place};
+pub use read::{judge, judge_all, read_local};
+pub use value::{CValue, address_in, give, is_of, push_scalars, word_in};
