@@ -1,0 +1,5 @@
+pub mod Calling
+pub mod Creating
+pub mod Prefixes
+pub mod Rooms
+pub mod Structs
