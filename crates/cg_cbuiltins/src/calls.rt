@@ -18,7 +18,6 @@ use cg_clayout::Shape;
 use cg_ctree::Why;
 use cg_cvalues::{CValue, Place, RunFault, write};
 use cg_heap::{Fresh, Scalar, Store};
-use std::alloc::Global;
 
 /// What a call does, where nobody takes its value.
 fn perform<S: Store>(
@@ -50,7 +49,6 @@ fn perform<S: Store>(
 
 /// A call whose value, if it gives one, nobody takes: the steps that are left.
 pub fn call<'a, S: Store>(
-    alloc: Global,
     store: &mut S,
     changes: &mut Changes,
     left: u64,
@@ -103,7 +101,6 @@ fn perform_into<'a, S: Store>(
 
 /// A call whose value is assigned to a place, in one step. Where the assignment is stuck, nothing has changed.
 pub fn call_into<'a, S: Store>(
-    alloc: Global,
     store: &mut S,
     changes: &mut Changes,
     slots: &mut [Scalar],
@@ -125,7 +122,6 @@ pub fn call_into<'a, S: Store>(
 
 /// `cg_new(heap, sizeof(struct S))`, whose value is assigned to a place, in one step. Where the assignment is stuck, nothing has changed.
 pub fn new_into<'a, S: Store>(
-    alloc: Global,
     store: &mut S,
     changes: &mut Changes,
     slots: &mut [Scalar],

@@ -18,6 +18,9 @@ use cg_base::Word;
 use cg_cvalues::{CValue, Place, RunFault, write};
 use cg_heap::{Fresh, Scalar, Store};
 
+/// How many elements an array has at most.
+const MOST_ELEMENTS: u32 = 1_048_576;
+
 /// A cell that is asked for: of an allocator, to be pointed to by a pointer to this struct; how many steps it takes, and whether it
 /// may be made at all.
 #[derive(Clone, Copy)]
@@ -42,7 +45,7 @@ pub(crate) fn array<'a>(word: Word, allocator: u64, count: u32) -> Request<'a>
         name: array_name(word),
         fresh: Fresh::Words(count),
         cost: count,
-        may: count <= 1_048_576,
+        may: count <= MOST_ELEMENTS,
     }
 }
 

@@ -13,10 +13,9 @@ use crate::act::Act;
 use crate::operands::{
     allocator_of, allocator_there, array_in, array_there, index_of, is_there, number_of,
 };
-use crate::widths::fits;
 use cg_base::Word;
 use cg_ctree::Why;
-use cg_cvalues::{CValue, address_in};
+use cg_cvalues::{CValue, address_in, fits};
 use cg_heap::{Form, Scalar, Store};
 
 /// A function that gives no value stands on the right of no assignment.

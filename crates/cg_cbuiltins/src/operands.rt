@@ -10,10 +10,10 @@ ghost use Rattle.cg_crun.specs.Layouts.{pointer};
 ghost use Rattle.cg_crun.specs.Outcomes.{on};
 ghost use Rattle.cg_cvalues.specs.Values.{Gives, value_of};
 
-use crate::widths::{array_name, fits, same};
+use crate::widths::array_name;
 use cg_base::Word;
 use cg_ctree::Why;
-use cg_cvalues::CValue;
+use cg_cvalues::{CValue, fits, same};
 use cg_heap::Store;
 
 /// The cell that an operand points to has to be there; of one that is no pointer nothing is asked yet.

@@ -1,9 +1,9 @@
 // Whether an assignment of a pointer can be done, before it is.
 #![tactic(auto, using(crate::proofs::Rooms::room_steps))]
 
-ghost use Rattle.std.specs.Prelude.{◌≡◌, ℕ, ◌+◌, ◌<◌, ◌^◌, ◌||◌, [], ◌∷◌, Some, nat_eq, nat_le};
+ghost use Rattle.std.specs.Prelude.{◌≡◌, ℕ, ◌+◌, ◌<◌, ◌^◌, [], ◌∷◌, Some};
 ghost use Rattle.cg_clayout.specs.Kinds.{layout_of};
-ghost use Rattle.cg_crun.specs.Layouts.{pointer, size};
+ghost use Rattle.cg_crun.specs.Layouts.{pointer};
 ghost use Rattle.cg_crun.specs.Operands.{give, typed};
 ghost use Rattle.cg_cvalues.specs.Values.{write_behind, write_place};
 ghost use Rattle.cg_cbuiltins.specs.Acts.{refusal as refusal_of, room_of, with_made};
@@ -12,7 +12,7 @@ ghost use Rattle.cg_heap.specs.Stored.{Stored, cell_at, fresh_cell};
 
 use cg_clayout::{Kind, Part};
 use cg_ctree::Why;
-use cg_cvalues::Place;
+use cg_cvalues::{Place, has_room};
 use cg_heap::{Form, Fresh, Scalar, Store};
 
 /// What an assignment to a part of a cell asks of the cell.
@@ -74,14 +74,6 @@ fn refused_as(kind: Kind<'_>, name: &[u8]) -> Option<Why>
     }
 }
 
-/// Whether all slots of a part stand in a cell of so many; a part without slots stands in every cell.
-fn has_room(count: u32, part: Part<'_>) -> bool
-    ensures { result ≡ (nat_eq (size (layout_of part.entry.kind)) 0 || nat_le (part.entry.start + size (layout_of part.entry.kind)) count) }
-{
-    let size = part.kind.size();
-    size == 0 || part.start as u64 + size as u64 <= count as u64
-}
-
 /// Why a pointer to a struct can't be assigned to a part of a cell; None where it can.
 fn refused_in(room: Room, part: Option<Part<'_>>, name: &[u8]) -> Option<Why>
     ensures { (m : Stored) (at p : ℕ) → room ≡ room_of (cell_at m at) → result ≡ refusal_of (write_behind m at part.entry (typed (pointer name.now) (Address p ∷ []))) }
@@ -89,7 +81,8 @@ fn refused_in(room: Room, part: Option<Part<'_>>, name: &[u8]) -> Option<Why>
     match (room, part) {
         (Room::Absent, _) => Some(Why::NoCell),
         (_, None) => Some(Why::KindsDiffer),
-        (Room::Slots(count), Some(part)) if has_room(count, part) => refused_as(part.kind, name),
+        (Room::Slots(count), Some(part)) if has_room(count, part.start, part.kind.size()) =>
+            refused_as(part.kind, name),
         _ => Some(Why::NoCell),
     }
 }

@@ -1,9 +1,10 @@
 // Arrays and records on a store over an ordered map, by calls that follow each other.
 #![tactic(auto, using(cg_clayout::proofs::Groups::one_word))]
 
-use crate::{BuiltIn, Changes, call, call_into, named};
+use crate::{BuiltIn, Changes, call, call_into, named, new_into};
 use cg_base::{Items, Memory, Name, Word};
-use cg_clayout::Kind;
+use cg_clayout::{Kind, Structs};
+use cg_ctree::{CDecl, CStruct, CTy};
 use cg_cvalues::{CValue, Place};
 use cg_heap::{Cell, Fresh, MapStore, Scalar, Store};
 use std::alloc::Global;
@@ -12,7 +13,6 @@ use std::test::Fail;
 /// A heap of one run.
 #[derive(Drop)]
 struct Heap {
-    alloc: Global,
     store: MapStore,
     changes: Changes,
 }
@@ -25,7 +25,6 @@ fn with_allocator(alloc: Global) -> Result<Heap, Memory> {
     let mut store = MapStore::new(alloc);
     store.place(1, Cell::Answers(answers))?;
     Ok(Heap {
-        alloc,
         store,
         changes: Changes {
             made: Vec::new(alloc),
@@ -39,15 +38,7 @@ fn done(heap: &mut Heap, built_in: BuiltIn, values: &[CValue<'_>]) -> Option<u64
     if heap.store.top() > 100 {
         return None;
     }
-    call(
-        heap.alloc,
-        &mut heap.store,
-        &mut heap.changes,
-        100,
-        built_in,
-        values,
-    )
-    .ok()
+    call(&mut heap.store, &mut heap.changes, 100, built_in, values).ok()
 }
 
 /// The steps that are left of 100 behind a call whose value is assigned to a frame's only variable, and what it holds then.
@@ -63,7 +54,6 @@ fn given(
     let mut slots = [Scalar::Unset];
     let place = Place::Local(0, kind);
     let left = call_into(
-        heap.alloc,
         &mut heap.store,
         &mut heap.changes,
         &mut slots,
@@ -145,6 +135,56 @@ fn arrays_are_read_and_written(rt: HostRuntime) -> Result<(), Fail> {
     assert!(rt; matches!(element(&mut heap, 1), Some((100, Scalar::Word(7)))));
     assert!(rt; matches!(element(&mut heap, 3), Some((100, Scalar::Word(0)))));
     assert!(rt; matches!(length(&mut heap), Some((100, Scalar::Word(3)))));
+    Ok(())
+}
+
+/// `struct S { uint32_t n; };`, alone.
+fn structs(alloc: Global) -> Result<Items<CStruct>, Memory> {
+    let mut members = Items::new(alloc);
+    members.push(CDecl {
+        ty: CTy::Word(Word::U32),
+        name: Name::new(alloc, b"n")?,
+    })?;
+    let mut structs = Items::new(alloc);
+    structs.push(CStruct {
+        name: Name::new(alloc, b"S")?,
+        members,
+    })?;
+    Ok(structs)
+}
+
+/// Asks for a record, whose address is assigned to a frame's only variable: what that holds then.
+fn record<'a>(heap: &mut Heap, name: &'a Name, structs: &Structs<'a>) -> Option<Scalar> {
+    if heap.store.top() > 100 {
+        return None;
+    }
+    let mut slots = [Scalar::Unset];
+    let place = Place::Local(0, Kind::Pointer(name));
+    let left = new_into(
+        &mut heap.store,
+        &mut heap.changes,
+        &mut slots,
+        100,
+        name,
+        structs.shape(name),
+        &allocator(),
+        place,
+    );
+    match left {
+        Ok(100) => Some(slots[0]),
+        _ => None,
+    }
+}
+
+#[test]
+fn records_are_made(rt: HostRuntime) -> Result<(), Fail> {
+    let structs = structs(rt.alloc())?;
+    let table = Structs::new(rt.alloc(), structs.as_slice())?;
+    let name = Name::new(rt.alloc(), b"S")?;
+    let mut heap = with_allocator(rt.alloc())?;
+    assert!(rt; matches!(record(&mut heap, &name, &table), Some(Scalar::Address(2))));
+    assert!(rt; heap.store.len(2) == Some(1));
+    assert!(rt; matches!(record(&mut heap, &name, &table), Some(Scalar::Address(0))));
     Ok(())
 }
 

@@ -35,34 +35,43 @@ fn holder(alloc: Global) -> Result<CStruct, Memory> {
     })
 }
 
+/// The struct that holds another, and then the other.
+fn both(alloc: Global) -> Result<Items<CStruct>, Memory> {
+    let mut structs = Items::new(alloc);
+    structs.push(holder(alloc)?)?;
+    structs.push(pair(alloc)?)?;
+    Ok(structs)
+}
+
+/// The path `p.b`.
+fn path(alloc: Global) -> Result<Items<Name>, Memory> {
+    let mut path = Items::new(alloc);
+    path.push(Name::new(alloc, b"p")?)?;
+    path.push(Name::new(alloc, b"b")?)?;
+    Ok(path)
+}
+
 /// Where the part of a struct stands that a path leads to, if that is a byte.
-fn byte_at(
-    alloc: Global,
-    structs: &[CStruct],
-    name: &Name,
-    path: &[Name],
-) -> Result<Option<u32>, Memory> {
-    let table = Structs::new(alloc, structs)?;
-    match table.part_of(name, path) {
-        Some(part) => match part.kind {
-            Kind::Word(Word::U8) => Ok(Some(part.start)),
-            _ => Ok(None),
-        },
-        None => Ok(None),
+fn byte_at(structs: &Structs<'_>, name: &Name, path: &[Name]) -> Option<u32> {
+    let part = structs.part_of(name, path)?;
+    match part.kind {
+        Kind::Word(Word::U8) => Some(part.start),
+        _ => None,
     }
+}
+
+/// Where `p.b` stands in the struct that holds another.
+fn inner_byte(alloc: Global, structs: &[CStruct]) -> Result<Option<u32>, Memory> {
+    let name = Name::new(alloc, b"S")?;
+    let path = path(alloc)?;
+    let table = Structs::new(alloc, structs)?;
+    Ok(byte_at(&table, &name, path.as_slice()))
 }
 
 #[test]
 fn members_stand_behind_each_other(rt: HostRuntime) -> Result<(), Fail> {
-    let alloc = rt.alloc();
-    let mut structs = Items::new(alloc);
-    structs.push(holder(alloc)?)?;
-    structs.push(pair(alloc)?)?;
-    let name = Name::new(alloc, b"S")?;
-    let mut path = Items::new(alloc);
-    path.push(Name::new(alloc, b"p")?)?;
-    path.push(Name::new(alloc, b"b")?)?;
-    let at = byte_at(alloc, structs.as_slice(), &name, path.as_slice())?;
+    let structs = both(rt.alloc())?;
+    let at = inner_byte(rt.alloc(), structs.as_slice())?;
     assert!(rt; at == Some(2));
     Ok(())
 }

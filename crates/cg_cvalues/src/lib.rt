@@ -18,5 +18,6 @@ pub use copied::Copied;
 pub use fault::RunFault;
 pub use operate::{compute, convert, flip};
 pub use place::{Operand, Place};
-pub use read::{judge, judge_all, read_local};
+pub use read::{has_room, judge, judge_all, read_local};
 pub use value::{CValue, address_in, give, is_of, push_scalars, word_in};
+pub use words::{fits, same};

@@ -102,7 +102,7 @@ fn read_length<S: Store>(store: &S, address: u64) -> Option<u32>
 }
 
 /// Whether a part of so many slots from one on stands in a cell of this length; a part without slots stands in every cell.
-pub(crate) fn has_room(len: u32, start: u32, size: u32) -> bool
+pub fn has_room(len: u32, start: u32, size: u32) -> bool
     ensures { result ≡ (nat_eq size 0 || nat_le (start + size) len) }
 {
     size == 0 || (start <= len && size <= len - start)

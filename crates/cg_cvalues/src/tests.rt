@@ -4,10 +4,11 @@ ghost use Rattle.cg_base.specs.declared.kind.Word.TheVariants.{U8};
 ghost use Rattle.cg_clayout.specs.declared.kind.Kind.TheVariants.{Word as IsWord};
 ghost use Rattle.cg_cvalues.specs.declared.place.Place.TheVariants.{Behind};
 
-use crate::{CValue, Operand, Place, judge, judge_all, push_scalars, write};
+use crate::{CValue, Operand, Place, RunFault, judge, judge_all, push_scalars, write};
 use cg_base::Word;
 use cg_clayout::{Kind, Part};
 use cg_heap::{Fresh, MapStore, Scalar, Store};
+use std::alloc::Global;
 use std::test::Fail;
 
 /// A byte at a slot of the cell whose address is in the first slot of a frame.
@@ -50,25 +51,34 @@ fn what_is_written_is_in_range(rt: HostRuntime) -> Result<(), Fail> {
     Ok(())
 }
 
-#[test]
-fn operands_are_read_in_order(rt: HostRuntime) -> Result<(), Fail> {
-    let alloc = rt.alloc();
-    let mut store = MapStore::new(alloc);
-    let mut slots = [Scalar::Unset, Scalar::Unset];
-    let word = Place::Local(1, Kind::Word(Word::U32));
-    let written = write(
-        &mut store,
-        &mut slots,
-        word,
-        CValue::Word(Word::U32, 70_000),
-    );
-    let operands = [Operand::Number(3), Operand::Place(word)];
-    let values = judge_all(alloc, &store, &slots, &operands)?;
+/// The scalars of a number and of what stands at a place of a frame, in order.
+fn both(
+    alloc: Global,
+    store: &MapStore,
+    slots: &[Scalar],
+    place: Place<'_>,
+) -> Result<Vec<Scalar>, RunFault> {
+    let values = judge_all(
+        alloc,
+        store,
+        slots,
+        &[Operand::Number(3), Operand::Place(place)],
+    )?;
     let mut scalars = Vec::new(alloc);
     for value in &values {
         push_scalars(&mut scalars, value)?;
     }
-    assert!(rt; written.is_ok());
+    Ok(scalars)
+}
+
+#[test]
+fn operands_are_read_in_order(rt: HostRuntime) -> Result<(), Fail> {
+    let mut store = MapStore::new(rt.alloc());
+    let mut slots = [Scalar::Unset, Scalar::Unset];
+    let word = Place::Local(1, Kind::Word(Word::U32));
+    let seventy = CValue::Word(Word::U32, 70_000);
+    assert!(rt; write(&mut store, &mut slots, word, seventy).is_ok());
+    let scalars = both(rt.alloc(), &store, &slots, word)?;
     assert!(rt; matches!(scalars.as_slice(), [Scalar::Word(3), Scalar::Word(70_000)]));
     Ok(())
 }

@@ -35,7 +35,7 @@ fn greatest(word: Word) -> u64
 }
 
 /// Whether a number is in range of a word.
-pub(crate) fn fits(word: Word, number: u64) -> bool
+pub fn fits(word: Word, number: u64) -> bool
     ensures { result ≡ nat_lt number (2 ^ bits word) }
 {
     match word {
@@ -59,7 +59,7 @@ pub(crate) fn wrapped(word: Word, number: u64) -> u64
 }
 
 /// Whether two words are the same.
-pub(crate) fn same(a: Word, b: Word) -> bool
+pub fn same(a: Word, b: Word) -> bool
     ensures { result ≡ same_word a b }
 {
     match (a, b) {
