@@ -52,7 +52,7 @@ fn path(alloc: Global) -> Result<Items<Name>, Memory> {
 }
 
 /// Where the part of a struct stands that a path leads to, if that is a byte.
-fn byte_at(structs: &Structs<'_>, name: &Name, path: &[Name]) -> Option<u32> {
+fn byte_at<'a>(structs: &Structs<'a>, name: &'a Name, path: &[Name]) -> Option<u32> {
     let part = structs.part_of(name, path)?;
     match part.kind {
         Kind::Word(Word::U8) => Some(part.start),
@@ -60,18 +60,22 @@ fn byte_at(structs: &Structs<'_>, name: &Name, path: &[Name]) -> Option<u32> {
     }
 }
 
-/// Where `p.b` stands in the struct that holds another.
-fn inner_byte(alloc: Global, structs: &[CStruct]) -> Result<Option<u32>, Memory> {
-    let name = Name::new(alloc, b"S")?;
+/// Where `p.b` stands in the struct of a name.
+fn inner_byte<'a>(
+    alloc: Global,
+    structs: &'a [CStruct],
+    name: &'a Name,
+) -> Result<Option<u32>, Memory> {
     let path = path(alloc)?;
     let table = Structs::new(alloc, structs)?;
-    Ok(byte_at(&table, &name, path.as_slice()))
+    Ok(byte_at(&table, name, path.as_slice()))
 }
 
 #[test]
 fn members_stand_behind_each_other(rt: HostRuntime) -> Result<(), Fail> {
     let structs = both(rt.alloc())?;
-    let at = inner_byte(rt.alloc(), structs.as_slice())?;
+    let name = Name::new(rt.alloc(), b"S")?;
+    let at = inner_byte(rt.alloc(), structs.as_slice(), &name)?;
     assert!(rt; at == Some(2));
     Ok(())
 }
