@@ -1,8 +1,9 @@
 // Values that are written and read, in a frame and in the cells of a store.
-ghost use Rattle.std.specs.Prelude.{◌≡◌, Some};
+ghost use Rattle.std.specs.Prelude.{◌≡◌, Some, length};
 ghost use Rattle.cg_base.specs.declared.kind.Word.TheVariants.{U8};
 ghost use Rattle.cg_clayout.specs.declared.kind.Kind.TheVariants.{Word as IsWord};
 ghost use Rattle.cg_cvalues.specs.declared.place.Place.TheVariants.{Behind};
+ghost use Rattle.cg_cvalues.specs.Values.{IsWithin};
 
 use crate::{CValue, Operand, Place, RunFault, judge, judge_all, push_scalars, write};
 use cg_base::Word;
@@ -57,7 +58,9 @@ fn both(
     store: &MapStore,
     slots: &[Scalar],
     place: Place<'_>,
-) -> Result<Vec<Scalar>, RunFault> {
+) -> Result<Vec<Scalar>, RunFault>
+    requires { IsWithin (length slots.now) place }
+{
     let values = judge_all(
         alloc,
         store,
