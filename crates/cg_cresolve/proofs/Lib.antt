@@ -1,0 +1,11 @@
+pub mod Bodies
+pub mod Callees
+pub mod Grows
+pub mod Indexes
+pub mod Leading
+pub mod Lookups
+pub mod Meanings
+pub mod Places
+pub mod Positions
+pub mod Queues
+pub mod Variables
