@@ -1,13 +1,5 @@
-pub mod Carried
-pub mod DeclarationComplete
-pub mod DeclarationSound
-pub mod Digits
-pub mod Known
 pub mod LineComplete
 pub mod LineSound
-pub mod Lists
-pub mod OperandComplete
-pub mod OperandSound
 pub mod RightComplete
 pub mod RightSound
 pub mod Shut

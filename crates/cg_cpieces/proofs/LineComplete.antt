@@ -8,22 +8,22 @@ use Rattle.cg_ctree.specs.Spells.{◌then◌, mark, keyword, token, ReadsPath, R
 use Rattle.cg_ctree.specs.Tokens.{name, Lexeme}
 use Rattle.cg_ctree.specs.Trees.{Stmt, assign, call, return'}
 use Rattle.cg_cpieces.specs.Lines.{line_begin, filled, argued, on_argument, tested, assignment, operand_line, line_step, line_end}
-use Rattle.cg_cpieces.specs.Operands.{path_of, operand_step, operand_end}
+use Rattle.cg_cparts.specs.Operands.{path_of, operand_step, operand_end}
 use Rattle.cg_cpieces.specs.Rights.{right_step}
-use Rattle.cg_cpieces.specs.Symbols.{Symbol, named, keyed, number, opening, closing, comma, equals, is_part, goes_on, is_end, key_text, token_of}
+use Rattle.cg_cparts.specs.Symbols.{Symbol, named, keyed, number, opening, closing, comma, equals, is_part, goes_on, is_end, key_text, token_of}
 use Rattle.cg_cpieces.specs.declared.line.Test.{Test}
 use Rattle.cg_cpieces.specs.declared.line.Role.{Role}
 use Rattle.cg_cpieces.specs.declared.line.Role.TheVariants as role
 use Rattle.cg_cpieces.specs.declared.line.Line.{Line}
 use Rattle.cg_cpieces.specs.declared.line.Line.TheVariants as line
-use Rattle.cg_cpieces.specs.declared.operand.Operand.{Operand}
-use Rattle.cg_cpieces.specs.declared.operand.Operand.TheVariants as operand
+use Rattle.cg_cparts.specs.declared.operand.Operand.{Operand}
+use Rattle.cg_cparts.specs.declared.operand.Operand.TheVariants as operand
 use Rattle.cg_cpieces.specs.declared.right.Right.{Right}
-use Rattle.cg_cpieces.specs.declared.symbol.Keyword.{Keyword}
-use Rattle.cg_cpieces.specs.declared.symbol.Keyword.TheVariants as key
-use Rattle.cg_cpieces.proofs.Carried.{Moves}
-use Rattle.cg_cpieces.proofs.Known.{Fits}
-use Rattle.cg_cpieces.proofs.OperandComplete.{members_read, operand_read}
+use Rattle.cg_cparts.specs.declared.symbol.Keyword.{Keyword}
+use Rattle.cg_cparts.specs.declared.symbol.Keyword.TheVariants as key
+use Rattle.cg_cparts.proofs.Carried.{Moves}
+use Rattle.cg_cparts.proofs.Known.{Fits}
+use Rattle.cg_cparts.proofs.OperandComplete.{members_read, operand_read}
 use Rattle.cg_cpieces.proofs.RightComplete.{part_goes_on, right_read}
 
 module _ (P : Line → List Lexeme → Type 0) (move : Moves Line line_step goes_on P) where

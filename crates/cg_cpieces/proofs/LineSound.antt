@@ -9,22 +9,22 @@ use Rattle.cg_ctree.specs.Spells.{Reading, ◌then◌, token, keyword, mark, Rea
 use Rattle.cg_ctree.specs.Tokens.{name, Lexeme}
 use Rattle.cg_ctree.specs.Trees.{Stmt}
 use Rattle.cg_cpieces.specs.Lines.{line_begin, called, on_target, targeted, on_argument, argued, on_tested, tested, filled, on_operand, on_call, on_test, line_step, assignment, operand_line, line_end, line_test}
-use Rattle.cg_cpieces.specs.Operands.{operand_step, operand_end, path_end, path_name}
+use Rattle.cg_cparts.specs.Operands.{operand_step, operand_end, path_end, path_name}
 use Rattle.cg_cpieces.specs.Rights.{right_end}
-use Rattle.cg_cpieces.specs.Symbols.{Symbol, named, keyed, opening, closing, comma, equals, is_part, key_text}
+use Rattle.cg_cparts.specs.Symbols.{Symbol, named, keyed, opening, closing, comma, equals, is_part, key_text}
 use Rattle.cg_cpieces.specs.declared.line.Test.{Test}
 use Rattle.cg_cpieces.specs.declared.line.Test.TheVariants as test
 use Rattle.cg_cpieces.specs.declared.line.Role.{Role}
 use Rattle.cg_cpieces.specs.declared.line.Role.TheVariants as role
 use Rattle.cg_cpieces.specs.declared.line.Line.{Line}
 use Rattle.cg_cpieces.specs.declared.line.Line.TheVariants as line
-use Rattle.cg_cpieces.specs.declared.operand.Operand.{Operand}
-use Rattle.cg_cpieces.specs.declared.operand.Operand.TheVariants as operand
-use Rattle.cg_cpieces.specs.declared.symbol.Keyword.{Keyword}
-use Rattle.cg_cpieces.specs.declared.symbol.Keyword.TheVariants as key
-use Rattle.cg_cpieces.proofs.Known.{Means, seen}
-use Rattle.cg_cpieces.proofs.Lists.{Trailing, front, some_behind, trailing_behind}
-use Rattle.cg_cpieces.proofs.OperandSound.{OperandRead, OpndIs, PathIs, NameIs, operand_is, path_is, path_name_is, operand_holds, first}
+use Rattle.cg_cparts.specs.declared.operand.Operand.{Operand}
+use Rattle.cg_cparts.specs.declared.operand.Operand.TheVariants as operand
+use Rattle.cg_cparts.specs.declared.symbol.Keyword.{Keyword}
+use Rattle.cg_cparts.specs.declared.symbol.Keyword.TheVariants as key
+use Rattle.cg_cparts.proofs.Known.{Means, seen}
+use Rattle.cg_cparts.proofs.Lists.{Trailing, front, some_behind, trailing_behind}
+use Rattle.cg_cparts.proofs.OperandSound.{OperandRead, OpndIs, PathIs, NameIs, operand_is, path_is, path_name_is, operand_holds, first}
 use Rattle.cg_cpieces.proofs.RightSound.{RightRead, RightIs, right_holds, right_is}
 
 -- the word of a test

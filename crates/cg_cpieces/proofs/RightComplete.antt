@@ -11,11 +11,11 @@ use Rattle.cg_ctree.specs.declared.tree.CRhs.{CRhs}
 use Rattle.cg_ctree.specs.declared.tree.CRhs.TheVariants.{Opnd, Conv, Binary, Flip, IsNull, Call, New}
 use Rattle.cg_ctree.specs.Spells.{mark, token, IsInner, ReadsOpnd, ReadsTo, ReadsCast, ReadsMore, ReadsRight}
 use Rattle.cg_ctree.specs.Tokens.{plain, Lexeme}
-use Rattle.cg_cpieces.specs.Operands.{path_of, operand_step, operand_end}
+use Rattle.cg_cparts.specs.Operands.{path_of, operand_step, operand_end}
 use Rattle.cg_cpieces.specs.Rights.{is_inner, allows, behind, filled, operand_right, right_step, right_end}
-use Rattle.cg_cpieces.specs.Symbols.{Symbol, named, typed, keyed, number, count, opening, closing, comma, tilde, operation, is_part, goes_on, token_of}
-use Rattle.cg_cpieces.specs.declared.operand.Operand.{Operand}
-use Rattle.cg_cpieces.specs.declared.operand.Operand.TheVariants as operand
+use Rattle.cg_cparts.specs.Symbols.{Symbol, named, typed, keyed, number, count, opening, closing, comma, tilde, operation, is_part, goes_on, token_of}
+use Rattle.cg_cparts.specs.declared.operand.Operand.{Operand}
+use Rattle.cg_cparts.specs.declared.operand.Operand.TheVariants as operand
 use Rattle.cg_cpieces.specs.declared.right.Cast.{Cast}
 use Rattle.cg_cpieces.specs.declared.right.Cast.TheVariants.{OfFlip, OfLeft, OfRight}
 use Rattle.cg_cpieces.specs.declared.right.Spot.TheVariants.{Before, Opened, Typed}
@@ -24,11 +24,11 @@ use Rattle.cg_cpieces.specs.declared.right.Slot.TheVariants as slot
 use Rattle.cg_cpieces.specs.declared.right.Size.TheVariants as size
 use Rattle.cg_cpieces.specs.declared.right.Right.{Right}
 use Rattle.cg_cpieces.specs.declared.right.Right.TheVariants as right
-use Rattle.cg_cpieces.specs.declared.symbol.Keyword.TheVariants as key
-use Rattle.cg_cpieces.proofs.Carried.{Moves}
-use Rattle.cg_cpieces.proofs.Digits.{zero_text}
-use Rattle.cg_cpieces.proofs.Known.{Fits}
-use Rattle.cg_cpieces.proofs.OperandComplete.{operand_read}
+use Rattle.cg_cparts.specs.declared.symbol.Keyword.TheVariants as key
+use Rattle.cg_cparts.proofs.Carried.{Moves}
+use Rattle.cg_cparts.proofs.Digits.{zero_text}
+use Rattle.cg_cparts.proofs.Known.{Fits}
+use Rattle.cg_cparts.proofs.OperandComplete.{operand_read}
 
 is_inner_word : (v : Word) → IsInner v → is_inner v ≡ true
 is_inner_word U8 h = absurd h

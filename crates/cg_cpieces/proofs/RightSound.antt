@@ -13,11 +13,11 @@ use Rattle.cg_ctree.specs.declared.tree.COpnd.{COpnd}
 use Rattle.cg_ctree.specs.declared.tree.CRhs.{CRhs}
 use Rattle.cg_ctree.specs.Spells.{Reading, ◌then◌, token, keyword, mark, spelled, op_sign, IsInner, ReadsStructName, ReadsOpnd, ReadsTo, ReadsCast, ReadsSize, ReadsRight}
 use Rattle.cg_ctree.specs.Tokens.{name, word, plain, Lexeme}
-use Rattle.cg_cpieces.specs.Operands.{operand_step, operand_end, function_name}
+use Rattle.cg_cparts.specs.Operands.{operand_step, operand_end, function_name}
 use Rattle.cg_cpieces.specs.Rights.{is_inner, allows, in_operand, on_wanted, on_opened, on_typed, on_outer, on_null, on_inner, on_before, on_cast_opened, on_cast_typed, on_cast, on_behind, called, on_alone, on_tested, on_first, on_argument, behind, filled, on_operand, sized, on_second, on_zero, on_null_end, on_size, cast_step, right_step, operand_right, right_end}
-use Rattle.cg_cpieces.specs.Symbols.{Symbol, named, typed, keyed, count, opening, closing, comma, tilde, operation, is_part}
-use Rattle.cg_cpieces.specs.declared.operand.Operand.{Operand}
-use Rattle.cg_cpieces.specs.declared.operand.Operand.TheVariants as operand
+use Rattle.cg_cparts.specs.Symbols.{Symbol, named, typed, keyed, count, opening, closing, comma, tilde, operation, is_part}
+use Rattle.cg_cparts.specs.declared.operand.Operand.{Operand}
+use Rattle.cg_cparts.specs.declared.operand.Operand.TheVariants as operand
 use Rattle.cg_cpieces.specs.declared.right.Cast.{Cast}
 use Rattle.cg_cpieces.specs.declared.right.Cast.TheVariants.{OfFlip, OfLeft, OfRight}
 use Rattle.cg_cpieces.specs.declared.right.Spot.{Spot}
@@ -28,11 +28,11 @@ use Rattle.cg_cpieces.specs.declared.right.Size.{Size}
 use Rattle.cg_cpieces.specs.declared.right.Size.TheVariants as size
 use Rattle.cg_cpieces.specs.declared.right.Right.{Right}
 use Rattle.cg_cpieces.specs.declared.right.Right.TheVariants as right
-use Rattle.cg_cpieces.specs.declared.symbol.Keyword.TheVariants as key
-use Rattle.cg_cpieces.proofs.Digits.{zero_text}
-use Rattle.cg_cpieces.proofs.Known.{Means, seen}
-use Rattle.cg_cpieces.proofs.Lists.{Trailing, front, some_behind, trailing_behind}
-use Rattle.cg_cpieces.proofs.OperandSound.{OperandRead, OpndIs, NameIs, operand_is, function_name_is, operand_holds, first}
+use Rattle.cg_cparts.specs.declared.symbol.Keyword.TheVariants as key
+use Rattle.cg_cparts.proofs.Digits.{zero_text}
+use Rattle.cg_cparts.proofs.Known.{Means, seen}
+use Rattle.cg_cparts.proofs.Lists.{Trailing, front, some_behind, trailing_behind}
+use Rattle.cg_cparts.proofs.OperandSound.{OperandRead, OpndIs, NameIs, operand_is, function_name_is, operand_holds, first}
 
 -- the word of a cast is one that may stand there
 abbrev pub Allowed : Cast → Word → Type 0

@@ -5,11 +5,11 @@ use Rattle.cg_ctree.specs.declared.tree.COpnd.{COpnd}
 use Rattle.cg_ctree.specs.declared.tree.CPath.{CPath}
 use Rattle.cg_ctree.specs.declared.tree.CRhs.{CRhs}
 use Rattle.cg_ctree.specs.Trees.{Stmt, assign, call, return'}
-use Rattle.cg_cpieces.specs.Operands.{operand_step, operand_end, operand_is_open, path_name, path_end}
+use Rattle.cg_cparts.specs.Operands.{operand_step, operand_end, operand_is_open, path_name, path_end}
 use Rattle.cg_cpieces.specs.Rights.{right_step, right_end, right_is_open}
-use Rattle.cg_cpieces.specs.Symbols.{Symbol, named, keyed, opening, closing, comma, equals, is_part}
-use Rattle.cg_cpieces.specs.declared.operand.Operand.{Operand}
-use Rattle.cg_cpieces.specs.declared.operand.Operand.TheVariants as operand
+use Rattle.cg_cparts.specs.Symbols.{Symbol, named, keyed, opening, closing, comma, equals, is_part}
+use Rattle.cg_cparts.specs.declared.operand.Operand.{Operand}
+use Rattle.cg_cparts.specs.declared.operand.Operand.TheVariants as operand
 use Rattle.cg_cpieces.specs.declared.line.Test.{Test}
 use Rattle.cg_cpieces.specs.declared.line.Test.TheVariants as test
 use Rattle.cg_cpieces.specs.declared.line.Role.{Role}
@@ -17,7 +17,7 @@ use Rattle.cg_cpieces.specs.declared.line.Role.TheVariants as role
 use Rattle.cg_cpieces.specs.declared.line.Line.{Line}
 use Rattle.cg_cpieces.specs.declared.line.Line.TheVariants.{InOperand, Assigned, CallOpened, CallClosed, TestRead, TestClosed, Stuck}
 use Rattle.cg_cpieces.specs.declared.right.Right.TheVariants.{Wanted}
-use Rattle.cg_cpieces.specs.declared.symbol.Keyword.TheVariants as key
+use Rattle.cg_cparts.specs.declared.symbol.Keyword.TheVariants as key
 
 -- before a statement ("The C text", `stmt`)
 abbrev pub line_begin : Symbol → Line

@@ -8,10 +8,10 @@ use Rattle.cg_ctree.specs.declared.tree.COp.TheVariants.{Eq}
 use Rattle.cg_ctree.specs.declared.tree.COpnd.{COpnd}
 use Rattle.cg_ctree.specs.declared.tree.CRhs.{CRhs}
 use Rattle.cg_ctree.specs.declared.tree.CRhs.TheVariants.{Opnd, Conv, Binary, Flip, IsNull, Call, New}
-use Rattle.cg_cpieces.specs.Operands.{operand_step, operand_end, operand_is_open, function_name}
-use Rattle.cg_cpieces.specs.Symbols.{Symbol, named, typed, keyed, count, opening, closing, comma, tilde, operation, is_part}
-use Rattle.cg_cpieces.specs.declared.operand.Operand.{Operand}
-use Rattle.cg_cpieces.specs.declared.operand.Operand.TheVariants as operand
+use Rattle.cg_cparts.specs.Operands.{operand_step, operand_end, operand_is_open, function_name}
+use Rattle.cg_cparts.specs.Symbols.{Symbol, named, typed, keyed, count, opening, closing, comma, tilde, operation, is_part}
+use Rattle.cg_cparts.specs.declared.operand.Operand.{Operand}
+use Rattle.cg_cparts.specs.declared.operand.Operand.TheVariants as operand
 use Rattle.cg_cpieces.specs.declared.right.Cast.{Cast}
 use Rattle.cg_cpieces.specs.declared.right.Cast.TheVariants.{OfFlip, OfLeft, OfRight}
 use Rattle.cg_cpieces.specs.declared.right.Spot.{Spot}
@@ -22,7 +22,7 @@ use Rattle.cg_cpieces.specs.declared.right.Size.{Size}
 use Rattle.cg_cpieces.specs.declared.right.Size.TheVariants as size
 use Rattle.cg_cpieces.specs.declared.right.Right.{Right}
 use Rattle.cg_cpieces.specs.declared.right.Right.TheVariants as right
-use Rattle.cg_cpieces.specs.declared.symbol.Keyword.TheVariants as key
+use Rattle.cg_cparts.specs.declared.symbol.Keyword.TheVariants as key
 
 -- whether operands may be cast to a word ("The C text", `cast`)
 abbrev pub is_inner : Word → Bool

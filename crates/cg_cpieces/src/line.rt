@@ -1,14 +1,13 @@
 // Reading statements up to their `;`, or up to the `{` behind a test, one symbol at a time.
-ghost use Rattle.std.specs.Prelude.{◌≡◌, IfOk};
+ghost use Rattle.std.specs.Prelude.{◌≡◌, ◌++◌, ◌∷◌, [], IfOk};
 ghost use Rattle.std.specs.Option.{option_map};
 ghost use Rattle.cg_ctree.specs.Trees.{stmt_of};
 ghost use Rattle.cg_cpieces.specs.Lines as machine;
-ghost use Rattle.cg_cpieces.specs.Views.{symbol_view};
+ghost use Rattle.cg_cparts.specs.Views.{symbol_view};
 
-use crate::operand::{Operand, path_name};
 use crate::right::Right;
-use crate::symbol::{Keyword, Symbol};
 use cg_base::{Items, Memory, Name};
+use cg_cparts::{Keyword, Operand, Symbol, path_name};
 use cg_ctree::{COpnd, CPath, CStmt};
 use std::alloc::Global;
 
@@ -89,13 +88,19 @@ fn on_target<'a>(alloc: Global, path: CPath, symbol: Symbol<'a>) -> Result<Line,
 }
 
 // Behind an argument.
-fn on_argument<'a>(function: Name, arguments: Items<COpnd>, symbol: Symbol<'a>) -> Line
-    ensures { result ≡ machine.on_argument function arguments (symbol_view symbol.entry) }
+fn on_argument<'a>(
+    function: Name,
+    mut arguments: Items<COpnd>,
+    operand: COpnd,
+    symbol: Symbol<'a>,
+) -> Result<Line, Memory>
+    ensures { IfOk result (λ m. m ≡ machine.on_argument function (arguments ++ operand ∷ []) (symbol_view symbol.entry)) }
 {
+    arguments.push(operand)?;
     match symbol {
-        Symbol::Comma => Line::InOperand(Role::Argument(function, arguments), Operand::Wanted),
-        Symbol::Closing => Line::CallClosed(function, arguments),
-        _ => Line::Stuck,
+        Symbol::Comma => Ok(Line::InOperand(Role::Argument(function, arguments), Operand::Wanted)),
+        Symbol::Closing => Ok(Line::CallClosed(function, arguments)),
+        _ => Ok(Line::Stuck),
     }
 }
 
@@ -122,17 +127,14 @@ fn targeted<'a>(alloc: Global, path: Option<CPath>, symbol: Symbol<'a>) -> Resul
 // Behind an argument, where there is one.
 fn argued<'a>(
     function: Name,
-    mut arguments: Items<COpnd>,
+    arguments: Items<COpnd>,
     operand: Option<COpnd>,
     symbol: Symbol<'a>,
 ) -> Result<Line, Memory>
     ensures { IfOk result (λ m. m ≡ machine.argued function arguments operand (symbol_view symbol.entry)) }
 {
     match operand {
-        Some(operand) => {
-            arguments.push(operand)?;
-            Ok(on_argument(function, arguments, symbol))
-        }
+        Some(operand) => on_argument(function, arguments, operand, symbol),
         None => Ok(Line::Stuck),
     }
 }
@@ -229,10 +231,7 @@ impl Line {
         ensures { IfOk result (λ m. m ≡ machine.line_begin (symbol_view symbol.entry)) }
     {
         match symbol {
-            Symbol::Name(_) => {
-                let operand = Operand::Wanted.step(alloc, symbol)?;
-                Ok(Line::InOperand(Role::Target, operand))
-            }
+            Symbol::Name(_) => in_operand(alloc, Role::Target, Operand::Wanted, symbol),
             Symbol::Key(Keyword::Return) => Ok(Line::InOperand(Role::Returned, Operand::Wanted)),
             Symbol::Key(Keyword::If) => Ok(Line::TestRead(Test::If)),
             Symbol::Key(Keyword::While) => Ok(Line::TestRead(Test::While)),

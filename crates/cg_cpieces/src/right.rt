@@ -1,11 +1,10 @@
 // Reading right sides, one symbol at a time.
 ghost use Rattle.std.specs.Prelude.{◌≡◌, ◌++◌, ◌∷◌, [], IfOk, IsTrue, ◌↔◌, codes};
 ghost use Rattle.cg_cpieces.specs.Rights as machine;
-ghost use Rattle.cg_cpieces.specs.Views.{symbol_view};
+ghost use Rattle.cg_cparts.specs.Views.{symbol_view};
 
-use crate::operand::{Operand, function_name};
-use crate::symbol::{Keyword, Symbol};
 use cg_base::{Items, Memory, Name, Word};
+use cg_cparts::{Keyword, Operand, Symbol, function_name};
 use cg_ctree::{COp, COpnd, CRhs};
 use std::alloc::Global;
 
@@ -268,8 +267,7 @@ fn one(alloc: Global, operand: COpnd) -> Result<Items<COpnd>, Memory>
     ensures { IfOk result (λ operands. operands ≡ operand ∷ []) }
 {
     let mut operands = Items::new(alloc);
-    operands.push(operand)?;
-    Ok(operands)
+    operands.push(operand).and(Ok(operands))
 }
 
 // Behind the first argument.
@@ -283,27 +281,13 @@ fn behind_first<'a>(
 {
     match symbol {
         Symbol::Comma => Ok(Right::Second(function, operand)),
-        Symbol::Closing => {
-            let arguments = one(alloc, operand)?;
-            Ok(Right::Whole(CRhs::Call(function, arguments)))
-        }
+        Symbol::Closing => behind_argument(function, Items::new(alloc), operand, symbol),
         _ => Ok(Right::Stuck),
     }
 }
 
 // Behind a further argument.
-fn behind_argument<'a>(function: Name, arguments: Items<COpnd>, symbol: Symbol<'a>) -> Right
-    ensures { result ≡ machine.on_argument function arguments (symbol_view symbol.entry) }
-{
-    match symbol {
-        Symbol::Comma => Right::InOperand(Slot::Argument(function, arguments), Operand::Wanted),
-        Symbol::Closing => Right::Whole(CRhs::Call(function, arguments)),
-        _ => Right::Stuck,
-    }
-}
-
-// An argument more.
-fn further<'a>(
+fn behind_argument<'a>(
     function: Name,
     mut arguments: Items<COpnd>,
     operand: COpnd,
@@ -312,7 +296,11 @@ fn further<'a>(
     ensures { IfOk result (λ m. m ≡ machine.on_argument function (arguments ++ operand ∷ []) (symbol_view symbol.entry)) }
 {
     arguments.push(operand)?;
-    Ok(behind_argument(function, arguments, symbol))
+    match symbol {
+        Symbol::Comma => Ok(Right::InOperand(Slot::Argument(function, arguments), Operand::Wanted)),
+        Symbol::Closing => Ok(Right::Whole(CRhs::Call(function, arguments))),
+        _ => Ok(Right::Stuck),
+    }
 }
 
 impl Slot {
@@ -328,7 +316,9 @@ impl Slot {
                 Ok(behind_cast(outer, cast, word, operand, symbol))
             }
             Slot::First(function) => behind_first(alloc, function, operand, symbol),
-            Slot::Argument(function, arguments) => { further(function, arguments, operand, symbol) }
+            Slot::Argument(function, arguments) => {
+                behind_argument(function, arguments, operand, symbol)
+            }
         }
     }
 
@@ -397,7 +387,7 @@ fn null_sign<'a>(operand: COpnd, symbol: Symbol<'a>) -> Right
     ensures { result ≡ machine.on_zero operand (symbol_view symbol.entry) }
 {
     match symbol {
-        Symbol::Count(number) if number == 0 => Right::NullZero(operand),
+        Symbol::Count(0) => Right::NullZero(operand),
         _ => Right::Stuck,
     }
 }

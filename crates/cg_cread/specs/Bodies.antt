@@ -6,11 +6,11 @@ use Rattle.cg_ctree.specs.declared.tree.COpnd.{COpnd}
 use Rattle.cg_ctree.specs.Spells.{most_open}
 use Rattle.cg_ctree.specs.Trees.{Stmt, branch, while, Case, to_block, Function}
 use Rattle.cg_ctree.specs.Trees as trees
-use Rattle.cg_cpieces.specs.Declarations.{row_step, row_is_whole, row_is_open}
+use Rattle.cg_cparts.specs.Declarations.{row_step, row_is_whole, row_is_open}
 use Rattle.cg_cpieces.specs.Lines.{line_begin, line_step, line_end, line_test, line_is_open}
-use Rattle.cg_cpieces.specs.Symbols.{Symbol, begin, end, semicolon, is_type}
-use Rattle.cg_cpieces.specs.declared.declaration.Row.{Row}
-use Rattle.cg_cpieces.specs.declared.head.Signature.{Signature}
+use Rattle.cg_cparts.specs.Symbols.{Symbol, begin, end, semicolon, is_type}
+use Rattle.cg_cparts.specs.declared.declaration.Row.{Row}
+use Rattle.cg_cparts.specs.declared.head.Signature.{Signature}
 use Rattle.cg_cpieces.specs.declared.line.Test.{Test}
 use Rattle.cg_cpieces.specs.declared.line.Test.TheVariants as test
 use Rattle.cg_cpieces.specs.declared.line.Line.{Line}

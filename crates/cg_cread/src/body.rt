@@ -1,15 +1,16 @@
 // Reading the bodies of functions, one symbol at a time, with what is open in a stack.
-ghost use Rattle.std.specs.Prelude.{◌≡◌, IfOk, map};
+ghost use Rattle.std.specs.Prelude.{◌≡◌, IfOk};
 ghost use Rattle.std.specs.Option.{option_map};
-ghost use Rattle.cg_ctree.specs.Trees.{branch, while, to_block, stmt_of, function_of};
-ghost use Rattle.cg_cpieces.specs.Views.{symbol_view};
+ghost use Rattle.cg_ctree.specs.Trees.{stmt_of, function_of};
+ghost use Rattle.cg_cparts.specs.Views.{symbol_view};
 ghost use Rattle.cg_cread.specs.Bodies as machine;
 ghost use Rattle.cg_cread.specs.Views.{level_of, opened_of, gap_of, nest_of, body_of};
 
 use crate::block::{Arms, Frame, Level, Opened, Stack};
 use crate::gap::Gap;
 use cg_base::{Items, Memory};
-use cg_cpieces::{Line, Row, Signature, Symbol, Test};
+use cg_cparts::{Row, Signature, Symbol};
+use cg_cpieces::{Line, Test};
 use cg_ctree::{CBody, CCase, CDecl, CFun, COpnd, CStmt};
 use std::alloc::Global;
 
@@ -101,17 +102,17 @@ impl Nest {
         head.function(Some(CBody { locals, stmts }))
     }
 
-    // A statement more in the block that is read.
-    fn with_statement(mut self, statement: CStmt) -> Result<Nest, Memory>
-        ensures { IfOk result (λ n. nest_of n ≡ machine.with_statement (nest_of self) (stmt_of statement)) }
+    // Behind a statement more in the block that is read.
+    fn with_statement(mut self, statement: CStmt) -> Result<Body, Memory>
+        ensures { IfOk result (λ m. body_of m ≡ machine.Statements (machine.with_statement (nest_of self) (stmt_of statement))) }
     {
-        self.level.stmts.push(statement)?;
-        Ok(self)
+        let pushed = self.level.stmts.push(statement);
+        pushed.and(Ok(Body::Statements(self)))
     }
 
-    // A block more, in which so many statements may be open.
-    fn opening(self, alloc: Global, room: u32, opened: Opened) -> Result<Nest, Memory>
-        ensures { IfOk result (λ n. nest_of n ≡ machine.opening room (nest_of self) (opened_of opened)) }
+    // At the beginning of a block more, in which so many statements may be open.
+    fn opening(self, alloc: Global, room: u32, opened: Opened) -> Result<Body, Memory>
+        ensures { IfOk result (λ m. body_of m ≡ machine.Statements (machine.opening room (nest_of self) (opened_of opened))) }
     {
         let Nest {
             head,
@@ -119,17 +120,17 @@ impl Nest {
             mut frames,
             level,
         } = self;
-        frames.push(Frame {
+        let pushed = frames.push(Frame {
             opened,
             around: level,
-        })?;
+        });
         let stmts = Items::new(alloc);
-        Ok(Nest {
+        pushed.and(Ok(Body::Statements(Nest {
             head,
             locals,
             frames,
             level: Level { room, stmts },
-        })
+        })))
     }
 
     // The block that is read, and all with the block round it in its place.
@@ -158,7 +159,7 @@ fn ended(nest: Nest, statement: Option<CStmt>) -> Result<Body, Memory>
     ensures { IfOk result (λ m. body_of m ≡ machine.ended (nest_of nest) (option_map stmt_of statement)) }
 {
     match statement {
-        Some(statement) => Ok(Body::Statements(nest.with_statement(statement)?)),
+        Some(statement) => nest.with_statement(statement),
         None => Ok(Body::Stuck),
     }
 }
@@ -168,7 +169,7 @@ fn opened(alloc: Global, room: u32, nest: Nest, opened: Option<Opened>) -> Resul
     ensures { IfOk result (λ m. body_of m ≡ machine.opened room (nest_of nest) (option_map opened_of opened)) }
 {
     match opened {
-        Some(opened) => Ok(Body::Statements(nest.opening(alloc, room, opened)?)),
+        Some(opened) => nest.opening(alloc, room, opened),
         None => Ok(Body::Stuck),
     }
 }
@@ -177,15 +178,14 @@ fn opened(alloc: Global, room: u32, nest: Nest, opened: Option<Opened>) -> Resul
 fn on_test(alloc: Global, room: u32, nest: Nest, test: Test, operand: COpnd) -> Result<Body, Memory>
     ensures { IfOk result (λ m. body_of m ≡ machine.on_test room (nest_of nest) test operand) }
 {
-    let opened = match test {
-        Test::If => Opened::Yes(operand),
-        Test::While => Opened::Loop(operand),
+    match test {
+        Test::If => nest.opening(alloc, room, Opened::Yes(operand)),
+        Test::While => nest.opening(alloc, room, Opened::Loop(operand)),
         Test::Switch => {
             let arms = Arms::new(alloc, operand);
-            return Ok(Body::InGap(room, nest, Gap::CaseWanted(arms)));
+            Ok(Body::InGap(room, nest, Gap::CaseWanted(arms)))
         }
-    };
-    Ok(Body::Statements(nest.opening(alloc, room, opened)?))
+    }
 }
 
 // Behind a test and its `{`, where there is one.
@@ -238,27 +238,6 @@ fn on_gap<'a>(
     }
 }
 
-// Behind the second part of an `if`.
-fn behind_no(
-    operand: COpnd,
-    yes: Items<CStmt>,
-    no: Items<CStmt>,
-    nest: Nest,
-) -> Result<Body, Memory>
-    ensures { IfOk result (λ m. body_of m ≡ machine.Statements (machine.with_statement (nest_of nest) (branch operand (to_block (map stmt_of yes)) (to_block (map stmt_of no))))) }
-{
-    let statement = CStmt::If(operand, yes, no);
-    Ok(Body::Statements(nest.with_statement(statement)?))
-}
-
-// Behind the block of a `while`.
-fn behind_loop(operand: COpnd, stmts: Items<CStmt>, nest: Nest) -> Result<Body, Memory>
-    ensures { IfOk result (λ m. body_of m ≡ machine.Statements (machine.with_statement (nest_of nest) (while operand (to_block (map stmt_of stmts))))) }
-{
-    let statement = CStmt::While(operand, stmts);
-    Ok(Body::Statements(nest.with_statement(statement)?))
-}
-
 impl Opened {
     // Behind a block, with the one round it.
     fn closes(self, level: Level, nest: Nest) -> Result<Body, Memory>
@@ -268,8 +247,8 @@ impl Opened {
         let stmts = level.statements();
         match self {
             Opened::Yes(operand) => Ok(Body::InGap(room, nest, Gap::BehindYes(operand, stmts))),
-            Opened::No(operand, yes) => behind_no(operand, yes, stmts, nest),
-            Opened::Loop(operand) => behind_loop(operand, stmts, nest),
+            Opened::No(operand, yes) => nest.with_statement(CStmt::If(operand, yes, stmts)),
+            Opened::Loop(operand) => nest.with_statement(CStmt::While(operand, stmts)),
             Opened::Case(arms, tag) => {
                 let case = CCase { tag, body: stmts };
                 Ok(Body::InGap(room, nest, Gap::CaseClosed(arms, case)))

@@ -2,7 +2,7 @@
 ghost use Rattle.std.specs.Prelude.{◌≡◌, IfOk};
 ghost use Rattle.std.specs.Option.{option_map};
 ghost use Rattle.cg_clexer.specs.Next.{lexeme};
-ghost use Rattle.cg_cpieces.specs.Views.{symbol_view};
+ghost use Rattle.cg_cparts.specs.Views.{symbol_view};
 ghost use Rattle.cg_ctree.specs.Trees.{function_of, program_of};
 ghost use Rattle.cg_cread.specs.Bodies as bodies;
 ghost use Rattle.cg_cread.specs.Machine as machine;
@@ -12,7 +12,7 @@ use crate::CFault;
 use crate::body::Body;
 use cg_base::{Items, Memory, Name, Place};
 use cg_clexer::Token;
-use cg_cpieces::{Declaration, Head, Row, Signature, Symbol, symbol_at};
+use cg_cparts::{Declaration, Head, Row, Signature, Symbol, symbol_at};
 use cg_ctree::{CDecl, CFun, CProgram, CStruct};
 use std::alloc::Global;
 use std::mem::drop;
@@ -42,20 +42,20 @@ impl Done {
         }
     }
 
-    // A struct more.
-    fn with_struct(mut self, name: Name, members: Items<CDecl>) -> Result<Done, Memory>
-        ensures { IfOk result (λ d. done_of d ≡ machine.with_struct (done_of self) (record { name = name; members = members })) }
+    // Behind a struct more.
+    fn with_struct(mut self, name: Name, members: Items<CDecl>) -> Result<Phase, Memory>
+        ensures { IfOk result (λ s. state_of s ≡ machine.Between (machine.with_struct (done_of self) (record { name = name; members = members }))) }
     {
-        self.structs.push(CStruct { name, members })?;
-        Ok(self)
+        let pushed = self.structs.push(CStruct { name, members });
+        pushed.and(Ok(Phase::Between(self)))
     }
 
-    // A function more.
-    fn with_function(mut self, function: CFun) -> Result<Done, Memory>
-        ensures { IfOk result (λ d. done_of d ≡ machine.with_function (done_of self) (function_of function)) }
+    // Behind a function more.
+    fn with_function(mut self, function: CFun) -> Result<Phase, Memory>
+        ensures { IfOk result (λ s. state_of s ≡ machine.Between (machine.with_function (done_of self) (function_of function))) }
     {
-        self.funs.push(function)?;
-        Ok(self)
+        let pushed = self.funs.push(function);
+        pushed.and(Ok(Phase::Between(self)))
     }
 
     // The program of these.
@@ -114,7 +114,7 @@ fn with_function(done: Done, function: Option<CFun>) -> Result<Phase, Memory>
     ensures { IfOk result (λ s. state_of s ≡ machine.closed (done_of done) (option_map function_of function)) }
 {
     match function {
-        Some(function) => Ok(Phase::Between(done.with_function(function)?)),
+        Some(function) => done.with_function(function),
         None => Ok(Phase::Failed),
     }
 }
@@ -152,7 +152,7 @@ fn declared(done: Done, head: Option<Signature>) -> Result<Phase, Memory>
     ensures { IfOk result (λ s. state_of s ≡ machine.declared (done_of done) head) }
 {
     match head {
-        Some(head) => with_function(done, Some(head.function(None))),
+        Some(head) => done.with_function(head.function(None)),
         None => Ok(Phase::Failed),
     }
 }
@@ -232,7 +232,7 @@ fn members_closed<'a>(
     ensures { IfOk result (λ s. state_of s ≡ machine.on_struct (done_of done) (record { name = name; members = members }) (symbol_view symbol.entry)) }
 {
     match symbol {
-        Symbol::Semicolon => Ok(Phase::Between(done.with_struct(name, members)?)),
+        Symbol::Semicolon => done.with_struct(name, members),
         _ => Ok(Phase::Failed),
     }
 }

@@ -8,18 +8,18 @@ use Rattle.cg_ctree.specs.declared.tree.CTy.{CTy}
 use Rattle.cg_ctree.specs.declared.tree.CTy.TheVariants as ty
 use Rattle.cg_ctree.specs.Spells.{◌then◌, mark, token, ReadsType, ReadsDecl, ReadsMore, ReadsSome, ReadsLocals, ReadsStructName}
 use Rattle.cg_ctree.specs.Tokens.{name, Lexeme}
-use Rattle.cg_cpieces.specs.Declarations.{declaration_step, is_whole, row, row_step}
-use Rattle.cg_cpieces.specs.Heads.{head_step}
-use Rattle.cg_cpieces.specs.Symbols.{Symbol, named, typed, keyed, opening, closing, comma, semicolon, operation, is_type, token_of}
-use Rattle.cg_cpieces.specs.declared.declaration.Declaration.{Declaration}
-use Rattle.cg_cpieces.specs.declared.declaration.Declaration.TheVariants.{Wanted, StructRead, Typed, Named, Stuck}
-use Rattle.cg_cpieces.specs.declared.declaration.Row.{Row}
-use Rattle.cg_cpieces.specs.declared.head.Signature.{Signature}
-use Rattle.cg_cpieces.specs.declared.head.Head.{Head}
-use Rattle.cg_cpieces.specs.declared.head.Head.TheVariants as head
-use Rattle.cg_cpieces.specs.declared.symbol.Keyword.TheVariants as key
-use Rattle.cg_cpieces.proofs.Carried.{Moves, MovesAt}
-use Rattle.cg_cpieces.proofs.Known.{Fits}
+use Rattle.cg_cparts.specs.Declarations.{declaration_step, is_whole, row, row_step}
+use Rattle.cg_cparts.specs.Heads.{head_step}
+use Rattle.cg_cparts.specs.Symbols.{Symbol, named, typed, keyed, opening, closing, comma, semicolon, operation, is_type, token_of}
+use Rattle.cg_cparts.specs.declared.declaration.Declaration.{Declaration}
+use Rattle.cg_cparts.specs.declared.declaration.Declaration.TheVariants.{Wanted, StructRead, Typed, Named, Stuck}
+use Rattle.cg_cparts.specs.declared.declaration.Row.{Row}
+use Rattle.cg_cparts.specs.declared.head.Signature.{Signature}
+use Rattle.cg_cparts.specs.declared.head.Head.{Head}
+use Rattle.cg_cparts.specs.declared.head.Head.TheVariants as head
+use Rattle.cg_cparts.specs.declared.symbol.Keyword.TheVariants as key
+use Rattle.cg_cparts.proofs.Carried.{Moves, MovesAt}
+use Rattle.cg_cparts.proofs.Known.{Fits}
 
 -- the symbols of a declaration
 abbrev pub in_type : Symbol → Bool

@@ -1,7 +1,7 @@
 // Reading the heads of functions, one symbol at a time.
 ghost use Rattle.std.specs.Prelude.{◌≡◌, IfOk};
-ghost use Rattle.cg_cpieces.specs.Heads as machine;
-ghost use Rattle.cg_cpieces.specs.Views.{symbol_view};
+ghost use Rattle.cg_cparts.specs.Heads as machine;
+ghost use Rattle.cg_cparts.specs.Views.{symbol_view};
 
 use crate::declaration::Declaration;
 use crate::symbol::Symbol;
@@ -91,8 +91,8 @@ fn parted(mut signature: Signature, declaration: Option<CDecl>) -> Result<Head, 
 {
     match declaration {
         Some(declaration) => {
-            signature.params.push(declaration)?;
-            Ok(Head::InParam(signature, Declaration::Wanted))
+            let pushed = signature.params.push(declaration);
+            pushed.and(Ok(Head::InParam(signature, Declaration::Wanted)))
         }
         None => Ok(Head::Stuck),
     }
@@ -104,8 +104,8 @@ fn closed(mut signature: Signature, declaration: Option<CDecl>) -> Result<Head, 
 {
     match declaration {
         Some(declaration) => {
-            signature.params.push(declaration)?;
-            Ok(Head::Closed(signature))
+            let pushed = signature.params.push(declaration);
+            pushed.and(Ok(Head::Closed(signature)))
         }
         None => Ok(Head::Stuck),
     }

@@ -7,20 +7,20 @@ use Rattle.cg_ctree.specs.declared.tree.CTy.{CTy}
 use Rattle.cg_ctree.specs.declared.tree.CTy.TheVariants as ty
 use Rattle.cg_ctree.specs.Spells.{Reading, ◌then◌, keyword, mark, ReadsStructName, ReadsType, ReadsDecl, ReadsSome, ReadsLocals}
 use Rattle.cg_ctree.specs.Tokens.{Lexeme}
-use Rattle.cg_cpieces.specs.Declarations as declarations
-use Rattle.cg_cpieces.specs.Declarations.{decl_of, starred, declaration_step, declaration_end, declaration_parts, type_struct, declaration_struct, declared, on_row, row_step}
-use Rattle.cg_cpieces.specs.Heads.{opened, on_name, parted, closed, on_param, head_step, head_end, head_struct}
-use Rattle.cg_cpieces.specs.Symbols.{Symbol, named, typed, keyed, opening, closing, comma, semicolon, operation}
-use Rattle.cg_cpieces.specs.declared.declaration.Declaration.{Declaration}
-use Rattle.cg_cpieces.specs.declared.declaration.Declaration.TheVariants.{Wanted, StructRead, Typed, Named, Stuck}
-use Rattle.cg_cpieces.specs.declared.declaration.Row.{Row}
-use Rattle.cg_cpieces.specs.declared.head.Signature.{Signature}
-use Rattle.cg_cpieces.specs.declared.head.Head.{Head}
-use Rattle.cg_cpieces.specs.declared.head.Head.TheVariants as head
-use Rattle.cg_cpieces.specs.declared.symbol.Keyword.TheVariants as key
-use Rattle.cg_cpieces.proofs.Known.{Means, seen}
-use Rattle.cg_cpieces.proofs.Lists.{Trailing, some_behind, trailing_behind, local_behind}
-use Rattle.cg_cpieces.proofs.OperandSound.{first}
+use Rattle.cg_cparts.specs.Declarations as declarations
+use Rattle.cg_cparts.specs.Declarations.{decl_of, starred, declaration_step, declaration_end, declaration_parts, type_struct, declaration_struct, declared, on_row, row_step}
+use Rattle.cg_cparts.specs.Heads.{opened, on_name, parted, closed, on_param, head_step, head_end, head_struct}
+use Rattle.cg_cparts.specs.Symbols.{Symbol, named, typed, keyed, opening, closing, comma, semicolon, operation}
+use Rattle.cg_cparts.specs.declared.declaration.Declaration.{Declaration}
+use Rattle.cg_cparts.specs.declared.declaration.Declaration.TheVariants.{Wanted, StructRead, Typed, Named, Stuck}
+use Rattle.cg_cparts.specs.declared.declaration.Row.{Row}
+use Rattle.cg_cparts.specs.declared.head.Signature.{Signature}
+use Rattle.cg_cparts.specs.declared.head.Head.{Head}
+use Rattle.cg_cparts.specs.declared.head.Head.TheVariants as head
+use Rattle.cg_cparts.specs.declared.symbol.Keyword.TheVariants as key
+use Rattle.cg_cparts.proofs.Known.{Means, seen}
+use Rattle.cg_cparts.proofs.Lists.{Trailing, some_behind, trailing_behind, local_behind}
+use Rattle.cg_cparts.proofs.OperandSound.{first}
 
 -- what is read of a declaration
 abbrev pub DeclarationRead : Declaration → Reading

@@ -2,8 +2,8 @@
 use Rattle.std.proofs.Common.{◌≡◌, List, true, Bool}
 use Rattle.cg_ctree.specs.Spells.{token}
 use Rattle.cg_ctree.specs.Tokens.{Lexeme}
-use Rattle.cg_cpieces.specs.Symbols.{Symbol, token_of}
-use Rattle.cg_cpieces.proofs.Known.{Fits}
+use Rattle.cg_cparts.specs.Symbols.{Symbol, token_of}
+use Rattle.cg_cparts.proofs.Known.{Fits}
 
 -- what holds where a machine has read one symbol more, held before it
 abbrev pub Moves : (M : Type 0) → (M → Symbol → M) → (Symbol → Bool) → (M → List Lexeme → Type 0) → Type 0

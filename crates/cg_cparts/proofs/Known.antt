@@ -10,10 +10,10 @@ use Rattle.cg_ctree.specs.declared.tree.COp.{COp}
 use Rattle.cg_ctree.specs.declared.tree.COp.TheVariants as op
 use Rattle.cg_ctree.specs.Spells.{op_sign, token}
 use Rattle.cg_ctree.specs.Tokens.{Token, name, word, plain, literal, sign, line, first_line, second_line, Lexeme}
-use Rattle.cg_cpieces.specs.Symbols.{Symbol, named, typed, keyed, number, count, opening, closing, begin, end, comma, semicolon, equals, tilde, colon, dot, arrow, operation, first_include, second_include, other, token_of, number_of, number_symbol, count_symbol, word_symbol, wide_symbol, key_symbol, long_symbol, short_symbol, op_of, op_symbol, sign_symbol, line_symbol, symbol_of}
-use Rattle.cg_cpieces.specs.declared.symbol.Keyword.{Keyword}
-use Rattle.cg_cpieces.specs.declared.symbol.Keyword.TheVariants as key
-use Rattle.cg_cpieces.proofs.Digits.{number_is, number_back}
+use Rattle.cg_cparts.specs.Symbols.{Symbol, named, typed, keyed, number, count, opening, closing, begin, end, comma, semicolon, equals, tilde, colon, dot, arrow, operation, first_include, second_include, other, token_of, number_of, number_symbol, count_symbol, word_symbol, wide_symbol, key_symbol, long_symbol, short_symbol, op_of, op_symbol, sign_symbol, line_symbol, symbol_of}
+use Rattle.cg_cparts.specs.declared.symbol.Keyword.{Keyword}
+use Rattle.cg_cparts.specs.declared.symbol.Keyword.TheVariants as key
+use Rattle.cg_cparts.proofs.Digits.{number_is, number_back}
 
 -- the number of a symbol, if it has one, is at most 2^64 - 1
 abbrev pub Fits : Symbol → Type 0

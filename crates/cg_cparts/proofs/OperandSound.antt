@@ -6,12 +6,12 @@ use Rattle.cg_ctree.specs.declared.tree.COpnd.TheVariants as opnd
 use Rattle.cg_ctree.specs.declared.tree.CPath.{CPath}
 use Rattle.cg_ctree.specs.Spells.{Reading, ◌then◌, token, mark, ReadsDots, ReadsMembers, ReadsPath, ReadsOpnd}
 use Rattle.cg_ctree.specs.Tokens.{Token, name, sign, Lexeme}
-use Rattle.cg_cpieces.specs.Operands.{name_alone, path_name, on_wanted, arrowed, on_path, on_dot, on_arrow, operand_step, operand_end, path_end, function_name}
-use Rattle.cg_cpieces.specs.Symbols.{Symbol, named, number, dot, arrow}
-use Rattle.cg_cpieces.specs.declared.operand.Operand.{Operand}
-use Rattle.cg_cpieces.specs.declared.operand.Operand.TheVariants.{Wanted, Number, Path, Dot, Arrow, Stuck}
-use Rattle.cg_cpieces.proofs.Known.{Means, seen}
-use Rattle.cg_cpieces.proofs.Lists.{front}
+use Rattle.cg_cparts.specs.Operands.{name_alone, path_name, on_wanted, arrowed, on_path, on_dot, on_arrow, operand_step, operand_end, path_end, function_name}
+use Rattle.cg_cparts.specs.Symbols.{Symbol, named, number, dot, arrow}
+use Rattle.cg_cparts.specs.declared.operand.Operand.{Operand}
+use Rattle.cg_cparts.specs.declared.operand.Operand.TheVariants.{Wanted, Number, Path, Dot, Arrow, Stuck}
+use Rattle.cg_cparts.proofs.Known.{Means, seen}
+use Rattle.cg_cparts.proofs.Lists.{front}
 
 -- what is read of an operand
 abbrev pub OperandRead : Operand → Reading

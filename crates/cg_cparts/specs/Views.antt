@@ -1,7 +1,7 @@
 -- What the reader's own values stand for.
-use Rattle.cg_cpieces.specs.Symbols as symbols
-use Rattle.cg_cpieces.specs.declared.symbol.Symbol.{Symbol}
-use Rattle.cg_cpieces.specs.declared.symbol.Symbol.TheVariants.{Name, Word, Key, Number, Count, Opening, Closing, Begin, End, Comma, Semicolon, Equals, Tilde, Colon, Dot, Arrow, Op, FirstInclude, SecondInclude, Other}
+use Rattle.cg_cparts.specs.Symbols as symbols
+use Rattle.cg_cparts.specs.declared.symbol.Symbol.{Symbol}
+use Rattle.cg_cparts.specs.declared.symbol.Symbol.TheVariants.{Name, Word, Key, Number, Count, Opening, Closing, Begin, End, Comma, Semicolon, Equals, Tilde, Colon, Dot, Arrow, Op, FirstInclude, SecondInclude, Other}
 
 -- a symbol
 abbrev pub symbol_view : Symbol → symbols.Symbol

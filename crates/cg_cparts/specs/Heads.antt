@@ -4,13 +4,13 @@ use Rattle.cg_ctree.specs.declared.tree.CBody.{CBody}
 use Rattle.cg_ctree.specs.declared.tree.CDecl.{CDecl}
 use Rattle.cg_ctree.specs.declared.tree.CFun.{CFun}
 use Rattle.cg_ctree.specs.declared.tree.CTy.{CTy}
-use Rattle.cg_cpieces.specs.Declarations.{declaration_step, declaration_end, declaration_parts, declaration_struct, declaration_is_open}
-use Rattle.cg_cpieces.specs.Symbols.{Symbol, opening, closing, comma}
-use Rattle.cg_cpieces.specs.declared.declaration.Declaration.{Declaration}
-use Rattle.cg_cpieces.specs.declared.declaration.Declaration.TheVariants.{Wanted}
-use Rattle.cg_cpieces.specs.declared.head.Signature.{Signature}
-use Rattle.cg_cpieces.specs.declared.head.Head.{Head}
-use Rattle.cg_cpieces.specs.declared.head.Head.TheVariants.{InName, InParam, Closed, Stuck}
+use Rattle.cg_cparts.specs.Declarations.{declaration_step, declaration_end, declaration_parts, declaration_struct, declaration_is_open}
+use Rattle.cg_cparts.specs.Symbols.{Symbol, opening, closing, comma}
+use Rattle.cg_cparts.specs.declared.declaration.Declaration.{Declaration}
+use Rattle.cg_cparts.specs.declared.declaration.Declaration.TheVariants.{Wanted}
+use Rattle.cg_cparts.specs.declared.head.Signature.{Signature}
+use Rattle.cg_cparts.specs.declared.head.Head.{Head}
+use Rattle.cg_cparts.specs.declared.head.Head.TheVariants.{InName, InParam, Closed, Stuck}
 
 -- a head without parameters ("The C text", `decl`)
 abbrev pub bare : CTy → List ℕ → Signature

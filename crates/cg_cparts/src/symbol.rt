@@ -3,8 +3,8 @@ ghost use Rattle.std.specs.Prelude.{◌≡◌};
 ghost use Rattle.std.specs.List.{list_all};
 ghost use Rattle.cg_base.specs.Bytes.{digit};
 ghost use Rattle.cg_clexer.specs.Next.{lexeme};
-ghost use Rattle.cg_cpieces.specs.Symbols as machine;
-ghost use Rattle.cg_cpieces.specs.Views.{symbol_view};
+ghost use Rattle.cg_cparts.specs.Symbols as machine;
+ghost use Rattle.cg_cparts.specs.Views.{symbol_view};
 
 use cg_base::{Word, is_digit, literal};
 use cg_clexer::{Token, TokenKind};
@@ -71,42 +71,15 @@ fn word<'a>(text: &'a [u8]) -> Symbol<'a>
         Symbol::Word(Word::U8)
     } else if text == b"uint16_t".as_slice() {
         Symbol::Word(Word::U16)
-    } else {
-        wide(text)
-    }
-}
-
-// The symbol of a word that is no type of a word of 8 or 16 bits.
-fn wide<'a>(text: &'a [u8]) -> Symbol<'a>
-    ensures { symbol_view result ≡ machine.wide_symbol text.now }
-{
-    if text == b"uint32_t".as_slice() {
+    } else if text == b"uint32_t".as_slice() {
         Symbol::Word(Word::U32)
     } else if text == b"uint64_t".as_slice() {
         Symbol::Word(Word::U64)
-    } else {
-        key(text)
-    }
-}
-
-// The symbol of a word that is no type of a word.
-fn key<'a>(text: &'a [u8]) -> Symbol<'a>
-    ensures { symbol_view result ≡ machine.key_symbol text.now }
-{
-    if text == b"struct".as_slice() {
+    } else if text == b"struct".as_slice() {
         Symbol::Key(Keyword::Struct)
     } else if text == b"return".as_slice() {
         Symbol::Key(Keyword::Return)
-    } else {
-        long_key(text)
-    }
-}
-
-// The symbol of a word that is none of these.
-fn long_key<'a>(text: &'a [u8]) -> Symbol<'a>
-    ensures { symbol_view result ≡ machine.long_symbol text.now }
-{
-    if text == b"switch".as_slice() {
+    } else if text == b"switch".as_slice() {
         Symbol::Key(Keyword::Switch)
     } else if text == b"sizeof".as_slice() {
         Symbol::Key(Keyword::Sizeof)
@@ -119,13 +92,18 @@ fn long_key<'a>(text: &'a [u8]) -> Symbol<'a>
 fn short_key<'a>(text: &'a [u8]) -> Symbol<'a>
     ensures { symbol_view result ≡ machine.short_symbol text.now }
 {
-    match text {
-        b"if" => Symbol::Key(Keyword::If),
-        b"else" => Symbol::Key(Keyword::Else),
-        b"while" => Symbol::Key(Keyword::While),
-        b"case" => Symbol::Key(Keyword::Case),
-        b"break" => Symbol::Key(Keyword::Break),
-        _ => Symbol::Other,
+    if text == b"if".as_slice() {
+        Symbol::Key(Keyword::If)
+    } else if text == b"else".as_slice() {
+        Symbol::Key(Keyword::Else)
+    } else if text == b"while".as_slice() {
+        Symbol::Key(Keyword::While)
+    } else if text == b"case".as_slice() {
+        Symbol::Key(Keyword::Case)
+    } else if text == b"break".as_slice() {
+        Symbol::Key(Keyword::Break)
+    } else {
+        Symbol::Other
     }
 }
 

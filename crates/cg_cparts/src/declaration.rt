@@ -1,8 +1,8 @@
 // Reading declarations, alone and in rows, one symbol at a time.
 ghost use Rattle.std.specs.Prelude.{◌≡◌, [], IfOk};
-ghost use Rattle.cg_cpieces.specs.Declarations as machine;
-ghost use Rattle.cg_cpieces.specs.Views.{symbol_view};
-ghost use Rattle.cg_cpieces.specs.declared.declaration.Declaration.TheVariants.{Wanted};
+ghost use Rattle.cg_cparts.specs.Declarations as machine;
+ghost use Rattle.cg_cparts.specs.Views.{symbol_view};
+ghost use Rattle.cg_cparts.specs.declared.declaration.Declaration.TheVariants.{Wanted};
 
 use crate::symbol::{Keyword, Symbol};
 use cg_base::{Items, Memory, Name};
@@ -177,11 +177,9 @@ fn declared(mut before: Items<CDecl>, declaration: Option<CDecl>) -> Result<Row,
 {
     match declaration {
         Some(declaration) => {
-            before.push(declaration)?;
-            Ok(Row {
-                before,
-                at: Declaration::Wanted,
-            })
+            let pushed = before.push(declaration);
+            let at = Declaration::Wanted;
+            pushed.and(Ok(Row { before, at }))
         }
         None => Ok(Row {
             before,

@@ -4,11 +4,11 @@ use Rattle.cg_ctree.specs.declared.tree.CDecl.{CDecl}
 use Rattle.cg_ctree.specs.declared.tree.COp.TheVariants as op
 use Rattle.cg_ctree.specs.declared.tree.CTy.{CTy}
 use Rattle.cg_ctree.specs.declared.tree.CTy.TheVariants as ty
-use Rattle.cg_cpieces.specs.Symbols.{Symbol, named, typed, keyed, semicolon, operation}
-use Rattle.cg_cpieces.specs.declared.declaration.Declaration.{Declaration}
-use Rattle.cg_cpieces.specs.declared.declaration.Declaration.TheVariants.{Wanted, StructRead, Typed, Named, Stuck}
-use Rattle.cg_cpieces.specs.declared.declaration.Row.{Row}
-use Rattle.cg_cpieces.specs.declared.symbol.Keyword.TheVariants.{Struct}
+use Rattle.cg_cparts.specs.Symbols.{Symbol, named, typed, keyed, semicolon, operation}
+use Rattle.cg_cparts.specs.declared.declaration.Declaration.{Declaration}
+use Rattle.cg_cparts.specs.declared.declaration.Declaration.TheVariants.{Wanted, StructRead, Typed, Named, Stuck}
+use Rattle.cg_cparts.specs.declared.declaration.Row.{Row}
+use Rattle.cg_cparts.specs.declared.symbol.Keyword.TheVariants.{Struct}
 
 -- before a declaration ("The C text", `ty`)
 abbrev pub on_wanted : Symbol → Declaration

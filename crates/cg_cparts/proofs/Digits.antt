@@ -7,7 +7,7 @@ use Rattle.std.proofs.lemmas.Fmt.{digits_decimal, digits_value-decimal, decimal-
 use Rattle.std.proofs.lemmas.Str.Parse.{IsNumeralModel, numerals_by_fold}
 use Rattle.cg_base.specs.Bytes.{digit}
 use Rattle.cg_base.specs.Numbers.{number_from, word64, literal_of}
-use Rattle.cg_cpieces.specs.Symbols.{leads, is_decimal, number_of}
+use Rattle.cg_cparts.specs.Symbols.{leads, is_decimal, number_of}
 
 own : IsNumeralModel (λ ds. list_all digit ds ≡ true) (number_from 0)
 own = numerals_by_fold _ (search rules) number_from (search rules)

@@ -1,7 +1,8 @@
 // Reading operands and paths, one symbol at a time.
 ghost use Rattle.std.specs.Prelude.{◌≡◌, IfOk};
-ghost use Rattle.cg_cpieces.specs.Operands as machine;
-ghost use Rattle.cg_cpieces.specs.Views.{symbol_view};
+ghost use Rattle.cg_cparts.specs.Operands as machine;
+ghost use Rattle.cg_cparts.specs.Views.{symbol_view};
+ghost use Rattle.cg_cparts.specs.declared.operand.Operand.TheVariants.{Path};
 
 use crate::symbol::Symbol;
 use cg_base::{Items, Memory, Name};
@@ -82,24 +83,22 @@ fn behind_dot<'a>(alloc: Global, mut path: CPath, symbol: Symbol<'a>) -> Result<
     match symbol {
         Symbol::Name(name) => {
             let name = Name::new(alloc, name)?;
-            path.members.push(name)?;
-            Ok(Operand::Path(path))
+            path.members.push(name).and(Ok(Operand::Path(path)))
         }
         _ => Ok(Operand::Stuck),
     }
 }
 
-// The path of a name, an arrow and a member.
-fn arrow_path(alloc: Global, base: Name, member: Name) -> Result<CPath, Memory>
-    ensures { IfOk result (λ path. path ≡ machine.arrow_path base member) }
+// Behind the path of a name, an arrow and a member.
+fn arrow_path(alloc: Global, base: Name, member: Name) -> Result<Operand, Memory>
+    ensures { IfOk result (λ m. m ≡ Path (machine.arrow_path base member)) }
 {
     let mut members = Items::new(alloc);
-    members.push(member)?;
-    Ok(CPath {
+    members.push(member).and(Ok(Operand::Path(CPath {
         base,
         arrow: true,
         members,
-    })
+    })))
 }
 
 // Behind an arrow.
@@ -107,10 +106,7 @@ fn behind_arrow<'a>(alloc: Global, base: Name, symbol: Symbol<'a>) -> Result<Ope
     ensures { IfOk result (λ m. m ≡ machine.on_arrow base (symbol_view symbol.entry)) }
 {
     match symbol {
-        Symbol::Name(name) => {
-            let name = Name::new(alloc, name)?;
-            Ok(Operand::Path(arrow_path(alloc, base, name)?))
-        }
+        Symbol::Name(name) => arrow_path(alloc, base, Name::new(alloc, name)?),
         _ => Ok(Operand::Stuck),
     }
 }

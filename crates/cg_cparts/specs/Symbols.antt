@@ -10,8 +10,8 @@ use Rattle.cg_ctree.specs.declared.tree.COp.{COp}
 use Rattle.cg_ctree.specs.declared.tree.COp.TheVariants as op
 use Rattle.cg_ctree.specs.Spells.{spelled, op_sign}
 use Rattle.cg_ctree.specs.Tokens.{Token, name, word, plain, literal, sign, line, first_line, second_line}
-use Rattle.cg_cpieces.specs.declared.symbol.Keyword.{Keyword}
-use Rattle.cg_cpieces.specs.declared.symbol.Keyword.TheVariants as key
+use Rattle.cg_cparts.specs.declared.symbol.Keyword.{Keyword}
+use Rattle.cg_cparts.specs.declared.symbol.Keyword.TheVariants as key
 
 -- a token by its use: a kind holds its text only where a tree keeps it. The last is a token that no program has ("The C text",
 -- tokens and the grammar)

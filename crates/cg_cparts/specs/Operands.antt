@@ -3,9 +3,9 @@ use Rattle.std.specs.Prelude.{ℕ, Bool, true, false, List, [], ◌∷◌, ◌++
 use Rattle.cg_ctree.specs.declared.tree.COpnd.{COpnd}
 use Rattle.cg_ctree.specs.declared.tree.COpnd.TheVariants as opnd
 use Rattle.cg_ctree.specs.declared.tree.CPath.{CPath}
-use Rattle.cg_cpieces.specs.Symbols.{Symbol, named, number, dot, arrow}
-use Rattle.cg_cpieces.specs.declared.operand.Operand.{Operand}
-use Rattle.cg_cpieces.specs.declared.operand.Operand.TheVariants.{Wanted, Number, Path, Dot, Arrow, Stuck}
+use Rattle.cg_cparts.specs.Symbols.{Symbol, named, number, dot, arrow}
+use Rattle.cg_cparts.specs.declared.operand.Operand.{Operand}
+use Rattle.cg_cparts.specs.declared.operand.Operand.TheVariants.{Wanted, Number, Path, Dot, Arrow, Stuck}
 
 -- the path that is a name alone ("The C text", `path`)
 abbrev pub path_of : List ℕ → CPath

@@ -7,11 +7,11 @@ use Rattle.cg_ctree.specs.declared.tree.COpnd.TheVariants as opnd
 use Rattle.cg_ctree.specs.declared.tree.CPath.{CPath}
 use Rattle.cg_ctree.specs.Spells.{token, ReadsDots, ReadsMembers, ReadsOpnd}
 use Rattle.cg_ctree.specs.Tokens.{name, literal, Lexeme}
-use Rattle.cg_cpieces.specs.Operands.{path_of, arrow_path, with_member, operand_step, operand_end}
-use Rattle.cg_cpieces.specs.Symbols.{named, dot, arrow, is_part}
-use Rattle.cg_cpieces.specs.declared.operand.Operand.{Operand}
-use Rattle.cg_cpieces.specs.declared.operand.Operand.TheVariants.{Number, Path, Dot, Arrow}
-use Rattle.cg_cpieces.proofs.Carried.{Moves}
+use Rattle.cg_cparts.specs.Operands.{path_of, arrow_path, with_member, operand_step, operand_end}
+use Rattle.cg_cparts.specs.Symbols.{named, dot, arrow, is_part}
+use Rattle.cg_cparts.specs.declared.operand.Operand.{Operand}
+use Rattle.cg_cparts.specs.declared.operand.Operand.TheVariants.{Number, Path, Dot, Arrow}
+use Rattle.cg_cparts.proofs.Carried.{Moves}
 
 module _ (P : Operand → List Lexeme → Type 0) (move : Moves Operand operand_step is_part P) where
   dots_read : (xs : List (List ℕ)) (p : CPath) (ts rest : List Lexeme) → ReadsDots xs ts rest → P (Path (record p { members = p.members ++ xs })) rest → P (Path p) ts

@@ -1,0 +1,10 @@
+pub mod Carried
+pub mod DeclarationComplete
+pub mod DeclarationSound
+pub mod Digits
+pub mod Known
+pub mod Lists
+pub mod OperandComplete
+pub mod OperandSound
+pub mod Shut
+pub mod Viable
