@@ -106,8 +106,8 @@ impl Nest {
     fn with_statement(mut self, statement: CStmt) -> Result<Body, Memory>
         ensures { IfOk result (λ m. body_of m ≡ machine.Statements (machine.with_statement (nest_of self) (stmt_of statement))) }
     {
-        let pushed = self.level.stmts.push(statement);
-        pushed.and(Ok(Body::Statements(self)))
+        self.level.stmts.push(statement)?;
+        Ok(Body::Statements(self))
     }
 
     // At the beginning of a block more, in which so many statements may be open.
