@@ -155,11 +155,11 @@ fn structs(alloc: Global) -> Result<Items<CStruct>, Memory> {
 
 /// Asks for a record, whose address is assigned to a frame's only variable: what that holds then.
 fn record<'a>(heap: &mut Heap, name: &'a Name, structs: &Structs<'a>) -> Option<Scalar> {
-    if heap.store.top() > 100 {
+    let kind = Kind::Pointer(name);
+    if heap.store.top() > 100 || kind.size() > 1 {
         return None;
     }
     let mut slots = [Scalar::Unset];
-    let place = Place::Local(0, Kind::Pointer(name));
     let left = new_into(
         &mut heap.store,
         &mut heap.changes,
@@ -168,7 +168,7 @@ fn record<'a>(heap: &mut Heap, name: &'a Name, structs: &Structs<'a>) -> Option<
         name,
         structs.shape(name),
         &allocator(),
-        place,
+        Place::Local(0, kind),
     );
     match left {
         Ok(100) => Some(slots[0]),
@@ -176,15 +176,27 @@ fn record<'a>(heap: &mut Heap, name: &'a Name, structs: &Structs<'a>) -> Option<
     }
 }
 
+/// The same of the struct of a name among these, twice.
+fn two_records<'a>(
+    alloc: Global,
+    heap: &mut Heap,
+    name: &'a Name,
+    structs: &'a [CStruct],
+) -> Result<(Option<Scalar>, Option<Scalar>), Memory> {
+    let table = Structs::new(alloc, structs)?;
+    let first = record(heap, name, &table);
+    Ok((first, record(heap, name, &table)))
+}
+
 #[test]
 fn records_are_made(rt: HostRuntime) -> Result<(), Fail> {
     let structs = structs(rt.alloc())?;
-    let table = Structs::new(rt.alloc(), structs.as_slice())?;
     let name = Name::new(rt.alloc(), b"S")?;
     let mut heap = with_allocator(rt.alloc())?;
-    assert!(rt; matches!(record(&mut heap, &name, &table), Some(Scalar::Address(2))));
+    let (first, second) = two_records(rt.alloc(), &mut heap, &name, structs.as_slice())?;
+    assert!(rt; matches!(first, Some(Scalar::Address(2))));
+    assert!(rt; matches!(second, Some(Scalar::Address(0))));
     assert!(rt; heap.store.len(2) == Some(1));
-    assert!(rt; matches!(record(&mut heap, &name, &table), Some(Scalar::Address(0))));
     Ok(())
 }
 
