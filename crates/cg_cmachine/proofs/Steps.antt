@@ -1,141 +1,130 @@
 -- The steps of the machine, as equations.
-use Rattle.std.proofs.Common.{◌≡◌, ℕ, zero, suc, Bool, true, false, cond, nat_eq, Some, None, List, [], ◌∷◌, ◌++◌, map, refl, sym, ap, ◌∙◌, arith, Bor}
-use Rattle.cg_ctree.specs.declared.tree.CCase.{CCase, fold_out-CCase}
-use Rattle.cg_ctree.specs.declared.tree.COpnd.{COpnd}
-use Rattle.cg_ctree.specs.declared.tree.CStmt.{CStmt}
-use Rattle.cg_ctree.specs.declared.tree.CTy.{CTy}
-use Rattle.cg_ctree.specs.declared.why.Why.{Why}
-use Rattle.cg_ctree.specs.declared.why.Why.TheVariants.{NoCase}
-use Rattle.cg_ctree.specs.Runs.{ok, no, Value, number_of, Frame, judge, choose, Outcome, done, stuck, needs, Flow, goes, onward, run_block, run_cases, returned}
-use Rattle.cg_ctree.specs.Trees.{Stmt, Case, case, layer, case_layer, case_of, to_block, to_cases, block_of}
+use Rattle.std.proofs.Common.{◌≡◌, ℕ, zero, suc, ◌+◌, Bool, true, false, cond, nat_eq, Option, Some, None, List, [], ◌∷◌, ◌++◌, length, map, refl, sym, ap, ◌∙◌, arith, Err}
+use Rattle.cg_cbuiltins.specs.Called as called
+use Rattle.cg_cbuiltins.specs.Called.{Lands}
+use Rattle.cg_cbuiltins.specs.declared.changes.Changes.{Changes}
 use Rattle.cg_cmachine.specs.declared.machine.Kont.{Kont}
-use Rattle.cg_cmachine.specs.declared.machine.Kont.TheVariants.{After, Again, Into, Aside}
-use Rattle.cg_cmachine.specs.declared.machine.Run.{Run}
-use Rattle.cg_cmachine.specs.Machine.{Cont, assigned, calls, first_case, stmt, block, cases, loop, tested, on_kont, waits_from, waits}
+use Rattle.cg_cmachine.specs.declared.machine.Kont.TheVariants.{After, Return}
+use Rattle.cg_cmachine.specs.declared.machine.Machine.{Machine}
+use Rattle.cg_cmachine.specs.Machine.{Asked, Cont, Went, block, on_kont, program, waits, waits_from}
+use Rattle.cg_cresolve.specs.declared.code.Position.{Position}
+use Rattle.cg_cresolve.specs.Resolutions.{Resolution, lines_at, next}
+use Rattle.cg_crun.specs.BuiltIns.{Given}
+use Rattle.cg_crun.specs.Operands as operands
+use Rattle.cg_crun.specs.Operands.{Value}
+use Rattle.cg_crun.specs.Outcomes.{Judged, ok, State, Outcome, done, stuck, needs, astray, bind, lift}
+use Rattle.cg_crun.specs.Runs.{Flow, choose, goes, back, onward, returned}
+use Rattle.cg_ctree.specs.declared.tree.CStmt.{CStmt}
+use Rattle.cg_ctree.specs.declared.why.Why.{Why}
+use Rattle.cg_cvalues.specs.declared.fault.RunFault.{RunFault}
+use Rattle.cg_cvalues.specs.declared.fault.RunFault.TheVariants.{Stuck, Budget, Memory}
+use Rattle.cg_heap.specs.declared.cell.Scalar.{Scalar}
+use Rattle.cg_heap.specs.Stored.{Stored}
 
-case_is : (c : CCase) → case_of c ≡ record { tag = c.tag; body = block_of c.body }
-case_is c = fold_out-CCase Stmt Case layer case_layer c
+-- statements behind statements
+pub onward_twice : (o : Outcome Flow) (f g : operands.Frame → State → ℕ → Outcome Flow) → onward (onward o f) g ≡ onward o (λ fr s left. onward (f fr s left) g)
+onward_twice (done (goes fr) s left) f g = refl
+onward_twice (done (back us) s left) f g = refl
+onward_twice (stuck why m) f g = refl
+onward_twice (needs m) f g = refl
+onward_twice astray f g = refl
 
-module _ (run : Run) where
-  from_push : (k : Cont) (fs : List Kont) (f : Kont) → waits_from run k (fs ++ f ∷ []) ≡ on_kont run f (waits_from run k fs)
+-- what ends a run ends it whatever waits
+pub data IsEnd : Outcome Flow → Outcome (List Scalar) → Type 0 where
+  is_stuck : (why : Why) (m : Stored) → IsEnd (stuck why m) (stuck why m)
+  is_needing : (m : Stored) → IsEnd (needs m) (needs m)
+  is_astray : IsEnd astray astray
+
+module _ (r : Resolution) (asked : Asked) (n : ℕ) where
+  from_push : (k : Cont) (fs : List Kont) (f : Kont) → waits_from r asked n k (fs ++ f ∷ []) ≡ on_kont r asked n f (waits_from r asked n k fs)
   from_push k [] f = refl
-  from_push k (g ∷ fs) f = from_push (on_kont run g k) fs f
+  from_push k (g ∷ fs) f = from_push (on_kont r asked n g k) fs f
 
-  pub waits_push : (fs : List Kont) (f : Kont) → waits run (fs ++ f ∷ []) ≡ on_kont run f (waits run fs)
+  pub waits_push : (fs : List Kont) (f : Kont) → waits r asked n (fs ++ f ∷ []) ≡ on_kont r asked n f (waits r asked n fs)
   unfolding waits
   waits_push fs f = from_push _ fs f
 
-  pub waits_none : (fs : List Kont) (t : CTy) (o : Outcome Flow) → fs ≡ [] → waits run fs t o ≡ returned t o
+  pub waits_none : (fs : List Kont) (f : ℕ) (o : Outcome Flow) → fs ≡ [] → waits r asked n fs f o ≡ returned (program r asked n) o
   unfolding waits
-  waits_none fs t o e = ap (λ z. waits run z t o) e
+  waits_none fs f o e = ap (λ z. waits r asked n z f o) e
 
-  -- a run that is stuck stays so, and one that needs more steps too
-  on_stuck : (f : Kont) (k : Cont) (why : Why) → ((t : CTy) → k t (stuck why) ≡ stuck why) → (t : CTy) → on_kont run f k t (stuck why) ≡ stuck why
+  on_end : (f : Kont) (k : Cont) (o : Outcome Flow) (e : Outcome (List Scalar)) → IsEnd o e → ((g : ℕ) → k g o ≡ e) → (g : ℕ) → on_kont r asked n f k g o ≡ e
   unfolding on_kont
-  on_stuck (After ss) k why h t = h t
-  on_stuck (Again o body ss) k why h t = h t
-  on_stuck (Into path frame u ss) k why h t = h u.now
-  on_stuck (Aside frame u ss) k why h t = h u.now
+  on_end (After b i) k _ _ (is_stuck why m) h g = h g
+  on_end (After b i) k _ _ (is_needing m) h g = h g
+  on_end (After b i) k _ _ is_astray h g = h g
+  on_end (Return fr) k _ _ (is_stuck why m) h g = h fr.at.function
+  on_end (Return fr) k _ _ (is_needing m) h g = h fr.at.function
+  on_end (Return fr) k _ _ is_astray h g = h fr.at.function
 
-  on_needs : (f : Kont) (k : Cont) → ((t : CTy) → k t needs ≡ needs) → (t : CTy) → on_kont run f k t needs ≡ needs
-  unfolding on_kont
-  on_needs (After ss) k h t = h t
-  on_needs (Again o body ss) k h t = h t
-  on_needs (Into path frame u ss) k h t = h u.now
-  on_needs (Aside frame u ss) k h t = h u.now
+  from_end : (fs : List Kont) (k : Cont) (o : Outcome Flow) (e : Outcome (List Scalar)) → IsEnd o e → ((g : ℕ) → k g o ≡ e) → (g : ℕ) → waits_from r asked n k fs g o ≡ e
+  from_end [] k o e i h g = h g
+  from_end (f ∷ fs) k o e i h g = from_end fs (on_kont r asked n f k) o e i (on_end f k o e i h) g
 
-  from_stuck : (fs : List Kont) (k : Cont) (why : Why) → ((t : CTy) → k t (stuck why) ≡ stuck why) → (t : CTy) → waits_from run k fs t (stuck why) ≡ stuck why
-  from_stuck [] k why h t = h t
-  from_stuck (f ∷ fs) k why h t = from_stuck fs (on_kont run f k) why (on_stuck f k why h) t
+  returned_end : (o : Outcome Flow) (e : Outcome (List Scalar)) → IsEnd o e → returned (program r asked n) o ≡ e
+  returned_end _ _ (is_stuck why m) = refl
+  returned_end _ _ (is_needing m) = refl
+  returned_end _ _ is_astray = refl
 
-  from_needs : (fs : List Kont) (k : Cont) → ((t : CTy) → k t needs ≡ needs) → (t : CTy) → waits_from run k fs t needs ≡ needs
-  from_needs [] k h t = h t
-  from_needs (f ∷ fs) k h t = from_needs fs (on_kont run f k) (on_needs f k h) t
-
-  pub waits_stuck : (fs : List Kont) (t : CTy) (why : Why) → waits run fs t (stuck why) ≡ stuck why
+  waits_end : (fs : List Kont) (o : Outcome Flow) (e : Outcome (List Scalar)) → IsEnd o e → (f : ℕ) → waits r asked n fs f o ≡ e
   unfolding waits
-  waits_stuck fs t why = from_stuck fs returned why (λ t. refl) t
+  waits_end fs o e i f = from_end fs _ o e i (λ g. returned_end o e i) f
 
-  pub waits_needs : (fs : List Kont) (t : CTy) → waits run fs t needs ≡ needs
-  unfolding waits
-  waits_needs fs t = from_needs fs returned (λ t. refl) t
+  pub waits_stuck : (fs : List Kont) (f : ℕ) (why : Why) (m : Stored) → waits r asked n fs f (stuck why m) ≡ stuck why m
+  waits_stuck fs f why m = waits_end fs (stuck why m) (stuck why m) (is_stuck why m) f
 
-  -- what waits
-  pub waits_after : (fs : List Kont) (ss : Bor (List CStmt)) (t : CTy) (o : Outcome Flow)
-      → waits run (fs ++ After ss ∷ []) t o ≡ waits run fs t (onward o (block run t ss.now))
+  pub waits_needs : (fs : List Kont) (f : ℕ) (m : Stored) → waits r asked n fs f (needs m) ≡ needs m
+  waits_needs fs f m = waits_end fs (needs m) (needs m) (is_needing m) f
+
+  pub waits_astray : (fs : List Kont) (f : ℕ) → waits r asked n fs f astray ≡ astray
+  waits_astray fs f = waits_end fs astray astray is_astray f
+
+  -- a block that comes first, and what is behind it
+  pub descended : (fs gs : List Kont) (b i f : ℕ) (o : Outcome Flow) → gs ≡ fs ++ After b i ∷ []
+      → waits r asked n gs f o ≡ waits r asked n fs f (onward o (block r asked n (record { function = f; block = b; index = i })))
   unfolding on_kont
-  waits_after fs ss t o = ap (λ k. k t o) (waits_push fs (After ss))
+  descended fs gs b i f o e = ap (λ z. waits r asked n z f o) e ∙ ap (λ k. k f o) (waits_push fs (After b i))
 
-  pub waits_again : (fs : List Kont) (o : Bor COpnd) (body ss : Bor (List CStmt)) (t : CTy) (r : Outcome Flow)
-      → waits run (fs ++ Again o body ss ∷ []) t r ≡ waits run fs t (onward (onward r (loop run t o.now body.now)) (block run t ss.now))
-  unfolding on_kont
-  waits_again fs o body ss t r = ap (λ k. k t r) (waits_push fs (Again o body ss))
+-- ---- runs that end early
 
-  -- a test
-  pub tested_stuck : (t : CTy) (o : COpnd) (body : List CStmt) (frame : Frame) (left : ℕ) (why : Why) → judge frame o ≡ no why → tested run t o body frame left ≡ stuck why
-  unfolding tested
-  tested_stuck t o body frame left why e = rw e refl
+-- what a fault says of an outcome
+abbrev pub Fails : {A : Type 0} → Outcome A → Stored → RunFault → Type 0
+Fails o m (Stuck why) = o ≡ stuck why m
+Fails o m Budget = o ≡ needs m
+Fails o m Memory = Unit {0}
 
-  pub tested_none : (t : CTy) (o : COpnd) (body : List CStmt) (frame : Frame) (left : ℕ) (v : Value) → judge frame o ≡ ok v → number_of v ≡ 0
-      → tested run t o body frame left ≡ done (goes frame) left
-  unfolding tested
-  tested_none t o body frame left v e z = rw (e, z) refl
+module _ (r : Resolution) (asked : Asked) (n : ℕ) where
+  pub went_fails : (fs : List Kont) (f : ℕ) (o : Outcome Flow) (machine : Machine) (m : Stored) (fault : RunFault) → Fails o m fault
+      → Went r asked n (waits r asked n fs f o) machine m (Err fault)
+  went_fails fs f o machine m (Stuck why) e = ap (waits r asked n fs f) e ∙ waits_stuck r asked n fs f why m
+  went_fails fs f o machine m Budget e = ap (waits r asked n fs f) e ∙ waits_needs r asked n fs f m
+  went_fails fs f o machine m Memory e = tt
 
-  pub tested_some : (t : CTy) (o : COpnd) (body : List CStmt) (frame : Frame) (left n : ℕ) (v : Value) → judge frame o ≡ ok v → number_of v ≡ n → (n ≡ 0 → ⊥)
-      → tested run t o body frame left ≡ onward (block run t body frame left) (loop run t o body)
-  unfolding tested
-  tested_some t o body frame left zero v e z h = absurd (h refl)
-  tested_some t o body frame left (suc n) v e z h = rw (e, z) refl
+pub fails_bind : {A B : Type 0} (o : Outcome A) (g : A → State → ℕ → Outcome B) (m : Stored) (fault : RunFault) → Fails o m fault → Fails (bind o g) m fault
+fails_bind o g m (Stuck why) e = ap (λ z. bind z g) e
+fails_bind o g m Budget e = ap (λ z. bind z g) e
+fails_bind o g m Memory e = tt
 
-  pub again_goes : (fs gs : List Kont) (o : Bor COpnd) (body ss : Bor (List CStmt)) (t : CTy) (frame : Frame) (left n : ℕ) (v : Value)
-      → gs ≡ fs ++ Again o body ss ∷ [] → judge frame o.now ≡ ok v → n ≡ number_of v → (n ≡ 0 → ⊥)
-      → waits run gs t (block run t body.now frame left) ≡ waits run fs t (onward (tested run t o.now body.now frame left) (block run t ss.now))
-  again_goes fs gs o body ss t frame left n v e j i h =
-      ap (λ z. waits run z t (block run t body.now frame left)) e
-      ∙ waits_again fs o body ss t (block run t body.now frame left)
-      ∙ ap (λ z. waits run fs t (onward z (block run t ss.now))) (sym (tested_some t o.now body.now frame left n v j (sym i) h))
+pub fails_onward : (o : Outcome Flow) (g : operands.Frame → State → ℕ → Outcome Flow) (m : Stored) (fault : RunFault) → Fails o m fault → Fails (onward o g) m fault
+fails_onward o g m (Stuck why) e = ap (λ z. onward z g) e
+fails_onward o g m Budget e = ap (λ z. onward z g) e
+fails_onward o g m Memory e = tt
 
-  -- statements in a row
-  pub block_none : (t : CTy) (ss : List CStmt) (frame : Frame) (left : ℕ) → ss ≡ [] → block run t ss frame left ≡ done (goes frame) left
-  unfolding block run_block to_block
-  block_none t ss frame left e = ap (λ z. block run t z frame left) e
+pub fails_same : {A : Type 0} (o p : Outcome A) (m : Stored) (fault : RunFault) → p ≡ o → Fails o m fault → Fails p m fault
+fails_same o p m (Stuck why) h e = h ∙ e
+fails_same o p m Budget h e = h ∙ e
+fails_same o p m Memory h e = tt
 
-  pub block_some : (t : CTy) (ss rest : List CStmt) (s : CStmt) (frame : Frame) (left : ℕ) → ss ≡ s ∷ rest
-      → block run t ss frame left ≡ onward (stmt run t s frame left) (block run t rest)
-  unfolding block stmt run_block to_block
-  block_some t ss rest s frame left e = ap (λ z. block run t z frame left) e
+-- a call that is assigned, or not, and fails
+pub fails_lands : (o : Outcome (List Scalar)) (us : List Scalar) (m : Stored) (c : Changes) (fault : RunFault) → Lands o us m c (Err fault) → Fails o m fault
+fails_lands o us m c (Stuck why) e = e
+fails_lands o us m c Budget e = e
+fails_lands o us m c Memory e = tt
 
-  -- an assignment
-  pub assigned_ok : (frame : Frame) (left : ℕ) → assigned (ok frame) left ≡ done (goes frame) left
-  unfolding assigned
-  assigned_ok frame left = refl
-
-  pub assigned_no : (why : Why) (left : ℕ) → assigned (no why) left ≡ stuck why
-  unfolding assigned
-  assigned_no why left = refl
-
-  -- the cases of a switch
-  cases_step : (t : CTy) (m : ℕ) (c : CCase) (cs : List CCase) (frame : Frame) (left : ℕ)
-      → cases run t m (c ∷ cs) frame left ≡ cond (nat_eq m c.tag) (block run t c.body frame left) (cases run t m cs frame left)
-  unfolding cases block run_cases to_cases
-  cases_step t m c cs frame left = ap (λ d. run_cases (calls run) run.budget t m (case d.tag d.body (to_cases (map case_of cs))) frame left) (case_is c)
-
-  pub no_case : (t : CTy) (m : ℕ) (cs : List CCase) (frame : Frame) (left : ℕ) → first_case m cs ≡ None → cases run t m cs frame left ≡ stuck NoCase
-  unfolding cases run_cases to_cases
-  no_case t m [] frame left e = refl
-  no_case t m (c ∷ cs) frame left e = cases_step t m c cs frame left ∙ step (λ h. no_case t m cs frame left h) (nat_eq m c.tag) e
-    where
-      step : (first_case m cs ≡ None → cases run t m cs frame left ≡ stuck NoCase) → (b : Bool) → cond b (Some c.body) (first_case m cs) ≡ None → cond b (block run t c.body frame left) (cases run t m cs frame left) ≡ stuck NoCase
-      step r true h = cc
-      step r false h = r h
-
-  pub that_case : (t : CTy) (m : ℕ) (cs : List CCase) (ss : List CStmt) (frame : Frame) (left : ℕ) → first_case m cs ≡ Some ss → cases run t m cs frame left ≡ block run t ss frame left
-  that_case t m [] ss frame left e = cc
-  that_case t m (c ∷ cs) ss frame left e = cases_step t m c cs frame left ∙ step (λ h. that_case t m cs ss frame left h) (nat_eq m c.tag) e
-    where
-      step : (first_case m cs ≡ Some ss → cases run t m cs frame left ≡ block run t ss frame left) → (b : Bool) → cond b (Some c.body) (first_case m cs) ≡ Some ss → cond b (block run t c.body frame left) (cases run t m cs frame left) ≡ block run t ss frame left
-      step r true h = let i : c.body ≡ ss = cc in ap (λ z. block run t z frame left) i
-      step r false h = r h
+pub fails_steps : (o : Outcome Given) (m : Stored) (c : Changes) (fault : RunFault) → called.Steps o m c (Err fault) → Fails o m fault
+fails_steps o m c (Stuck why) e = e
+fails_steps o m c Budget e = e
+fails_steps o m c Memory e = tt
 
 -- a choice by a number
 pub choose_none : {A : Type 0} (n : ℕ) (x y : A) → n ≡ 0 → choose n x y ≡ y
@@ -146,4 +135,15 @@ pub choose_some : {A : Type 0} (n : ℕ) (x y : A) → (n ≡ 0 → ⊥) → cho
 choose_some zero x y h = absurd (h refl)
 choose_some (suc n) x y h = refl
 
-pub ruleset machine_steps = (waits_stuck, waits_needs, waits_after, waits_again, no_case, that_case, tested_stuck, tested_none, tested_some, assigned_ok, assigned_no, choose_none, choose_some)
+-- what is judged
+pub lift_ok : {A B : Type 0} (m : Stored) (j : Judged A) (f : A → Outcome B) (a : A) → j ≡ ok a → f a ≡ lift m j f
+lift_ok m j f a e = rw e refl
+
+-- a test
+pub tested_none : {B : Type 0} (m : Stored) (j : Judged ℕ) (x y : Outcome B) (k : ℕ) → j ≡ ok k → k ≡ 0 → y ≡ lift m j (λ k. choose k x y)
+tested_none m j x y k e z = sym (choose_none k x y z) ∙ lift_ok m j (λ k. choose k x y) k e
+
+pub tested_some : {B : Type 0} (m : Stored) (j : Judged ℕ) (x y : Outcome B) (k : ℕ) → j ≡ ok k → (k ≡ 0 → ⊥) → x ≡ lift m j (λ k. choose k x y)
+tested_some m j x y k e z = sym (choose_some k x y z) ∙ lift_ok m j (λ k. choose k x y) k e
+
+pub ruleset machine_steps = (waits_stuck, waits_needs, descended)

@@ -1,19 +1,22 @@
 -- What a run answers (docs/LANGUAGE.md, "The C subset").
-use Rattle.std.specs.Prelude.{◌≡◌, ℕ, ◌+◌, Result, Ok, Err}
-use Rattle.cg_ctree.specs.Runs.{Value, number_of, Outcome, done, stuck, needs}
-use Rattle.cg_cmachine.specs.declared.fault.RunFault.{RunFault}
-use Rattle.cg_cmachine.specs.declared.fault.RunFault.TheVariants.{Stuck, Budget, Memory}
+use Rattle.std.specs.Prelude.{◌≡◌, ℕ, ◌+◌, Result, Ok, Err, List}
+use Rattle.cg_crun.specs.Outcomes.{Outcome, done, stuck, needs, astray}
+use Rattle.cg_cmachine.specs.declared.answer.Ran.{Ran}
+use Rattle.cg_cvalues.specs.declared.fault.RunFault.{RunFault}
+use Rattle.cg_cvalues.specs.declared.fault.RunFault.TheVariants.{Stuck, Budget, Memory}
+use Rattle.cg_heap.specs.declared.cell.Scalar.{Scalar}
+use Rattle.cg_heap.specs.Stored.{Stored}
 
--- a run of at most n steps ends with this number, after so many steps
-abbrev pub EndsAfter : Outcome Value → ℕ → ℕ → ℕ → Type 0
-EndsAfter (done v left) n number steps = (number ≡ number_of v) × (steps + left ≡ n)
-EndsAfter (stuck why) n number steps = ⊥
-EndsAfter needs n number steps = ⊥
+-- what a run of at most n steps gave, and the store that it left
+pub record EndsAs (o : Outcome (List Scalar)) (n : ℕ) (store : Stored) (ran : Ran) : Type 0 where
+  pub left : ℕ
+  pub steps : ran.steps + left ≡ n
+  pub ends : o ≡ done ran.value (record { store = store; made = ran.made; freed = ran.freed }) left
 
--- The number that a run of at most n steps returns and the steps that it took, exactly where it ends; that it is stuck and
--- why, exactly where it is; `Budget` exactly where it needs more steps; and want of memory is free.
-abbrev pub Ran : Outcome Value → ℕ → Result (ℕ × ℕ) RunFault → Type 0
-Ran o n (Ok r) = EndsAfter o n r.0 r.1
-Ran o n (Err (Stuck why)) = o ≡ stuck why
-Ran o n (Err Budget) = o ≡ needs
-Ran o n (Err Memory) = Unit {0}
+-- Where a run has a meaning: its value, its steps, what it made and freed and its store, exactly where it ends; why it is stuck, with the
+-- store, exactly where it is; `Budget`, with the store, exactly where it needs more steps; and want of memory is free.
+abbrev pub Runs : Outcome (List Scalar) → ℕ → Stored → Result Ran RunFault → Type 0
+Runs o n store (Ok ran) = EndsAs o n store ran
+Runs o n store (Err (Stuck why)) = o ≡ stuck why store
+Runs o n store (Err Budget) = o ≡ needs store
+Runs o n store (Err Memory) = Unit {0}

@@ -1,4 +1,6 @@
+pub mod Abstracts
+pub mod Answering
 pub mod Answers
-pub mod Indexes
+pub mod Flat
 pub mod Machine
-pub mod Views
+pub mod Statements

@@ -1,92 +1,115 @@
 -- What a state of the machine will give: what waits on the stack stands for what is done once the statements at hand are done.
-use Rattle.std.specs.Prelude.{◌≡◌, ℕ, ◌+◌, ◌*◌, ◌%◌, ◌^◌, List, [], ◌∷◌, length, map, Option, Some, None, cond, nat_eq, Result, Ok, Err}
-use Rattle.cg_base.specs.Words.{bits}
-use Rattle.cg_ctree.specs.declared.tree.CCase.{CCase}
-use Rattle.cg_ctree.specs.declared.tree.COpnd.{COpnd}
-use Rattle.cg_ctree.specs.declared.tree.CRhs.{CRhs}
-use Rattle.cg_ctree.specs.declared.tree.CRhs.TheVariants.{Opnd, Conv, Binary, Flip, IsNull, Call, New}
-use Rattle.cg_ctree.specs.declared.tree.CStmt.{CStmt}
-use Rattle.cg_ctree.specs.declared.tree.CTy.{CTy}
-use Rattle.cg_ctree.specs.declared.why.Why.TheVariants.{KindsDiffer}
-use Rattle.cg_ctree.specs.Runs.{Judged, ok, no, on, Value, typed, number_of, computed, flipped, Frame, judge, judge_all, write, choose, Outcome, done, stuck, needs, bind, lift, Flow, goes, back, onward, Calls, turns, run_stmt, run_block, run_cases, run_function, find, returned, right, calls_in}
-use Rattle.cg_ctree.specs.Trees.{stmt_of, case_of, to_cases, block_of, program_of}
-use Rattle.cg_cmachine.specs.declared.fault.RunFault.{RunFault}
-use Rattle.cg_cmachine.specs.declared.fault.RunFault.TheVariants.{Stuck, Budget, Memory}
-use Rattle.cg_cmachine.specs.declared.machine.Entered.{Entered}
+use Rattle.std.specs.Prelude.{◌≡◌, ℕ, ◌+◌, ◌*◌, ◌<◌, ◌≤◌, ◌^◌, List, [], ◌∷◌, ◌++◌, length, map, slice_get, cond, nat_eq, Option, Some, None, Result, Ok, Err}
+use Rattle.std.specs.List.{All}
+use Rattle.std.specs.Option.{option_map}
+use Rattle.cg_cbuiltins.specs.Called.{state_of}
+use Rattle.cg_cbuiltins.specs.declared.changes.Changes.{Changes}
+use Rattle.cg_cmachine.specs.declared.machine.Frame.{Frame}
 use Rattle.cg_cmachine.specs.declared.machine.Kont.{Kont}
-use Rattle.cg_cmachine.specs.declared.machine.Kont.TheVariants.{After, Again, Into, Aside}
+use Rattle.cg_cmachine.specs.declared.machine.Kont.TheVariants.{After, Return}
 use Rattle.cg_cmachine.specs.declared.machine.Machine.{Machine}
 use Rattle.cg_cmachine.specs.declared.machine.Next.{Next}
-use Rattle.cg_cmachine.specs.declared.machine.Next.TheVariants.{Goes, Back}
-use Rattle.cg_cmachine.specs.declared.machine.Run.{Run}
-use Rattle.cg_cmachine.specs.declared.operands.Scalar.{Scalar}
-use Rattle.cg_cmachine.specs.Views.{value_of}
+use Rattle.cg_cmachine.specs.declared.machine.Next.TheVariants.{Goes, Back, Ask}
+use Rattle.cg_clayout.specs.Kinds.{layout_of}
+use Rattle.cg_cresolve.specs.declared.code.Position.{Position}
+use Rattle.cg_cresolve.specs.declared.line.Callee.{Callee}
+use Rattle.cg_cresolve.specs.declared.line.Callee.TheVariants as callee
+use Rattle.cg_cresolve.specs.Lines.{linked}
+use Rattle.cg_cresolve.specs.Resolutions.{Resolution, lines_at, next}
+use Rattle.cg_cresolve.specs.Scopes.{Scope, frame_of as scoped, scope_of, total}
+use Rattle.cg_crun.specs.Layouts.{Layout, group, empty, layout, size}
+use Rattle.cg_crun.specs.Operands.{Value, typed, scalars_of}
+use Rattle.cg_crun.specs.Operands as operands
+use Rattle.cg_crun.specs.Outcomes.{Judged, ok, no, on, State, Outcome, done, stuck, needs, astray, bind}
+use Rattle.cg_crun.specs.Runs.{Calls, Flow, Linked, assigned, back, call_abstract, calls_in, choose, goes, onward, returned, run_block, run_cases, run_function, find}
+use Rattle.cg_ctree.specs.declared.tree.CFun.{CFun}
+use Rattle.cg_ctree.specs.declared.why.Why.TheVariants.{NoCase, NoFunction, KindsDiffer}
+use Rattle.cg_ctree.specs.Trees.{assign, Block, also, block_of, function_of}
+use Rattle.cg_cvalues.specs.declared.fault.RunFault.{RunFault}
+use Rattle.cg_cvalues.specs.declared.fault.RunFault.TheVariants.{Stuck, Budget, Memory}
+use Rattle.cg_cvalues.specs.declared.value.CValue.{CValue}
+use Rattle.cg_cvalues.specs.Values.{value_of}
+use Rattle.cg_heap.specs.Calls.{Answer}
+use Rattle.cg_heap.specs.declared.cell.Scalar.{Scalar}
+use Rattle.cg_heap.specs.Stored.{Stored}
 
--- what is assigned, where it isn't a call
-abbrev pub simple : Frame → CRhs → Judged Value
-simple frame (Opnd o) = judge frame o
-simple frame (Conv w o) = on (judge frame o) (λ v. ok (typed w (number_of v % 2 ^ bits w)))
-simple frame (Binary outer inner o l r) =
-    on (judge frame l) (λ v. on (judge frame r) (λ w. computed outer inner o (number_of v) (number_of w)))
-simple frame (Flip outer inner o) = on (judge frame o) (λ v. ok (flipped outer inner (number_of v)))
-simple frame (IsNull o) = on (judge frame o) (λ v. no KindsDiffer)
-simple frame (Call f os) = no KindsDiffer
-simple frame (New o s) = on (judge frame o) (λ v. no KindsDiffer)
+-- what a table answers to calls of abstract functions
+abbrev pub Asked : Type 0
+Asked = List ℕ → List Scalar → Stored → Option Answer
 
--- the statements of the first case of a number
-abbrev pub first_case : ℕ → List CCase → Option (List CStmt)
-first_case m [] = None
-first_case m (c ∷ cs) = cond (nat_eq m c.tag) (Some c.body) (first_case m cs)
+-- ---- the functions of a program
 
--- what is done with the end of the statements of a function of a type
+abbrev pub function_at : Resolution → ℕ → Option CFun
+function_at r f = slice_get r.whole.program.funs f
+
+abbrev pub lay_at : Resolution → ℕ → Layout
+lay_at r f = by (function_at r f) where
+  by : Option CFun → Layout
+  by None = group [] empty
+  by (Some g) = layout r.whole.program.structs g.ty
+
+abbrev pub scope_at : Resolution → ℕ → Scope
+scope_at r f = by (function_at r f) where
+  by : Option CFun → Scope
+  by None = []
+  by (Some g) = scope_of r.whole.program.structs g
+
+-- a frame of a function, by its names
+abbrev pub framed : Resolution → Frame → operands.Frame
+framed r fr = scoped (scope_at r fr.at.function) fr.slots.items
+
+-- the scalars of values that are of these types, one for each
+abbrev pub gathered : List Layout → List Value → Judged (List Scalar)
+gathered [] [] = ok []
+gathered (l ∷ ls) (v ∷ vs) = on (operands.give l v) (λ us. on (gathered ls vs) (λ ws. ok (us ++ ws)))
+gathered _ _ = no KindsDiffer
+
+-- what is done with the end of the statements of a function
 abbrev pub Cont : Type 0
-Cont = CTy → Outcome Flow → Outcome Value
+Cont = ℕ → Outcome Flow → Outcome (List Scalar)
 
--- an assignment of a value
-unfoldable pub assigned : Judged Frame → ℕ → Outcome Flow
-assigned frame left = lift frame (λ f. done (goes f) left)
+module _ (r : Resolution) (asked : Asked) (n : ℕ) where
+  abbrev pub program : Linked
+  program = linked r.whole asked
 
-module _ (run : Run) where
   unfoldable pub calls : Calls
-  calls = calls_in (program_of run.program.now) run.budget
+  calls = calls_in program n
 
-  unfoldable pub stmt : CTy → CStmt → Frame → ℕ → Outcome Flow
-  stmt t s = run_stmt calls run.budget t (stmt_of s)
+  -- the statements from a place on
+  unfoldable pub block : Position → operands.Frame → State → ℕ → Outcome Flow
+  block at = run_block program calls n (lay_at r at.function) (block_of (lines_at r at))
 
-  unfoldable pub block : CTy → List CStmt → Frame → ℕ → Outcome Flow
-  block t ss = run_block calls run.budget t (block_of ss)
+  -- the value of a function whose statements have this outcome
+  abbrev pub valued : ℕ → Outcome Flow → Outcome Value
+  valued f o = bind (returned program o) (λ us s left. done (typed (lay_at r f) us) s left)
 
-  unfoldable pub cases : CTy → ℕ → List CCase → Frame → ℕ → Outcome Flow
-  cases t m cs = run_cases calls run.budget t m (to_cases (map case_of cs))
+  -- what the statement that waits for a value does with it
+  abbrev pub landing : Frame → Block → Value → State → ℕ → Outcome Flow
+  landing fr (also (assign t rhs) rest) v s left = assigned program s.store (framed r fr) t v s left
+  landing fr _ v s left = done (goes (framed r fr)) s left
 
-  unfoldable pub loop : CTy → COpnd → List CStmt → Frame → ℕ → Outcome Flow
-  loop t o body = turns run.budget o (block t body)
+  abbrev pub landed : Frame → Outcome Value → Outcome Flow
+  landed fr o = bind o (landing fr (block_of (lines_at r fr.at)))
 
-  -- what stands on the right of an assignment
-  unfoldable pub given : CRhs → Frame → ℕ → Outcome Value
-  given = right calls
+  -- a call of the abstract function that a function is
+  abbrev pub abstract_call : Option CFun → List ℕ → List Value → State → ℕ → Outcome Value
+  abstract_call None name vs s left = astray
+  abstract_call (Some g) name vs s left = call_abstract program (function_of g) name vs s left
 
-  -- a call of a function of the program
-  unfoldable pub called : List ℕ → List Value → ℕ → Outcome Value
-  called f vs left = run_function calls run.budget vs left (find f (program_of run.program.now).functions)
+  -- a function of the program that is called
+  unfoldable pub entered : ℕ → List Value → State → ℕ → Outcome Value
+  entered f vs s left = run_function program calls n vs s left (option_map function_of (function_at r f))
 
-  -- the same with operands
-  unfoldable pub prepared : List ℕ → List COpnd → Frame → ℕ → Outcome Value
-  prepared f os frame left = lift (judge_all frame os) (λ vs. called f vs left)
-
-  -- a test of a loop, whose step is counted
-  unfoldable pub tested : CTy → COpnd → List CStmt → Frame → ℕ → Outcome Flow
-  tested t o body frame left =
-      lift (judge frame o) (λ v. choose (number_of v) (onward (block t body frame left) (loop t o body)) (done (goes frame) left))
+  -- a call of other than a built-in
+  abbrev pub called_in : Callee → List Value → State → ℕ → Outcome Value
+  called_in (callee.Own i) vs s left = entered i vs s left
+  called_in (callee.Linked i name) vs s left = abstract_call (function_at r i) name.now vs s left
+  called_in _ vs s left = stuck NoFunction s.store
 
   -- what waits, and then k
   unfoldable pub on_kont : Kont → Cont → Cont
-  on_kont (After rest) k t o = k t (onward o (block t rest.now))
-  on_kont (Again opnd body rest) k t o = k t (onward (onward o (loop t opnd.now body.now)) (block t rest.now))
-  on_kont (Into path frame u rest) k t o =
-      k u.now (onward (bind (returned t o) (λ v left. assigned (write path.now v frame) left)) (block u.now rest.now))
-  on_kont (Aside frame u rest) k t o =
-      k u.now (onward (bind (returned t o) (λ v left. done (goes frame) left)) (block u.now rest.now))
+  on_kont (After b i) k f o = k f (onward o (block (record { function = f; block = b; index = i })))
+  on_kont (Return fr) k f o = k fr.at.function (onward (landed fr (valued f o)) (block (next fr.at)))
 
   abbrev pub waits_from : Cont → List Kont → Cont
   waits_from k [] = k
@@ -94,38 +117,108 @@ module _ (run : Run) where
 
   -- all that waits, the last first
   unfoldable pub waits : List Kont → Cont
-  waits fs = waits_from returned fs
+  waits fs = waits_from (λ f o. returned program o) fs
 
   -- what the state gives
-  abbrev pub said : Machine → Next → Outcome Value
-  said m Goes = waits m.stack.items m.ty.now (block m.ty.now m.stmts.now m.frame m.left)
-  said m (Back n) = waits m.stack.items m.ty.now (done (back n) m.left)
+  abbrev pub said : Machine → Stored → Next → Outcome (List Scalar)
+  said m store Goes =
+      waits m.stack.items m.frame.at.function (block m.frame.at (framed r m.frame) (state_of store m.changes) m.left)
+  said m store (Back v) =
+      waits m.stack.items m.frame.at.function (done (back (scalars_of (value_of v))) (state_of store m.changes) m.left)
+  said m store (Ask f name vs) =
+      waits m.stack.items m.frame.at.function (onward (landed m.frame
+      (abstract_call (function_at r f) name.now (map value_of vs.items) (state_of store m.changes) m.left)) (block (next m.frame.at)))
 
   -- a step goes on with what is to come, or says why there is nothing to go on with
-  abbrev pub Went : Machine → Outcome Value → Result Next RunFault → Type 0
-  Went m o (Ok next) = said m next ≡ o
-  Went m o (Err (Stuck why)) = o ≡ stuck why
-  Went m o (Err Budget) = o ≡ needs
-  Went m o (Err Memory) = Unit {0}
+  abbrev pub Went : Outcome (List Scalar) → Machine → Stored → Result Next RunFault → Type 0
+  Went o m store (Ok next) = said m store next ≡ o
+  Went o m store (Err (Stuck why)) = o ≡ stuck why store
+  Went o m store (Err Budget) = o ≡ needs store
+  Went o m store (Err Memory) = Unit {0}
 
-  -- where a statement's outcome is o, and the state was `old`
-  abbrev pub Follows : Machine → Outcome Flow → Machine → Result Next RunFault → Type 0
-  Follows old o m result = Went m (waits old.stack.items old.ty.now (onward o (block old.ty.now old.stmts.now))) result
+  -- where what comes next has this outcome, and the state was `old`
+  abbrev pub Comes : Machine → Outcome Flow → Machine → Stored → Result Next RunFault → Type 0
+  Comes old o m store result = Went (waits old.stack.items old.frame.at.function o) m store result
 
-  -- the beginning of a call
-  abbrev pub Enters : ℕ → Outcome Value → Result Entered RunFault → Type 0
-  Enters left o (Ok e) = o ≡ returned e.ty.now (block e.ty.now e.stmts.now e.frame left)
-  Enters left o (Err (Stuck why)) = o ≡ stuck why
-  Enters left o (Err Budget) = ⊥
-  Enters left o (Err Memory) = Unit {0}
+  -- where the statement at hand has this outcome
+  abbrev pub Follows : Machine → Outcome Flow → Machine → Stored → Result Next RunFault → Type 0
+  Follows old o m store result = Comes old (onward o (block (next old.frame.at))) m store result
+
+  -- the block of a number, in the state at hand
+  abbrev pub inner : Machine → Stored → ℕ → Outcome Flow
+  inner m store b = block (record { function = m.frame.at.function; block = b; index = 0 }) (framed r m.frame) (state_of store m.changes) m.left
+
+  -- a loop's test: a turn and then the loop again, or what stands behind it
+  abbrev pub turned : Machine → Stored → ℕ → ℕ → Outcome Flow
+  turned m store b k =
+      choose k (onward (inner m store b) (block m.frame.at)) (block (next m.frame.at) (framed r m.frame) (state_of store m.changes) m.left)
+
+  -- the block of the first case of a number
+  abbrev pub inner_case : Machine → Stored → Option ℕ → Outcome Flow
+  inner_case m store None = stuck NoCase store
+  inner_case m store (Some b) = inner m store b
+
+  -- what the statement at hand, which called, does with a value
+  abbrev pub landed_here : Machine → Outcome Value → Outcome Flow
+  landed_here m o = landed m.frame o
+
+  -- a frame's slots, by the names of its function
+  abbrev pub by_names : ℕ → Outcome (List Scalar) → Outcome Flow
+  by_names f o = bind o (λ us s left. done (goes (scoped (scope_at r f) us)) s left)
+
+-- ---- what a state always has
+
+-- as many slots as the function's variables have, and its type
+pub record IsFrame (r : Resolution) (fr : Frame) : Type 0 where
+  pub many : length fr.slots.items ≡ total (scope_at r fr.at.function)
+  pub result : layout_of fr.kind ≡ lay_at r fr.at.function
+
+abbrev pub IsKont : Resolution → Kont → Type 0
+IsKont r (After b i) = Unit {0}
+IsKont r (Return fr) = IsFrame r fr
+
+-- a value of a type, with as many scalars as that has slots
+pub record IsTyped (l : Layout) (v : Value) : Type 0 where
+  pub typed : v ≡ typed l (scalars_of v)
+  pub many : length (scalars_of v) ≡ size l
+
+-- a value that is returned is of the function's type
+abbrev pub IsNext : Resolution → Machine → Next → Type 0
+IsNext r m Goes = Unit {0}
+IsNext r m (Back v) = IsTyped (lay_at r m.frame.at.function) (value_of v)
+IsNext r m (Ask f name vs) = Unit {0}
+
+-- a step that is counted may still ask an abstract function
+abbrev pub slack : Next → ℕ
+slack Goes = 1
+slack (Back v) = 1
+slack (Ask f name vs) = 2
+
+-- room above the top for the cells of so many steps more than are left, 65,536 a step
+abbrev pub IsLow : ℕ → Machine → Stored → Type 0
+IsLow k m store = store.top + (m.left + k) * 65536 < 2 ^ 63
+
+pub record IsState (r : Resolution) (m : Machine) : Type 0 where
+  pub frame : IsFrame r m.frame
+  pub stack : All (IsKont r) m.stack.items
+
+-- a call is entered: the frame that it begins with
+abbrev pub Enters : Resolution → Asked → ℕ → Outcome Value → Stored → Changes → ℕ → Result Frame RunFault → Type 0
+Enters r asked n o store c left (Ok fr) =
+    (o ≡ valued r asked n fr.at.function (block r asked n fr.at (framed r fr) (state_of store c) left)) × IsFrame r fr
+Enters r asked n o store c left (Err (Stuck why)) = o ≡ stuck why store
+Enters r asked n o store c left (Err Budget) = ⊥
+Enters r asked n o store c left (Err Memory) = Unit {0}
 
 -- falls in each step
-abbrev pub weight : Machine → ℕ
-weight m = 3 * m.left + length m.stack.items
+abbrev pub weight : Machine → Next → ℕ
+weight m Goes = 3 * m.left + length m.stack.items
+weight m (Back v) = 3 * m.left + length m.stack.items
+weight m (Ask f name vs) = 3 * m.left + length m.stack.items + 1
 
--- what is returned, and the steps that are left
-abbrev pub Ends : Outcome Value → Result (Scalar × ℕ) RunFault → Type 0
-Ends o (Ok r) = o ≡ done (value_of r.0) r.1
-Ends o (Err (Stuck why)) = o ≡ stuck why
-Ends o (Err Budget) = o ≡ needs
-Ends o (Err Memory) = Unit {0}
+-- what is returned, with the steps that are left
+abbrev pub Ends : {A : Type 0} → (A → Value) → Outcome (List Scalar) → Stored → Changes → ℕ → Result A RunFault → Type 0
+Ends f o store c left (Ok a) = o ≡ done (scalars_of (f a)) (state_of store c) left
+Ends f o store c left (Err (Stuck why)) = o ≡ stuck why store
+Ends f o store c left (Err Budget) = o ≡ needs store
+Ends f o store c left (Err Memory) = Unit {0}

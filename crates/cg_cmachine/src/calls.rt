@@ -1,166 +1,305 @@
 // Calls.
 #![tactic(auto, using(crate::proofs::Entries::call_steps))]
 
-ghost use Rattle.std.specs.Prelude.{◌≡◌, ◌<◌, ◌≤◌, ◌+◌, ℕ, [], ◌∷◌, map, IfOk, option_map};
-ghost use Rattle.cg_ctree.specs.Runs.{bind, crun, done, find, goes, write as write_of};
-ghost use Rattle.cg_ctree.specs.Trees.{function_of, program_of};
-ghost use Rattle.cg_cmachine.specs.Machine.{Enters, Follows, assigned, called, given, prepared, weight};
-ghost use Rattle.cg_cmachine.specs.Views.{value_of};
+ghost use Rattle.std.specs.Prelude.{◌≡◌, ◌<◌, ◌≤◌, ◌+◌, ◌^◌, ◌++◌, ◌-◌, ℕ, IfErr, IfOk, false, true, length, map, replicate};
+ghost use Rattle.cg_clayout.specs.Kinds.{layout_of, shape_layout};
+ghost use Rattle.cg_cbuiltins.specs.Called.{built_in_of, into_place, state_of};
+ghost use Rattle.cg_cbuiltins.specs.declared.changes.Changes.{Changes as TheChanges};
+ghost use Rattle.cg_cmachine.specs.declared.machine.Next.TheVariants.{Goes};
+ghost use Rattle.cg_cmachine.specs.Machine.{Asked, Enters, Follows, IsLow, IsNext, IsState, slack, by_names, called_in, entered, framed, gathered, landed_here, weight};
+ghost use Rattle.cg_cmachine.specs.Statements.{assigns, called_aside, called_to};
+ghost use Rattle.cg_cresolve.specs.declared.line.Right.TheVariants.{New};
+ghost use Rattle.cg_cresolve.specs.Resolutions.{Resolution};
+ghost use Rattle.cg_crun.specs.BuiltIns.{called, make_struct};
+ghost use Rattle.cg_crun.specs.Layouts.{size};
+ghost use Rattle.cg_crun.specs.Outcomes.{bind, done, lift};
+ghost use Rattle.cg_crun.specs.Runs.{goes};
+ghost use Rattle.cg_cvalues.specs.declared.fault.RunFault.TheVariants.{Memory};
+ghost use Rattle.cg_cvalues.specs.Values.{AreWithin, IsOperandWithin, IsWithin, Tries, judged_all, value_of};
+ghost use Rattle.cg_heap.specs.declared.cell.Scalar.TheVariants.{Unset};
+ghost use Rattle.cg_heap.specs.Stored.{Stored};
 
-use crate::RunFault;
-use crate::frames::{enter, fill, judge_all};
-use crate::machine::{Entered, Kont, Machine, Next, Run, assign};
-use crate::operands::Scalar;
-use crate::slots::Frame;
+use crate::machine::{Frame, Kont, Machine, Next, Run};
 use cg_base::Name;
-use cg_ctree::{COpnd, CPath, CRhs, Why};
+use cg_cbuiltins::{BuiltIn, call, call_into, new_into};
+use cg_clayout::{Kind, Shape};
+use cg_cresolve::{Callee, Head, Position};
+use cg_ctree::Why;
+use cg_cvalues::{CValue, Operand, Place, RunFault, is_of, judge, judge_all, push_scalars};
+use cg_heap::{Scalar, Store};
 use std::alloc::Global;
 
-/// Enters a function with these values.
-fn begin<'i, 'a>(
-    alloc: Global,
-    run: &Run<'i, 'a>,
-    name: &Name,
-    scalars: &[Scalar],
-) -> Result<Entered<'i, 'a>, RunFault>
-    ensures { (left : ℕ) → Enters run.now left (called run.now name.now (map value_of scalars.now) left) result }
+/// The frame of a function whose parameters have these slots; its locals begin unset.
+pub(crate) fn begin<'i, 'a>(
+    function: usize,
+    head: Head<'i, 'a>,
+    slots: Vec<Scalar>,
+) -> Result<Frame<'a>, RunFault>
+    ensures slots { IfOk result (λ frame. frame.slots.items ≡ slots.items ++ replicate (head.entry.slots - length slots.items) Unset) }
+    ensures place { IfOk result (λ frame. frame.at ≡ record { function = function; block = 0; index = 0 }) }
+    ensures kind { IfOk result (λ frame. frame.kind ≡ head.entry.kind) }
+    ensures wanting { IfErr result (λ fault. fault ≡ Memory) }
 {
-    let Some(callee) = run.program.find(name) else {
-        return Err(RunFault::Stuck(Why::NoFunction));
-    };
-    let Some(body) = &callee.function.body else {
-        return Err(RunFault::Stuck(Why::NoBody));
-    };
-    let slots = enter(
-        alloc,
-        callee.function.params.as_slice(),
-        body.locals.as_slice(),
-        scalars,
-    )?;
-    Ok(Entered {
-        ty: &callee.function.ty,
-        stmts: body.stmts.as_slice(),
-        frame: Frame {
-            slots,
-            names: callee.names,
-        },
-    })
-}
-
-/// Enters a run's own function with its one word.
-pub(crate) fn start<'i, 'a>(
-    alloc: Global,
-    run: &Run<'i, 'a>,
-    name: &Name,
-    arg: u64,
-) -> Result<Entered<'i, 'a>, RunFault>
-    ensures { Enters run.now run.now.budget (crun run.now.budget (program_of run.now.program.now) name.now (arg ∷ [])) result }
-{
-    let Some(callee) = run.program.find(name) else {
-        return Err(RunFault::Stuck(Why::NoFunction));
-    };
-    let Some(body) = &callee.function.body else {
-        return Err(RunFault::Stuck(Why::NoBody));
-    };
-    let slots = fill(
-        alloc,
-        callee.function.params.as_slice(),
-        body.locals.as_slice(),
-        arg,
-    )?;
-    Ok(Entered {
-        ty: &callee.function.ty,
-        stmts: body.stmts.as_slice(),
-        frame: Frame {
-            slots,
-            names: callee.names,
-        },
-    })
-}
-
-/// Enters a function with what these operands are.
-fn prepare<'i, 'a>(
-    alloc: Global,
-    run: &Run<'i, 'a>,
-    frame: &Frame<'_, '_>,
-    name: &Name,
-    opnds: &[COpnd],
-) -> Result<Entered<'i, 'a>, RunFault>
-    ensures { (left : ℕ) → Enters run.now left (prepared run.now name.now opnds.now frame.now left) result }
-{
-    match judge_all(alloc, frame, opnds) {
-        Err(fault) => Err(fault),
-        Ok(scalars) => begin(alloc, run, name, scalars.as_slice()),
+    let mut slots = slots;
+    while slots.len() < head.slots {
+        slots.push(Scalar::Unset)?;
     }
+    Ok(Frame {
+        at: Position {
+            function,
+            block: 0,
+            index: 0,
+        },
+        kind: head.kind,
+        slots,
+    })
+}
+
+/// The scalars of values that are of these types, one for each; None where one isn't, or there are fewer or more.
+pub(crate) fn gather<'a>(
+    alloc: Global,
+    params: &[Kind<'a>],
+    values: &[CValue<'a>],
+) -> Result<Vec<Scalar>, RunFault>
+    ensures { Tries (λ slots. slots.items) (gathered (map layout_of params.now) (map value_of values.now)) result }
+{
+    if params.len() != values.len() {
+        return Err(RunFault::Stuck(Why::KindsDiffer));
+    }
+    let mut slots = Vec::new(alloc);
+    for (i, kind) in params.iter().enumerate() {
+        if !is_of(*kind, &values[i]) {
+            return Err(RunFault::Stuck(Why::KindsDiffer));
+        }
+        push_scalars(&mut slots, &values[i])?;
+    }
+    Ok(slots)
+}
+
+/// Enters the function at a place, with these values.
+fn enter<'i, 'a>(
+    alloc: Global,
+    run: &Run<'i, 'a>,
+    function: usize,
+    values: &[CValue<'a>],
+) -> Result<Frame<'a>, RunFault>
+    ensures enters { (asked : Asked) (store : Stored) (c : TheChanges) (left : ℕ) → Enters run.now.program.now asked run.now.budget
+        (entered run.now.program.now asked run.now.budget function (map value_of values.now) (state_of store c) left) store c left result }
+    ensures place { IfOk result (λ frame. frame.at.function ≡ function) }
+{
+    let Some(head) = run.program.head(function) else {
+        return Err(RunFault::Stuck(Why::NoFunction));
+    };
+    if !head.has_body {
+        return Err(RunFault::Stuck(Why::NoBody));
+    }
+    let slots = gather(alloc, head.params, values)?;
+    begin(function, head, slots)
+}
+
+/// The function at a place is called by the statement at hand.
+fn go_into<'i, 'a>(
+    alloc: Global,
+    run: &Run<'i, 'a>,
+    m: &mut Machine<'a>,
+    function: usize,
+    values: &[CValue<'a>],
+) -> Result<Next<'a>, RunFault>
+    ensures gives { (asked : Asked) (store : Stored) → Follows run.now.program.now asked run.now.budget m.old
+        (landed_here run.now.program.now asked run.now.budget m.old (entered run.now.program.now asked run.now.budget function (map value_of values.now) (state_of store m.old.changes) m.old.left)) m.new store result }
+    ensures state { IsState run.now.program.now m.old → IfOk result (λ next. IsState run.now.program.now m.new × IsNext run.now.program.now m.new next) }
+    ensures falls { IfOk result (λ next. weight m.new next ≤ weight m.old Goes + 1) }
+    ensures within { m.new.left ≡ m.old.left }
+{
+    let frame = enter(alloc, run, function, values)?;
+    let caller = std::mem::replace(&mut m.frame, frame);
+    m.stack.push(Kont::Return(caller))?;
+    Ok(Next::Goes)
+}
+
+/// A call of other than a built-in, by the statement at hand.
+fn call_function<'i, 'a>(
+    alloc: Global,
+    run: &Run<'i, 'a>,
+    m: &mut Machine<'a>,
+    callee: Callee<'a>,
+    values: Vec<CValue<'a>>,
+) -> Result<Next<'a>, RunFault>
+    ensures gives { (asked : Asked) (store : Stored) → Follows run.now.program.now asked run.now.budget m.old
+        (landed_here run.now.program.now asked run.now.budget m.old (called_in run.now.program.now asked run.now.budget callee.entry (map value_of values.entry.items) (state_of store m.old.changes) m.old.left)) m.new store result }
+    ensures state { IsState run.now.program.now m.old → IfOk result (λ next. IsState run.now.program.now m.new × IsNext run.now.program.now m.new next) }
+    ensures falls { IfOk result (λ next. weight m.new next ≤ weight m.old Goes + 1) }
+    ensures within { m.new.left ≡ m.old.left }
+{
+    match callee {
+        Callee::Own(function) => go_into(alloc, run, m, function, values.as_slice()),
+        Callee::Linked(function, name) => Ok(Next::Ask(function, name, values)),
+        Callee::Missing | Callee::BuiltIn(_) => Err(RunFault::Stuck(Why::NoFunction)),
+    }
+}
+
+/// A built-in whose value is assigned, and whose step is counted.
+fn built_in_to<'a, S: Store>(
+    m: &mut Machine<'a>,
+    store: &mut S,
+    place: Place<'a>,
+    built_in: BuiltIn,
+    values: &[CValue<'a>],
+) -> Result<Next<'a>, RunFault>
+    requires place { IsWithin (length m.old.frame.slots.items) place }
+    requires low { IsLow 2 m.old (S.stored store.old) }
+    requires small { m.old.frame.at.index + 1 < 2 ^ 64 }
+    ensures gives { (r : Resolution) (asked : Asked) (n : ℕ) → Follows r asked n m.old (by_names r asked n m.old.frame.at.function
+        (bind (called (built_in_of built_in) true (map value_of values.now) (state_of (S.stored store.old) m.old.changes) m.old.left)
+        (into_place (S.stored store.old) m.old.frame.slots.items place.entry))) m.new (S.stored store.new) result }
+    ensures state { (r : Resolution) → IsState r m.old → IfOk result (λ next. IsState r m.new × IsNext r m.new next) }
+    ensures falls { IfOk result (λ next. weight m.new next ≤ weight m.old Goes + 1) }
+    ensures low { IfOk result (λ next. IsLow (slack next) m.new (S.stored store.new)) }
+    ensures within { m.new.left ≤ m.old.left }
+{
+    m.left = call_into(
+        store,
+        &mut m.changes,
+        m.frame.slots.as_mut_slice(),
+        m.left,
+        built_in,
+        values,
+        place,
+    )?;
+    m.frame.at.index += 1;
+    Ok(Next::Goes)
+}
+
+/// A built-in whose value nobody takes, and whose step is counted.
+fn built_in_aside<'a, S: Store>(
+    m: &mut Machine<'a>,
+    store: &mut S,
+    built_in: BuiltIn,
+    values: &[CValue<'a>],
+) -> Result<Next<'a>, RunFault>
+    requires low { IsLow 2 m.old (S.stored store.old) }
+    requires small { m.old.frame.at.index + 1 < 2 ^ 64 }
+    ensures gives { (r : Resolution) (asked : Asked) (n : ℕ) → Follows r asked n m.old
+        (bind (called (built_in_of built_in) false (map value_of values.now) (state_of (S.stored store.old) m.old.changes) m.old.left) (λ g s left.
+        done (goes (framed r m.old.frame)) s left)) m.new (S.stored store.new) result }
+    ensures state { (r : Resolution) → IsState r m.old → IfOk result (λ next. IsState r m.new × IsNext r m.new next) }
+    ensures falls { IfOk result (λ next. weight m.new next ≤ weight m.old Goes + 1) }
+    ensures low { IfOk result (λ next. IsLow (slack next) m.new (S.stored store.new)) }
+    ensures within { m.new.left ≤ m.old.left }
+{
+    m.left = call(store, &mut m.changes, m.left, built_in, values)?;
+    m.frame.at.index += 1;
+    Ok(Next::Goes)
+}
+
+/// `cg_new` of an allocator that is judged, whose value is assigned, and whose step is counted.
+fn make_to<'a, S: Store>(
+    m: &mut Machine<'a>,
+    store: &mut S,
+    place: Place<'a>,
+    heap: &CValue<'a>,
+    name: &'a Name,
+    shape: Shape<'a>,
+) -> Result<Next<'a>, RunFault>
+    requires place { IsWithin (length m.old.frame.slots.items) place }
+    requires low { IsLow 2 m.old (S.stored store.old) }
+    requires small { m.old.frame.at.index + 1 < 2 ^ 64 }
+    ensures gives { (r : Resolution) (asked : Asked) (n : ℕ) → Follows r asked n m.old (by_names r asked n m.old.frame.at.function
+        (bind (make_struct name.now (size (shape_layout shape.entry)) (value_of heap.now) (state_of (S.stored store.old) m.old.changes) m.old.left)
+        (into_place (S.stored store.old) m.old.frame.slots.items place.entry))) m.new (S.stored store.new) result }
+    ensures state { (r : Resolution) → IsState r m.old → IfOk result (λ next. IsState r m.new × IsNext r m.new next) }
+    ensures falls { IfOk result (λ next. weight m.new next ≤ weight m.old Goes + 1) }
+    ensures low { IfOk result (λ next. IsLow (slack next) m.new (S.stored store.new)) }
+    ensures within { m.new.left ≤ m.old.left }
+{
+    m.left = new_into(
+        store,
+        &mut m.changes,
+        m.frame.slots.as_mut_slice(),
+        m.left,
+        name,
+        shape,
+        heap,
+        place,
+    )?;
+    m.frame.at.index += 1;
+    Ok(Next::Goes)
+}
+
+/// `cg_new` whose value is assigned, and whose step is counted.
+pub(crate) fn new_to<'a, S: Store>(
+    alloc: Global,
+    m: &mut Machine<'a>,
+    store: &mut S,
+    place: Place<'a>,
+    heap: &Operand<'a>,
+    name: &'a Name,
+    shape: Shape<'a>,
+) -> Result<Next<'a>, RunFault>
+    requires within { IsOperandWithin (length m.old.frame.slots.items) heap.now }
+    requires place { IsWithin (length m.old.frame.slots.items) place }
+    requires low { IsLow 2 m.old (S.stored store.old) }
+    requires small { m.old.frame.at.index + 1 < 2 ^ 64 }
+    ensures gives { (r : Resolution) (asked : Asked) (n : ℕ) → Follows r asked n m.old (assigns r asked n m.old (S.stored store.old) place.entry (New heap.now name.entry shape.entry)) m.new (S.stored store.new) result }
+    ensures state { (r : Resolution) → IsState r m.old → IfOk result (λ next. IsState r m.new × IsNext r m.new next) }
+    ensures falls { IfOk result (λ next. weight m.new next ≤ weight m.old Goes + 1) }
+    ensures low { IfOk result (λ next. IsLow (slack next) m.new (S.stored store.new)) }
+    ensures within { m.new.left ≤ m.old.left }
+{
+    let heap = judge(alloc, store, m.frame.slots.as_slice(), heap)?;
+    make_to(m, store, place, &heap, name, shape)
 }
 
 /// A call whose value is assigned, and whose step is counted.
-fn call_into<'i, 'a>(
+pub(crate) fn call_to<'i, 'a, S: Store>(
     alloc: Global,
     run: &Run<'i, 'a>,
-    m: &mut Machine<'i, 'a>,
-    path: &'a CPath,
-    name: &Name,
-    opnds: &[COpnd],
-) -> Result<Next, RunFault>
-    ensures gives { Follows run.now m.old (bind (prepared run.now name.now opnds.now m.old.frame m.old.left)
-        (λ v left. assigned (write_of path.now v m.old.frame) left)) m.new result }
-    ensures falls { IfOk result (λ next. weight m.new ≤ weight m.old + 1) }
-    ensures within { m.new.left ≡ m.old.left }
+    m: &mut Machine<'a>,
+    store: &mut S,
+    place: Place<'a>,
+    callee: Callee<'a>,
+    operands: &[Operand<'a>],
+) -> Result<Next<'a>, RunFault>
+    requires within { AreWithin (length m.old.frame.slots.items) operands.now }
+    requires place { IsWithin (length m.old.frame.slots.items) place }
+    requires low { IsLow 2 m.old (S.stored store.old) }
+    requires small { m.old.frame.at.index + 1 < 2 ^ 64 }
+    ensures gives { (asked : Asked) → Follows run.now.program.now asked run.now.budget m.old
+        (lift (S.stored store.old) (judged_all (S.stored store.old) m.old.frame.slots.items operands.now) (called_to run.now.program.now asked run.now.budget m.old (S.stored store.old) place.entry callee.entry)) m.new (S.stored store.new) result }
+    ensures state { IsState run.now.program.now m.old → IfOk result (λ next. IsState run.now.program.now m.new × IsNext run.now.program.now m.new next) }
+    ensures falls { IfOk result (λ next. weight m.new next ≤ weight m.old Goes + 1) }
+    ensures low { IfOk result (λ next. IsLow (slack next) m.new (S.stored store.new)) }
+    ensures within { m.new.left ≤ m.old.left }
 {
-    match prepare(alloc, run, &m.frame, name, opnds) {
-        Err(fault) => Err(fault),
-        Ok(entered) => {
-            let saved = std::mem::replace(&mut m.frame, entered.frame);
-            m.stack.push(Kont::Into(path, saved, m.ty, m.stmts))?;
-            m.ty = entered.ty;
-            m.stmts = entered.stmts;
-            Ok(Next::Goes)
-        }
+    let values = judge_all(alloc, store, m.frame.slots.as_slice(), operands)?;
+    match callee {
+        Callee::BuiltIn(built_in) => built_in_to(m, store, place, built_in, values.as_slice()),
+        _ => call_function(alloc, run, m, callee, values),
     }
 }
 
-/// A call as a statement, whose step is counted.
-pub(crate) fn call_aside<'i, 'a>(
+/// A call whose value nobody takes, and whose step is counted.
+pub(crate) fn call_aside<'i, 'a, S: Store>(
     alloc: Global,
     run: &Run<'i, 'a>,
-    m: &mut Machine<'i, 'a>,
-    name: &Name,
-    opnds: &[COpnd],
-) -> Result<Next, RunFault>
-    ensures gives { Follows run.now m.old (bind (prepared run.now name.now opnds.now m.old.frame m.old.left)
-        (λ v left. done (goes m.old.frame) left)) m.new result }
-    ensures falls { IfOk result (λ next. weight m.new ≤ weight m.old + 1) }
-    ensures within { m.new.left ≡ m.old.left }
+    m: &mut Machine<'a>,
+    store: &mut S,
+    callee: Callee<'a>,
+    operands: &[Operand<'a>],
+) -> Result<Next<'a>, RunFault>
+    requires within { AreWithin (length m.old.frame.slots.items) operands.now }
+    requires low { IsLow 2 m.old (S.stored store.old) }
+    requires small { m.old.frame.at.index + 1 < 2 ^ 64 }
+    ensures gives { (asked : Asked) → Follows run.now.program.now asked run.now.budget m.old
+        (lift (S.stored store.old) (judged_all (S.stored store.old) m.old.frame.slots.items operands.now) (called_aside run.now.program.now asked run.now.budget m.old (S.stored store.old) callee.entry)) m.new (S.stored store.new) result }
+    ensures state { IsState run.now.program.now m.old → IfOk result (λ next. IsState run.now.program.now m.new × IsNext run.now.program.now m.new next) }
+    ensures falls { IfOk result (λ next. weight m.new next ≤ weight m.old Goes + 1) }
+    ensures low { IfOk result (λ next. IsLow (slack next) m.new (S.stored store.new)) }
+    ensures within { m.new.left ≤ m.old.left }
 {
-    match prepare(alloc, run, &m.frame, name, opnds) {
-        Err(fault) => Err(fault),
-        Ok(entered) => {
-            let saved = std::mem::replace(&mut m.frame, entered.frame);
-            m.stack.push(Kont::Aside(saved, m.ty, m.stmts))?;
-            m.ty = entered.ty;
-            m.stmts = entered.stmts;
-            Ok(Next::Goes)
-        }
-    }
-}
-
-/// An assignment, whose step is counted.
-pub(crate) fn assign_any<'i, 'a>(
-    alloc: Global,
-    run: &Run<'i, 'a>,
-    m: &mut Machine<'i, 'a>,
-    path: &'a CPath,
-    rhs: &'a CRhs,
-) -> Result<Next, RunFault>
-    requires small { m.old.left < run.now.budget }
-    ensures gives { Follows run.now m.old (bind (given run.now rhs.now m.old.frame m.old.left)
-        (λ v left. assigned (write_of path.now v m.old.frame) left)) m.new result }
-    ensures falls { IfOk result (λ next. weight m.new ≤ weight m.old + 1) }
-    ensures within { m.new.left ≡ m.old.left }
-{
-    match rhs {
-        CRhs::Call(name, opnds) => call_into(alloc, run, m, path, name, opnds.as_slice()),
-        _ => assign(run, m, path, rhs),
+    let values = judge_all(alloc, store, m.frame.slots.as_slice(), operands)?;
+    match callee {
+        Callee::BuiltIn(built_in) => built_in_aside(m, store, built_in, values.as_slice()),
+        _ => call_function(alloc, run, m, callee, values),
     }
 }

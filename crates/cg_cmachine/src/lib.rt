@@ -1,17 +1,15 @@
-//! The machine of the C subset, [`run_words`]: it runs a program on one word, with a stack of frames of its own.
-//! docs/LANGUAGE.md, "The C subset", says in words what a run does. Structs, pointers, the heap and the built-ins join here.
+//! The C machine: runs a function of a program of the C subset on a store, over a table of abstract functions (docs/LANGUAGE.md, "The C
+//! subset"). Names are resolved before it runs, and loops, branches and calls go over a stack of its own.
 #![tactic(auto)]
 
+mod abstracts;
+mod answer;
 mod calls;
-mod fault;
-mod frames;
-mod index;
 mod machine;
-mod operands;
-mod run;
 mod running;
-mod slots;
-mod words;
+mod statements;
+#[cfg(test)]
+mod tests;
 
-pub use fault::RunFault;
-pub use run::run_words;
+pub use answer::{Ran, run_c, run_c_with};
+pub use cg_cvalues::RunFault;

@@ -1,186 +1,251 @@
 // The steps of a run.
-#![tactic(auto, using(crate::proofs::Statements::statement_steps))]
+#![tactic(auto, using(crate::proofs::Forms::statement_steps))]
 
-ghost use Rattle.std.specs.Prelude.{◌≡◌, ◌<◌, ◌≤◌, ◌+◌, suc, [], IfOk, length};
-ghost use Rattle.cg_ctree.specs.Runs.{as_value, back as back_of, done, goes, onward, write as write_of};
-ghost use Rattle.cg_cmachine.specs.Machine.{Ends, Follows, Went, assigned, block, on_kont, said, stmt as stmt_at, waits, weight};
-ghost use Rattle.cg_cmachine.specs.Views.{value_of};
-ghost use Rattle.cg_cmachine.specs.declared.machine.Next.TheVariants.{Goes};
+ghost use Rattle.std.specs.Prelude.{◌≡◌, ◌<◌, ◌≤◌, ◌+◌, ◌^◌, ℕ, suc, IfOk, length};
+ghost use Rattle.cg_cbuiltins.specs.Called.{state_of};
+ghost use Rattle.cg_cmachine.specs.declared.machine.Next.TheVariants.{Back, Goes};
+ghost use Rattle.cg_cmachine.specs.Flat.{IsActionWithin, IsRightWithin, put_at};
+ghost use Rattle.cg_cmachine.specs.Machine.{Asked, Comes, Ends, Follows, IsKont, IsLow, IsNext, IsState, IsTyped, Went, by_names, framed, slack, lay_at, landed_here, on_kont, said, waits, weight};
+ghost use Rattle.cg_cmachine.specs.Statements.{acts, assigns};
+ghost use Rattle.cg_cresolve.specs.Lines.{IsWhole};
+ghost use Rattle.cg_cresolve.specs.Resolutions.{Resolution};
+ghost use Rattle.cg_crun.specs.Operands.{scalars_of};
+ghost use Rattle.cg_crun.specs.Outcomes.{IsCalm, done};
+ghost use Rattle.cg_crun.specs.Runs.{back as back_of, goes};
+ghost use Rattle.cg_cvalues.specs.Values.{IsWithin, value_of};
+ghost use Rattle.cg_heap.specs.Stored.{Stored};
 
-use crate::RunFault;
-use crate::calls::{assign_any, call_aside};
-use crate::frames::write;
-use crate::machine::{Kont, Machine, Next, Run, branch, give_back, switch, test};
-use crate::operands::Scalar;
-use crate::slots::Frame;
-use cg_ctree::{CPath, CStmt, CTy, Why};
+use crate::abstracts::ask;
+use crate::calls::{call_aside, call_to, new_to};
+use crate::machine::{Frame, Kont, Machine, Next, Run};
+use crate::statements::{assign, branch, give_back, switch, turn};
+use cg_cresolve::{Action, Right};
+use cg_ctree::Why;
+use cg_cvalues::{CValue, Place, RunFault, write};
+use cg_heap::{ExternHeap, Store};
 use std::alloc::Global;
 
-/// What a function of a type returns, as a value.
-fn returned(ty: &CTy, number: u64) -> Scalar
-    ensures { value_of result ≡ as_value ty.now number }
+/// An assignment, whose step is counted.
+fn assign_any<'i, 'a, S: Store>(
+    alloc: Global,
+    run: &Run<'i, 'a>,
+    m: &mut Machine<'a>,
+    store: &mut S,
+    place: Place<'a>,
+    right: &Right<'a>,
+) -> Result<Next<'a>, RunFault>
+    requires within { IsRightWithin (length m.old.frame.slots.items) right.now }
+    requires place { IsWithin (length m.old.frame.slots.items) place }
+    requires low { IsLow 2 m.old (S.stored store.old) }
+    requires small { m.old.frame.at.index + 1 < 2 ^ 64 }
+    ensures gives { (asked : Asked) → Follows run.now.program.now asked run.now.budget m.old (assigns run.now.program.now asked run.now.budget m.old (S.stored store.old) place.entry right.now) m.new (S.stored store.new) result }
+    ensures state { IsState run.now.program.now m.old → IfOk result (λ next. IsState run.now.program.now m.new × IsNext run.now.program.now m.new next) }
+    ensures falls { IfOk result (λ next. weight m.new next ≤ weight m.old Goes + 1) }
+    ensures low { IfOk result (λ next. IsLow (slack next) m.new (S.stored store.new)) }
+    ensures within { m.new.left ≤ m.old.left }
 {
-    match ty {
-        CTy::Word(word) => Scalar::Typed(*word, number),
-        _ => Scalar::Literal(number),
+    match right {
+        Right::Call(callee, operands) => {
+            call_to(alloc, run, m, store, place, *callee, operands.as_slice())
+        }
+        Right::New(heap, name, shape) => new_to(alloc, m, store, place, heap, name, *shape),
+        _ => assign(alloc, m, store, place, right),
     }
 }
 
 /// A statement, whose step is counted.
-fn begin<'i, 'a>(
+fn begin<'i, 'a, S: Store>(
     alloc: Global,
     run: &Run<'i, 'a>,
-    m: &mut Machine<'i, 'a>,
-    stmt: &'a CStmt,
-) -> Result<Next, RunFault>
-    requires small { m.old.left < run.now.budget }
-    ensures gives { Follows run.now m.old (stmt_at run.now m.old.ty.now stmt.now m.old.frame (suc m.old.left)) m.new result }
-    ensures falls { IfOk result (λ next. weight m.new ≤ weight m.old + 1) }
+    m: &mut Machine<'a>,
+    store: &mut S,
+    action: &Action<'a>,
+) -> Result<Next<'a>, RunFault>
+    requires within { IsActionWithin (length m.old.frame.slots.items) action.now }
+    requires low { IsLow 2 m.old (S.stored store.old) }
+    requires small { m.old.frame.at.index + 1 < 2 ^ 64 }
+    ensures gives { (asked : Asked) → Comes run.now.program.now asked run.now.budget m.old (acts run.now.program.now asked run.now.budget m.old (S.stored store.old) action.now) m.new (S.stored store.new) result }
+    ensures state { IsState run.now.program.now m.old → IfOk result (λ next. IsState run.now.program.now m.new × IsNext run.now.program.now m.new next) }
+    ensures falls { IfOk result (λ next. weight m.new next ≤ weight m.old Goes + 1) }
+    ensures low { IfOk result (λ next. IsLow (slack next) m.new (S.stored store.new)) }
+    ensures within { m.new.left ≤ m.old.left }
+{
+    match action {
+        Action::Assign(place, right) => assign_any(alloc, run, m, store, *place, right),
+        Action::If(operand, yes, no) => branch(alloc, m, store, operand, *yes, *no),
+        Action::While(operand, body) => turn(alloc, m, store, operand, *body),
+        Action::Switch(operand, cases) => switch(alloc, m, store, operand, cases.as_slice()),
+        Action::Call(callee, operands) => {
+            call_aside(alloc, run, m, store, *callee, operands.as_slice())
+        }
+        Action::Return(operand) => give_back(alloc, m, store, operand),
+    }
+}
+
+/// The statements of a block are done.
+fn end<'a>(m: &mut Machine<'a>) -> Result<Next<'a>, RunFault>
+    ensures gives { (r : Resolution) (asked : Asked) (n : ℕ) (store : Stored) → Comes r asked n m.old (done (goes (framed r m.old.frame)) (state_of store m.old.changes) m.old.left) m.new store result }
+    ensures state { (r : Resolution) → IsState r m.old → IfOk result (λ next. IsState r m.new × IsNext r m.new next) }
+    ensures falls { IfOk result (λ next. weight m.new next < weight m.old Goes) }
+    ensures low { (store : Stored) → IsLow 1 m.old store → IfOk result (λ next. IsLow (slack next) m.new store) }
     ensures within { m.new.left ≡ m.old.left }
 {
-    match stmt {
-        CStmt::Assign(path, rhs) => assign_any(alloc, run, m, path, rhs),
-        CStmt::If(opnd, yes, no) => branch(run, m, opnd, yes.as_slice(), no.as_slice()),
-        CStmt::While(opnd, body) => test(run, m, opnd, body.as_slice()),
-        CStmt::Switch(opnd, arms) => switch(run, m, opnd, arms.as_slice()),
-        CStmt::Call(name, opnds) => call_aside(alloc, run, m, name, opnds.as_slice()),
-        CStmt::Return(opnd) => give_back(run, m, opnd),
-    }
-}
-
-/// The statements of what waited are next, or its loop's test is.
-fn carry_on<'i, 'a>(
-    run: &Run<'i, 'a>,
-    m: &mut Machine<'i, 'a>,
-    kont: Kont<'i, 'a>,
-) -> Result<Next, RunFault>
-    requires small { m.old.left ≤ run.now.budget }
-    ensures gives { Went run.now m.new (on_kont run.now kont.entry (waits run.now m.old.stack.items) m.old.ty.now (done (goes m.old.frame) m.old.left)) result }
-    ensures falls { IfOk result (λ next. weight m.new ≤ weight m.old) }
-    ensures within { m.new.left ≤ m.old.left }
-{
-    match kont {
-        Kont::Into(_, _, _, _) => Err(RunFault::Stuck(Why::NoReturn)),
-        Kont::Aside(_, _, _) => Err(RunFault::Stuck(Why::NoReturn)),
-        Kont::After(stmts) => {
-            m.stmts = stmts;
+    match m.stack.pop() {
+        Some(Kont::After(block, index)) => {
+            m.frame.at.block = block;
+            m.frame.at.index = index;
             Ok(Next::Goes)
         }
-        Kont::Again(opnd, body, stmts) => {
-            if m.left == 0 {
-                return Err(RunFault::Budget);
-            }
-            m.left -= 1;
-            m.stmts = stmts;
-            test(run, m, opnd, body)
+        Some(Kont::Return(frame)) => {
+            drop(frame);
+            Err(RunFault::Stuck(Why::NoReturn))
         }
-    }
-}
-
-/// The statements at hand are done.
-fn end<'i, 'a>(run: &Run<'i, 'a>, m: &mut Machine<'i, 'a>) -> Result<Next, RunFault>
-    requires small { m.old.left ≤ run.now.budget }
-    ensures gives { Went run.now m.new (waits run.now m.old.stack.items m.old.ty.now (done (goes m.old.frame) m.old.left)) result }
-    ensures falls { IfOk result (λ next. weight m.new < weight m.old) }
-    ensures within { m.new.left ≤ m.old.left }
-{
-    match m.stack.pop() {
         None => Err(RunFault::Stuck(Why::NoReturn)),
-        Some(kont) => carry_on(run, m, kont),
     }
 }
 
 /// One step, or where statements end.
-fn step<'i, 'a>(alloc: Global, run: &Run<'i, 'a>, m: &mut Machine<'i, 'a>) -> Result<Next, RunFault>
+fn step<'i, 'a, S: Store>(
+    alloc: Global,
+    run: &Run<'i, 'a>,
+    m: &mut Machine<'a>,
+    store: &mut S,
+) -> Result<Next<'a>, RunFault>
+    requires state { IsState run.now.program.now m.old }
+    requires low { IsLow 1 m.old (S.stored store.old) }
     requires small { m.old.left ≤ run.now.budget }
-    ensures gives { Went run.now m.new (said run.now m.old Goes) result }
-    ensures falls { IfOk result (λ next. weight m.new < weight m.old) }
+    ensures gives { (asked : Asked) → Went run.now.program.now asked run.now.budget (said run.now.program.now asked run.now.budget m.old (S.stored store.old) Goes) m.new (S.stored store.new) result }
+    ensures state { IfOk result (λ next. IsState run.now.program.now m.new × IsNext run.now.program.now m.new next) }
+    ensures falls { IfOk result (λ next. weight m.new next < weight m.old Goes) }
+    ensures low { IfOk result (λ next. IsLow (slack next) m.new (S.stored store.new)) }
     ensures within { m.new.left ≤ m.old.left }
 {
-    match m.stmts.split_first() {
-        None => end(run, m),
-        Some((stmt, rest)) => {
+    match run.program.line(m.frame.at) {
+        None => end(m),
+        Some(line) => {
             if m.left == 0 {
                 return Err(RunFault::Budget);
             }
             m.left -= 1;
-            m.stmts = rest;
-            begin(alloc, run, m, stmt)
+            begin(alloc, run, m, store, &line.action)
         }
     }
 }
 
-/// A number is returned to a caller, which assigns it.
-fn back_into<'i, 'a>(
-    run: &Run<'i, 'a>,
-    m: &mut Machine<'i, 'a>,
-    path: &'a CPath,
-    frame: Frame<'i, 'a>,
-    ty: &'a CTy,
-    stmts: &'a [CStmt],
-    number: u64,
-) -> Result<Next, RunFault>
-    ensures gives { Went run.now m.new (waits run.now m.old.stack.items ty.now (onward (assigned (write_of path.now (as_value m.old.ty.now number) frame.entry) m.old.left) (block run.now ty.now stmts.now))) result }
-    ensures falls { IfOk result (λ next. weight m.new ≤ weight m.old) }
+/// A value is assigned to a place by the statement at hand, which is done then.
+fn put<'a, S: Store>(
+    m: &mut Machine<'a>,
+    store: &mut S,
+    place: Place<'a>,
+    value: CValue<'a>,
+) -> Result<Next<'a>, RunFault>
+    requires place { IsWithin (length m.old.frame.slots.items) place }
+    requires small { m.old.frame.at.index + 1 < 2 ^ 64 }
+    requires low { IsLow 1 m.old (S.stored store.old) }
+    ensures gives { (r : Resolution) (asked : Asked) (n : ℕ) → Follows r asked n m.old (by_names r asked n m.old.frame.at.function
+        (put_at m.old.frame.slots.items place.entry (value_of value.entry) (state_of (S.stored store.old) m.old.changes) m.old.left)) m.new (S.stored store.new) result }
+    ensures state { (r : Resolution) → IsState r m.old → IfOk result (λ next. IsState r m.new × IsNext r m.new next) }
+    ensures falls { IfOk result (λ next. weight m.new next ≤ weight m.old Goes) }
+    ensures low { IfOk result (λ next. IsLow (slack next) m.new (S.stored store.new)) }
     ensures within { m.new.left ≡ m.old.left }
 {
-    let mut frame = frame;
-    match write(&mut frame, path, returned(m.ty, number)) {
-        Err(why) => Err(RunFault::Stuck(why)),
+    match write(store, m.frame.slots.as_mut_slice(), place, value) {
         Ok(()) => {
-            m.frame = frame;
-            m.ty = ty;
-            m.stmts = stmts;
+            m.frame.at.index += 1;
+            Ok(Next::Goes)
+        }
+        Err(why) => Err(RunFault::Stuck(why)),
+    }
+}
+
+/// A value arrives at the statement at hand, which called: it is assigned, or let go.
+pub(crate) fn land<'i, 'a, S: Store>(
+    run: &Run<'i, 'a>,
+    m: &mut Machine<'a>,
+    store: &mut S,
+    value: CValue<'a>,
+) -> Result<Next<'a>, RunFault>
+    requires state { IsState run.now.program.now m.old }
+    requires low { IsLow 1 m.old (S.stored store.old) }
+    ensures gives { (asked : Asked) → IsWhole (value_of value.entry) → Follows run.now.program.now asked run.now.budget m.old
+        (landed_here run.now.program.now asked run.now.budget m.old (done (value_of value.entry) (state_of (S.stored store.old) m.old.changes) m.old.left)) m.new (S.stored store.new) result }
+    ensures state { IfOk result (λ next. IsState run.now.program.now m.new × IsNext run.now.program.now m.new next) }
+    ensures falls { IfOk result (λ next. weight m.new next ≤ weight m.old Goes) }
+    ensures low { IfOk result (λ next. IsLow (slack next) m.new (S.stored store.new)) }
+    ensures within { m.new.left ≡ m.old.left }
+{
+    let Some(line) = run.program.line(m.frame.at) else {
+        drop(value);
+        return Ok(Next::Goes);
+    };
+    match &line.action {
+        Action::Assign(place, _) => put(m, store, *place, value),
+        _ => {
+            drop(value);
+            m.frame.at.index += 1;
             Ok(Next::Goes)
         }
     }
 }
 
-/// A number is returned to what waits.
-fn back<'i, 'a>(
+/// A value is returned to what waits.
+fn back<'i, 'a, S: Store>(
     run: &Run<'i, 'a>,
-    m: &mut Machine<'i, 'a>,
-    kont: Kont<'i, 'a>,
-    number: u64,
-) -> Result<Next, RunFault>
-    ensures gives { Went run.now m.new (on_kont run.now kont.entry (waits run.now m.old.stack.items) m.old.ty.now (done (back_of number) m.old.left)) result }
-    ensures falls { IfOk result (λ next. weight m.new ≤ weight m.old) }
+    m: &mut Machine<'a>,
+    store: &mut S,
+    kont: Kont<'a>,
+    value: CValue<'a>,
+) -> Result<Next<'a>, RunFault>
+    requires state { IsState run.now.program.now m.old }
+    requires kont { IsKont run.now.program.now kont }
+    requires typed { IsTyped (lay_at run.now.program.now m.old.frame.at.function) (value_of value) }
+    requires low { IsLow 1 m.old (S.stored store.old) }
+    ensures gives { (asked : Asked) → Went run.now.program.now asked run.now.budget
+        (on_kont run.now.program.now asked run.now.budget kont.entry (waits run.now.program.now asked run.now.budget m.old.stack.items) m.old.frame.at.function
+        (done (back_of (scalars_of (value_of value.entry))) (state_of (S.stored store.old) m.old.changes) m.old.left)) m.new (S.stored store.new) result }
+    ensures state { IfOk result (λ next. IsState run.now.program.now m.new × IsNext run.now.program.now m.new next) }
+    ensures falls { IfOk result (λ next. weight m.new next ≤ weight m.old Goes) }
+    ensures low { IfOk result (λ next. IsLow (slack next) m.new (S.stored store.new)) }
     ensures within { m.new.left ≡ m.old.left }
 {
     match kont {
-        Kont::After(_) => Ok(Next::Back(number)),
-        Kont::Again(_, _, _) => Ok(Next::Back(number)),
-        Kont::Into(path, frame, ty, stmts) => back_into(run, m, path, frame, ty, stmts, number),
-        Kont::Aside(frame, ty, stmts) => {
+        Kont::After(_, _) => Ok(Next::Back(value)),
+        Kont::Return(frame) => {
             m.frame = frame;
-            m.ty = ty;
-            m.stmts = stmts;
-            Ok(Next::Goes)
+            land(run, m, store, value)
         }
     }
 }
 
-/// Runs to the end: what is returned, and the steps that are left.
-pub(crate) fn go_on<'i, 'a>(
+/// Runs to the end: what is returned.
+pub(crate) fn go_on<'i, 'a, X: ExternHeap, S: Store>(
     alloc: Global,
+    table: &X,
     run: &Run<'i, 'a>,
-    start: Machine<'i, 'a>,
-) -> Result<(Scalar, u64), RunFault>
-    requires small { start.left ≤ run.now.budget }
-    ensures ends { Ends (said run.now start.entry Goes) result }
-    ensures within { IfOk result (λ r. r.1 ≤ run.now.budget) }
+    m: &mut Machine<'a>,
+    store: &mut S,
+) -> Result<CValue<'a>, RunFault>
+    requires state { IsState run.now.program.now m.old }
+    requires low { IsLow 1 m.old (S.stored store.old) }
+    requires small { m.old.left ≤ run.now.budget }
+    requires calm { IsCalm (said run.now.program.now ((X.on_heaps table.now).asked) run.now.budget m.old (S.stored store.old) Goes) }
+    ensures ends { let asked = (X.on_heaps table.now).asked in
+        Ends value_of (said run.now.program.now asked run.now.budget m.old (S.stored store.old) Goes) (S.stored store.new) m.new.changes m.new.left result }
+    ensures within { m.new.left ≤ m.old.left }
 {
-    let mut m = start;
     let mut next = Next::Goes;
     loop {
         match next {
             Next::Goes => {
-                next = step(alloc, run, &mut m)?;
+                next = step(alloc, run, m, store)?;
             }
-            Next::Back(number) => match m.stack.pop() {
-                None => return Ok((returned(m.ty, number), m.left)),
+            Next::Ask(function, name, values) => {
+                next = ask(alloc, table, run, m, store, function, name, values)?;
+            }
+            Next::Back(value) => match m.stack.pop() {
+                None => return Ok(value),
                 Some(kont) => {
-                    next = back(run, &mut m, kont, number)?;
+                    next = back(run, m, store, kont, value)?;
                 }
             },
         }

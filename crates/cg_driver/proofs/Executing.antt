@@ -1,7 +1,9 @@
 -- From the parts of the two runs of a function to what is said of them.
-use Rattle.std.proofs.Common.{◌≡◌, ℕ, zero, suc, List, [], ◌∷◌, inl, inr, Option, Some, Result, Ok, Err, length, map, refl, sym, ap, ◌∙◌, subst, rules}
+use Rattle.std.proofs.Common.{◌≡◌, ℕ, zero, suc, true, List, [], ◌∷◌, inl, inr, Option, Some, Result, Ok, Err, length, map, refl, sym, ap, ◌∙◌, subst, rules}
+use Rattle.std.specs.Prelude.{IfOk, Vec, string_bytes}
+use Rattle.std.specs.declared.alloc.Global.{Global}
 use Rattle.cg_base.specs.declared.fun.Fun.TheVariants.{User}
-use Rattle.std.specs.Prelude.{IfOk, string_bytes}
+use Rattle.cg_base.specs.declared.kind.Word.TheVariants.{U32}
 use Rattle.cg_base.specs.declared.memory.Memory.{Memory}
 use Rattle.cg_base.specs.declared.place.Place.{Place}
 use Rattle.cg_core.specs.declared.term.Term.{Term}
@@ -11,13 +13,15 @@ use Rattle.cg_cread.specs.Answers.{Answers}
 use Rattle.cg_cread.specs.declared.fault.CFault.TheVariants.{Text}
 use Rattle.cg_ctext.specs.Printed.{printed}
 use Rattle.cg_ctree.specs.declared.tree.CProgram.{CProgram}
+use Rattle.cg_ctree.specs.Runs as old
 use Rattle.cg_ctree.specs.Spells.{CSpells}
 use Rattle.cg_ctree.specs.Trees.{Program, program_of}
 use Rattle.cg_machine.specs.Evaluation.{Table, evaluation, IsSpent}
 use Rattle.cg_machine.specs.Foreigns.{table_of, table_over}
-use Rattle.cg_lower.specs.Lowered.{lowered}
+use Rattle.cg_lower.specs.Lowered.{lowered, function_name}
 use Rattle.cg_lower.specs.Plainly.{Simulates}
 use Rattle.cg_lower.specs.Ranks.{bodies_of}
+use Rattle.cg_plain.specs.Plain.{plain_kernel}
 use Rattle.cg_typing.specs.declared.checked.Checked.{Checked}
 use Rattle.cg_typing.specs.Holds.{kernel_in, cores_in, kept_at}
 use Rattle.cg_typing.specs.Kept.{maybe_core}
@@ -29,13 +33,14 @@ use Rattle.cg_steps.specs.declared.report.Report.{Report}
 use Rattle.cg_steps.specs.declared.status.Status.{Status}
 use Rattle.cg_steps.specs.declared.status.Status.TheVariants.{Done, Refused, Usage, ReadFault, WriteFault, Memory as NoMemory, StepLimit, HeapRefused, CertRefused, TooLarge}
 use Rattle.cg_steps.specs.Steps.{refuses, goes}
-use Rattle.cg_driver.specs.Executed.{cores_of, Emits, Gives, Machines, Executes}
+use Rattle.cg_driver.specs.Executed.{cores_of, Writes, Emits, Gives, GivesAlike, Machines, Executes}
 use Rattle.cg_driver.specs.Judged.{functions_in, HoldsCores}
 use Rattle.cg_driver.specs.Lines.{report, step_limit_line}
 use Rattle.cg_steps.specs.Parts.{IsLine, Reports, Rules}
 use Rattle.cg_driver.specs.Commands.{Judges, evaluated, ran_lines}
 use Rattle.cg_driver.specs.Found.{Found, functions, with_value}
-use Rattle.cg_driver.specs.Run.{bodies_in, table_in, emitted}
+use Rattle.cg_driver.specs.Run.{bodies_in, table_in, emitted, budget, RunsTo}
+use Rattle.cg_driver.proofs.OnWords.{runs_to}
 use Rattle.cg_driver.proofs.Saying.{line_says}
 
 -- ---- the cores of a checked source, as the code keeps them and as plain trees
@@ -58,18 +63,36 @@ emitted_is : (checked : Checked) (p : Program) (text : List ℕ) → p ≡ lower
 emitted_is checked p text made exactly =
     exactly ∙ ap printed made ∙ ap (λ b. printed (lowered b (length (kernel_of (kernel_in checked))))) (bodies_same (cores_in checked))
 
+-- what is printed of the lowered source is its text
+pub writes : (checked : Checked) (p : Program) → p ≡ lowered (bodies_of (cores_in checked)) (length (functions_in checked)) → Simulates checked p
+    → (r : Result (Vec ℕ Global) Memory) → IfOk r (λ text. CSpells text.items p) → IfOk r (λ text. text.items ≡ printed p) → IfOk r (λ text. Writes checked text.items)
+writes checked p made simulates (Ok text) spelled exactly = record { program = p; made = made; simulates = simulates; spelled = spelled; exactly = exactly }
+writes checked p made simulates (Err e) spelled exactly = tt
+
+-- a program that is the lowered source gives what evaluation gives
+gives_alike : (checked : Checked) (p : Program) → plain_kernel (functions_in checked) ≡ true → p ≡ lowered (bodies_of (cores_in checked)) (length (functions_in checked)) → Simulates checked p
+    → GivesAlike checked p
+gives_alike checked p plain made simulates at arg steps cost value there small gives =
+    let s = simulates plain at steps cost arg value there small gives in
+    let moved = subst (λ q. old.crun (budget cost) q (function_name at) (arg ∷ []) ≡ old.done (old.typed U32 s.0) s.3) made s.4 in (
+      s.0,
+      s.1,
+      s.3,
+      subst (λ q. RunsTo q (function_name at) arg (budget cost) s.0 s.3) (sym made)
+          (runs_to (bodies_of (cores_in checked)) (length (functions_in checked)) (budget cost) (function_name at) arg s.0 s.3 moved),
+    )
+
 -- the program that is read back is the one that was written
-pub emits : (checked : Checked) (written read : CProgram) (text bytes : List ℕ) → program_of written ≡ lowered (bodies_of (cores_in checked)) (length (kernel_of (kernel_in checked)))
-    → text ≡ printed (program_of written) → CSpells text (program_of written) → Simulates checked (program_of written) → bytes ≡ text → Answers bytes (Ok read) → Emits checked read
-emits checked written read text bytes made exactly spells simulates same answer =
-    let is : program_of written ≡ program_of read = answer.1 (program_of written) (subst (λ b. CSpells b (program_of written)) (sym same) spells) in
+pub emits : (checked : Checked) (read : CProgram) (text bytes : List ℕ) → plain_kernel (functions_in checked) ≡ true → Writes checked text → bytes ≡ text → Answers bytes (Ok read) → Emits checked read
+emits checked read text bytes plain w same answer =
+    let is : w.program ≡ program_of read = answer.1 w.program (subst (λ b. CSpells b w.program) (sym same) w.spelled) in
     record {
-      spelled = subst (λ b. CSpells b (program_of read)) (same ∙ emitted_is checked (program_of written) text made exactly) answer.0;
-      simulates = subst (Simulates checked) is simulates;
+      spelled = subst (λ b. CSpells b (program_of read)) (same ∙ emitted_is checked w.program text w.made w.exactly) answer.0;
+      alike = subst (GivesAlike checked) is (gives_alike checked w.program plain w.made w.simulates);
     }
 
-pub unreadable : (text bytes : List ℕ) (p : Program) (place : Place) → CSpells text p → bytes ≡ text → Answers bytes (Err (Text place)) → ⊥
-unreadable text bytes p place spells same answer = answer.4 p (subst (λ b. CSpells b p) (sym same) spells)
+pub unreadable : (checked : Checked) (text bytes : List ℕ) (place : Place) → Writes checked text → bytes ≡ text → Answers bytes (Err (Text place)) → ⊥
+unreadable checked text bytes place w same answer = answer.4 w.program (subst (λ b. CSpells b w.program) (sym same) w.spelled)
 
 -- ---- what is said
 
@@ -96,9 +119,9 @@ runs checked at arg v cost result taken n cores m is r line steps gives =
         spelled = m.spelled;
         result = result;
         taken = taken;
-        left = m.left;
-        ends = m.ends;
-        counted = m.counted;
+        left = m.run.left;
+        ends = m.run.ends;
+        counted = m.run.counted;
         equal = sym same;
         lines = refl;
       },

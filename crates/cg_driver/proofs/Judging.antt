@@ -3,7 +3,6 @@ use Rattle.std.proofs.Common.{◌≡◌, ◌⊎◌, inl, inr, ◌<◌, ◌∙◌
 use Rattle.std.specs.Prelude.{codes, slice_get}
 use Rattle.std.proofs.lemmas.Option.{same_Some}
 use Rattle.cg_base.specs.declared.fun.Fun.TheVariants.{User}
-use Rattle.cg_base.specs.declared.kind.Word.TheVariants.{U32}
 use Rattle.cg_base.specs.declared.place.Place.{Place}
 use Rattle.cg_cert.proofs.Complete.{one as one_certificate}
 use Rattle.cg_cert.proofs.OneByte.{one_byte, no_byte}
@@ -11,7 +10,7 @@ use Rattle.cg_check.specs.Judged.{AreTypesWithin}
 use Rattle.cg_check_laws.proofs.OneFault.{one_fault}
 use Rattle.cg_core.specs.Kernels.{Function}
 use Rattle.cg_cread.proofs.One.{one_program as one_text}
-use Rattle.cg_ctree.specs.Runs.{crun, done, typed as typed_result}
+use Rattle.cg_crun.specs.Outcomes.{State, Outcome as Ended, done}
 use Rattle.cg_ctree.specs.Spells.{CSpells}
 use Rattle.cg_desugar.specs.Desugar.{entry_at as name_at}
 use Rattle.cg_desugar.specs.Faults.{NameFault, program_faults}
@@ -21,6 +20,8 @@ use Rattle.cg_faults.specs.Events.{kernel_events, first_failing}
 use Rattle.cg_faults.specs.Fails.{Fails}
 use Rattle.cg_faults.specs.Rule.{Test, rule, type_limit}
 use Rattle.cg_faults_laws.proofs.Occurring.{kernels_are_accepted_or_at_fault}
+use Rattle.cg_heap.specs.declared.cell.Scalar.{Scalar}
+use Rattle.cg_heap.specs.declared.cell.Scalar.TheVariants.{Word}
 use Rattle.cg_heaptext.proofs.Reading.{one_argument}
 use Rattle.cg_lawful.specs.Lawful.{IsLawfulKernel}
 use Rattle.cg_lower.specs.Lowered.{function_name}
@@ -44,7 +45,7 @@ use Rattle.cg_words.specs.Words.{Command, check, recheck, run}
 use Rattle.cg_driver.specs.Commands.{Judgement, no_command, within, spelled, named, acyclic, with_fields, typed, written, certified, plain, has_entry, heap_spelled, in_range, evaluated, RefusesSyntax, unknown_byte, open_comment, unexpected, wrong_bar, RefusesTyping, RefusesType, Judges, script_of}
 use Rattle.cg_driver.specs.Found.{Found, with_program, with_cert, with_entry, with_argument, with_value, functions}
 use Rattle.cg_driver.specs.Lines.{fault_line, name_rule, rule_line, byte_line, limit_line, report}
-use Rattle.cg_driver.specs.Run.{table_in, emitted, budget, Evaluates, RunsOut, IsReport}
+use Rattle.cg_driver.specs.Run.{table_in, emitted, budget, RunsTo, Evaluates, RunsOut, IsReport}
 use Rattle.cg_driver.proofs.Certifying.{one_node, none_misfits, node_ruling, node_not_usage}
 use Rattle.cg_driver.proofs.Cores.{one_list}
 
@@ -301,15 +302,15 @@ record SameRun (r r' l l' : ℕ) : Type 0 where
   result : r ≡ r'
   left : l ≡ l'
 
-run_same : (r r' l l' : ℕ) → done (typed_result U32 r) l ≡ done (typed_result U32 r') l' → SameRun r r' l l'
-run_same r r' l l' e = record { result = cc; left = cc }
+run_same : (r r' l l' : ℕ) (s : State) (o : Ended (List Scalar)) → o ≡ done (Word r ∷ []) s l → o ≡ done (Word r' ∷ []) s l' → SameRun r r' l l'
+run_same r r' l l' s o a b = record { result = cc; left = cc }
 
 report_once : (fs : List Function) (at arg value cost : ℕ) (t t' : List ℕ) → IsReport fs at arg value cost t → IsReport fs at arg value cost t' → t ≡ t'
 report_once fs at arg value cost t t' a b =
     let same : b.cores ≡ a.cores = one_list fs b.cores a.cores b.derived a.derived in
     let program : b.program ≡ a.program = one_text (emitted fs a.cores) b.program a.program (subst (λ c. CSpells (emitted fs c) b.program) same b.spelled) a.spelled in
-    let ends : crun (budget cost) a.program (function_name at) (arg ∷ []) ≡ done (typed_result U32 b.result) b.left = subst (λ p. crun (budget cost) p (function_name at) (arg ∷ []) ≡ done (typed_result U32 b.result) b.left) program b.ends in
-    let e = run_same a.result b.result a.left b.left (sym a.ends ∙ ends) in
+    let ends : RunsTo a.program (function_name at) arg (budget cost) b.result b.left = subst (λ p. RunsTo p (function_name at) arg (budget cost) b.result b.left) program b.ends in
+    let e = run_same a.result b.result a.left b.left _ _ a.ends ends in
     let left : a.left ≡ b.left = e.left in
     let x : a.taken + a.left ≡ budget cost = a.counted in
     let y : b.taken + b.left ≡ budget cost = b.counted in

@@ -1,14 +1,17 @@
 -- What a run of a plain source says, and why (docs/LANGUAGE.md, "Commands").
-use Rattle.std.specs.Prelude.{◌≡◌, ℕ, ◌+◌, ◌*◌, List, [], ◌∷◌, length, Option, Some}
+use Rattle.std.specs.FinMap.{empty}
+use Rattle.std.specs.Prelude.{◌≡◌, ℕ, ◌+◌, ◌*◌, List, [], ◌∷◌, length, Option, Some, None}
 use Rattle.cg_base.specs.declared.fun.Fun.TheVariants.{User}
-use Rattle.cg_base.specs.declared.kind.Word.TheVariants.{U32}
 use Rattle.cg_core.specs.Derivations.{Derivation}
 use Rattle.cg_core.specs.Kernels.{Function}
 use Rattle.cg_core.specs.Terms.{Note, Tree}
+use Rattle.cg_crun.specs.Outcomes.{done}
+use Rattle.cg_crun.specs.Runs.{Linked, crun}
 use Rattle.cg_ctext.specs.Printed.{printed}
-use Rattle.cg_ctree.specs.Runs.{crun, done, typed}
 use Rattle.cg_ctree.specs.Spells.{CSpells}
 use Rattle.cg_ctree.specs.Trees.{Program}
+use Rattle.cg_heap.specs.declared.cell.Scalar.TheVariants.{Word}
+use Rattle.cg_heap.specs.Stored.{Stored}
 use Rattle.cg_machine.specs.Evaluation.{Table, evaluation, IsSpent}
 use Rattle.cg_machine.specs.Foreigns.{table_over}
 use Rattle.cg_lower.specs.Lowered.{lowered, function_name}
@@ -39,6 +42,20 @@ emitted functions cores = printed (lowered (bodies_in cores) (length functions))
 abbrev pub budget : ℕ → ℕ
 budget k = 32 * k + 32
 
+-- a program without abstract functions
+abbrev pub alone : Program → Linked
+alone program = record { program = program; links = []; asked = λ name us m. None }
+
+-- a store that has never had a cell
+abbrev pub no_cells : Stored
+no_cells = record { cells = empty; top = 0 }
+
+-- A run of a C function on a word, in at most so many steps and from a store without cells, ends with a word, with so many steps left: no
+-- cell is made, freed or kept.
+abbrev pub RunsTo : Program → List ℕ → ℕ → ℕ → ℕ → ℕ → Type 0
+RunsTo program name arg steps result left =
+    crun (alone program) steps name (Word arg ∷ []) no_cells ≡ done (Word result ∷ []) (record { store = no_cells; made = []; freed = [] }) left
+
 -- evaluation of the function at a position gives this number on a word, at this cost, which is within the steps
 pub record Evaluates (functions : List Function) (at arg steps value cost : ℕ) : Type 0 where
   pub cores : List (Option (Tree Note))
@@ -52,8 +69,7 @@ pub record RunsOut (functions : List Function) (at arg steps : ℕ) : Type 0 whe
   pub spent : IsSpent (table_in functions cores) steps (function (User at) []) (number arg)
 
 -- The seven lines of a run of the function at a position on a word, where evaluation gives this value at this cost: the program that the C
--- text spells, run from the same word, ends within the budget, and gives the result; the two are equal. Words have no cells, so none is
--- made, freed or kept.
+-- text spells, run from the same word, ends within the budget, and gives the result; the two are equal. No cell is made, freed or kept.
 pub record IsReport (functions : List Function) (at arg value cost : ℕ) (text : List ℕ) : Type 0 where
   pub cores : List (Option (Tree Note))
   pub derived : AreCores functions cores
@@ -62,7 +78,7 @@ pub record IsReport (functions : List Function) (at arg value cost : ℕ) (text 
   pub result : ℕ
   pub taken : ℕ
   pub left : ℕ
-  pub ends : crun (budget cost) program (function_name at) (arg ∷ []) ≡ done (typed U32 result) left
+  pub ends : RunsTo program (function_name at) arg (budget cost) result left
   pub counted : taken + left ≡ budget cost
   pub equal : result ≡ value
   pub lines : text ≡ report (number value) (number result) cost taken [] [] []

@@ -1,23 +1,37 @@
 // Running a function of a plain source twice: by evaluation, and by the steps of its C.
-ghost use Rattle.std.specs.Prelude.{◌≡◌, ◌<◌, ◌≤◌, ◌^◌, ◌+◌, ℕ, IfOk, IsTrue, length};
+ghost use Rattle.std.specs.Prelude.{◌≡◌, ◌∷◌, ◌<◌, ◌≤◌, ◌^◌, ◌+◌, ℕ, [], IfOk, IsTrue, length};
+ghost use Rattle.cg_ctree.specs.Trees.{program_of};
+ghost use Rattle.cg_heap.specs.declared.cell.Scalar.TheVariants.{Word};
 ghost use Rattle.cg_plain.specs.Plain.{plain_kernel};
 ghost use Rattle.cg_value.specs.Values.{number, value_of};
-ghost use Rattle.cg_driver.specs.Executed.{Emits, Gives, Machines, Executes};
+ghost use Rattle.cg_driver.specs.Executed.{Writes, Emits, Ends, Gives, Machines, Executes};
 ghost use Rattle.cg_driver.specs.Judged.{functions_in, HoldsCores};
+ghost use Rattle.cg_driver.specs.Run.{RunsTo};
 ghost use Rattle.cg_steps.specs.Parts.{Reports};
 
 use crate::lines::{ran, step_limit};
-use cg_base::Memory;
-use cg_cmachine::{RunFault, run_words};
+use cg_base::{Items, Memory, Name};
+use cg_cmachine::{RunFault, run_c};
 use cg_cread::{CFault, read_c};
 use cg_ctext::print_c;
 use cg_ctree::CProgram;
 use cg_eval::{EvalFault, eval, more_budget, plain_is_never_stuck};
+use cg_heap::{MapStore, Scalar};
 use cg_lower::{function_name, lower};
 use cg_steps::Report;
 use cg_typing::Checked;
 use cg_value::Value;
 use std::alloc::Global;
+
+/// The C text of a source.
+fn text_of(alloc: Global, checked: &Checked) -> Result<Vec<u8>, Memory>
+    requires plain { IsTrue (plain_kernel (functions_in checked.now)) }
+    requires short { length (functions_in checked.now) ≤ 4096 }
+    ensures { IfOk result (λ text. Writes checked.now text.items) }
+{
+    let program = lower(alloc, checked)?;
+    print_c(alloc, &program)
+}
 
 /// The C of a source: written as a text, and read back from it.
 fn emit(alloc: Global, checked: &Checked) -> Result<CProgram, Memory>
@@ -25,12 +39,44 @@ fn emit(alloc: Global, checked: &Checked) -> Result<CProgram, Memory>
     requires short { length (functions_in checked.now) ≤ 4096 }
     ensures { IfOk result (Emits checked.now) }
 {
-    let program = lower(alloc, checked)?;
-    let text = print_c(alloc, &program)?;
+    let text = text_of(alloc, checked)?;
     match read_c(alloc, &text) {
         Ok(program) => Ok(program),
         Err(CFault::Text(_)) => unreachable!(),
         Err(CFault::Memory) => Err(Memory),
+    }
+}
+
+/// The number that the scalars of a word are.
+fn word_of(scalars: &Items<Scalar>) -> u64
+    ensures { (n : ℕ) → scalars.now ≡ Word n ∷ [] → result ≡ n }
+{
+    match scalars.get(0) {
+        Some(scalar) => scalar.number(),
+        None => 0,
+    }
+}
+
+/// What a C function gives on a word, and the steps that it takes, where its run from a store without cells ends with a word.
+fn run_on_word(
+    alloc: Global,
+    program: &CProgram,
+    function: &Name,
+    arg: u64,
+    most: u64,
+) -> Result<(u64, u64), Memory>
+    requires few { most ≤ 2 ^ 46 }
+    requires ends { (result : ℕ) × (left : ℕ) × RunsTo (program_of program.now) function.now arg most result left }
+    ensures { IfOk result (λ r. Ends (program_of program.now) function.now arg most r.0 r.1) }
+{
+    let mut scalars = Items::new(alloc);
+    scalars.push(Scalar::Word(arg))?;
+    let mut store = MapStore::new(alloc);
+    match run_c(alloc, program, function, &scalars, &mut store, most) {
+        Ok(ran) => Ok((word_of(&ran.value), ran.steps)),
+        Err(RunFault::Memory) => Err(Memory),
+        Err(RunFault::Stuck(_)) => unreachable!(),
+        Err(RunFault::Budget) => unreachable!(),
     }
 }
 
@@ -50,15 +96,10 @@ fn machine(
     requires gives { (steps : ℕ) × (steps ≤ 2 ^ 40) × Gives checked.now at arg steps (value_of value.now) cost }
     ensures { IfOk result (λ r. Machines checked.now at arg (value_of value.now) cost r.0 r.1) }
 {
+    let function = function_name(alloc, at)?;
     let program = emit(alloc, checked)?;
-    let name = function_name(alloc, at)?;
     more_budget();
-    match run_words(alloc, &program, &name, arg, 32 * cost + 32) {
-        Ok(ran) => Ok(ran),
-        Err(RunFault::Memory) => Err(Memory),
-        Err(RunFault::Stuck(_)) => unreachable!(),
-        Err(RunFault::Budget) => unreachable!(),
-    }
+    run_on_word(alloc, &program, &function, arg, 32 * cost + 32)
 }
 
 /// The number that a value is, where it is a word.
@@ -72,7 +113,7 @@ fn word_in(value: &Value) -> u64
 }
 
 /// What is said where evaluation gives a value at this cost.
-fn run_c(
+fn run_both(
     alloc: Global,
     checked: &Checked,
     at: u32,
@@ -110,7 +151,7 @@ pub(crate) fn execute(
 {
     plain_is_never_stuck();
     match eval(alloc, checked, at, Value::Num(arg), steps) {
-        Ok((value, cost)) => run_c(alloc, checked, at, arg, value, cost),
+        Ok((value, cost)) => run_both(alloc, checked, at, arg, value, cost),
         Err(EvalFault::StepLimit) => step_limit(alloc, steps),
         Err(EvalFault::Memory) => Err(Memory),
     }

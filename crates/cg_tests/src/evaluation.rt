@@ -1,5 +1,5 @@
 // Evaluation of plain sources, and their C.
-ghost use Rattle.std.specs.Prelude.{IfOk, IsTrue};
+ghost use Rattle.std.specs.Prelude.{◌≤◌, ◌^◌, IfOk, IsTrue};
 ghost use Rattle.cg_core.specs.Kernels.{kernel_of};
 ghost use Rattle.cg_ctree.specs.Trees.{program_of as c_program_of};
 ghost use Rattle.cg_plain.specs.Plain.{plain_kernel};
@@ -8,10 +8,11 @@ ghost use Rattle.cg_typing.specs.Holds.{kernel_in};
 
 use crate::sources::checked_source;
 use cg_base::{Items, Name, Ty, Word};
-use cg_cmachine::{RunFault, run_words};
+use cg_cmachine::{Ran, RunFault, run_c};
 use cg_ctext::print_c;
 use cg_ctree::CProgram;
 use cg_eval::{EvalFault, eval, plain_is_never_stuck};
+use cg_heap::{MapStore, Scalar};
 use cg_lower::{lower, lower_function};
 use cg_plain::is_plain;
 use cg_typing::Checked;
@@ -55,6 +56,24 @@ fn lowered(rt: &impl Abort, alloc: Global, checked: &Checked) -> Result<CProgram
     Ok(lower(alloc, checked)?)
 }
 
+/// Runs the C function `f0` on a word, on a store without cells.
+fn run_f0(alloc: Global, program: &CProgram, arg: u64, budget: u64) -> Result<Ran, RunFault>
+    requires few { budget ≤ 2 ^ 46 }
+{
+    let mut scalars = Items::new(alloc);
+    scalars.push(Scalar::Word(arg))?;
+    let mut store = MapStore::new(alloc);
+    let name = Name::new(alloc, b"f0")?;
+    run_c(alloc, program, &name, &scalars, &mut store, budget)
+}
+
+/// Whether a run gave this word and no cell.
+fn is_word(ran: &Ran, number: u64) -> bool {
+    ran.made.len() == 0
+        && ran.freed.len() == 0
+        && matches!(ran.value.as_slice(), [Scalar::Word(given)] if *given == number)
+}
+
 #[test]
 fn values_are_copied_and_words_printed(rt: HostRuntime) -> Result<(), Fail> {
     let alloc = rt.alloc();
@@ -82,16 +101,12 @@ fn the_c_of_a_source_gives_the_same(rt: HostRuntime) -> Result<(), Fail> {
         program.funs.get(0).map(|first| first.name.bytes()),
         Some(b"f1".as_slice())
     );
-    let name = Name::new(alloc, b"f0")?;
     // Two calls of three steps each, and the return.
-    match run_words(alloc, &program, &name, 3, 448) {
-        Ok((value, steps)) => assert_eq!(rt; (value, steps), (12, 7)),
-        Err(_) => panic!(rt; "the C is stuck"),
-    }
-    match run_words(alloc, &program, &name, 3, 6) {
-        Err(RunFault::Budget) => Ok(()),
-        _ => panic!(rt; "the C ends too early"),
-    }
+    let ran = run_f0(alloc, &program, 3, 448);
+    assert!(rt; matches!(&ran, Ok(ran) if is_word(ran, 12) && ran.steps == 7));
+    let ran = run_f0(alloc, &program, 3, 6);
+    assert!(rt; matches!(&ran, Err(RunFault::Budget)));
+    Ok(())
 }
 
 #[test]

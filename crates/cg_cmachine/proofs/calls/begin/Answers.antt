@@ -1,13 +1,8 @@
-use Rattle.std.proofs.Common.{arith, map}
-use Rattle.cg_cmachine.specs.Views.{frame_of, value_of}
-use Rattle.cg_cmachine.proofs.Entries as entries
-use Rattle.cg_cmachine.proofs.Indexes as indexes
+use Rattle.std.proofs.Common.{◌<◌, arith, length}
+use Rattle.cg_cmachine.proofs.Entries.{more_unset}
 use Rattle.cg_cmachine.proofs.calls.begin.Goals as goal
 
-pub returns-in_err-slots : goal.returns-in_err-slots
-returns-in_err-slots c = λ left. grind (arith, entries.called_refused)
-
-pub invariant_of-result : goal.invariant_of-result
-invariant_of-result c =
-    indexes.entered c.in-Some.callee.function.now c.in-Some-body.body (map value_of c.args.scalars.now) (frame_of c.in_ok-slots.slots.items) c.in-Some.callee.names.now c.in-Some-body.is
-    (rw (c.as_slice.ensures, c.as_slice-2.ensures) at c.in_ok-slots.ensures) c.in-Some.ensures.indexed
+pub loop-slots-preserved : goal.loop-slots-preserved
+loop-slots-preserved c =
+    let less : length c.loop-slots.slots.items < c.args.head.slots = grind arith in
+    more_unset c.loop-slots.slots.items c.push.new.self.items _ c.args.head.slots c.in_ok-push.ensures.items less c.loop-slots.invariant

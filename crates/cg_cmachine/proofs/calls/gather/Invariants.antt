@@ -1,0 +1,11 @@
+use Rattle.std.proofs.Common.{◌≡◌, ◌++◌, drop, map}
+use Rattle.cg_clayout.specs.Kinds.{layout_of}
+use Rattle.cg_crun.specs.Outcomes.{ok, on}
+use Rattle.cg_cvalues.specs.Values.{value_of}
+use Rattle.cg_cmachine.specs.Machine.{gathered}
+use Rattle.cg_cmachine.proofs.calls.gather.Given as goal
+
+abbrev pub invariant-loop-i : goal.invariant-loop-i
+invariant-loop-i l =
+    gathered (map layout_of l.fn.params) (map value_of l.fn.values)
+    ≡ on (gathered (map layout_of (drop l.i l.params)) (map value_of (drop l.i l.values))) (λ us. ok (l.slots.items ++ us))
