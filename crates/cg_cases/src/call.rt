@@ -1,6 +1,7 @@
 // What a case's call answers, as a text.
 use crate::case::{Called, Case};
-use crate::ctext;
+use crate::crun::run_text;
+use crate::ctext::read_c_text;
 use crate::evaluation::eval_text;
 use crate::instances::{copies_text, count_text};
 use crate::kernel::kernel_text;
@@ -131,8 +132,8 @@ fn called(
 ) -> Result<String, AllocError> {
     match name {
         b"words" => words_text(alloc, words),
-        b"cread" => ctext::read_text(alloc, source),
-        b"crun" => ctext::run_text(alloc, words, source),
+        b"cread" => read_c_text(alloc, source),
+        b"crun" => run_text(alloc, words, source),
         b"eval" => eval_text(alloc, words, source),
         b"read" => read_text(alloc, source),
         b"names" => names_text(alloc, source),

@@ -6,6 +6,8 @@ mod accepted;
 mod answer;
 mod call;
 mod case;
+mod cells;
+mod crun;
 mod ctext;
 mod evaluation;
 mod instances;
