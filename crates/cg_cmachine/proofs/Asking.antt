@@ -1,5 +1,5 @@
 -- Calls of abstract functions, as equations.
-use Rattle.std.proofs.Common.{◌≡◌, ℕ, ◌+◌, ◌-◌, ◌<◌, ◌≤◌, Bool, true, false, cond, nat_eq, nat_lt, Some, None, List, [], ◌∷◌, ◌++◌, length, map, take, drop, refl, sym, ap, ◌∙◌, arith}
+use Rattle.std.proofs.Common.{◌≡◌, ℕ, ◌+◌, ◌-◌, ◌<◌, ◌≤◌, Bool, true, false, cond, nat_eq, nat_lt, Some, None, List, [], ◌∷◌, ◌++◌, length, map, take, drop, refl, sym, subst, ap, ◌∙◌, arith}
 use Rattle.std.proofs.lemmas.List.{take_all}
 use Rattle.std.specs.List.{flat_map}
 use Rattle.std.specs.Prelude.{slice_get}
@@ -37,7 +37,7 @@ use Rattle.cg_heap.specs.declared.cell.Scalar.TheVariants.{Word}
 use Rattle.cg_heap.specs.Stored.{Stored}
 use Rattle.cg_cmachine.specs.declared.machine.Frame.{Frame}
 use Rattle.cg_cmachine.specs.declared.machine.Kont.{Kont}
-use Rattle.cg_cmachine.specs.Abstracts.{Answers, IsAdded}
+use Rattle.cg_cmachine.specs.Abstracts.{Answers, IsAdded, answered_value, read_whole}
 use Rattle.cg_cmachine.specs.Machine.{Asked, abstract_call, block, function_at, gathered, landed, program, waits, weight}
 use Rattle.cg_cmachine.proofs.Entries.{at_place, laid}
 use Rattle.cg_cmachine.proofs.Steps.{Fails, waits_astray, waits_stuck}
@@ -104,6 +104,12 @@ size_other l us h = by_test (nat_eq (length us) (size l)) (grind (arith, h))
 pub whole_from : (l : Layout) (us : List Scalar) → length us ≡ size l → slots_from 0 l us ≡ us
 whole_from l us e = take_all (size l) us (omega (arith, e))
 
+pub whole_read : (l : Layout) (us : List Scalar) → length us ≡ size l → read l (slots_from 0 l us) ≡ read_whole l us
+whole_read l us e = ap (read l) (whole_from l us e) ∙ sym (ap (λ j. on j (λ _. read l us)) (size_same l us e))
+
+pub whole_other : (l : Layout) (us : List Scalar) → (length us ≡ size l → ⊥) → read_whole l us ≡ no KindsDiffer
+whole_other l us h = ap (λ j. on j (λ _. read l us)) (size_other l us h)
+
 -- ---- an answer
 
 few : (cost left : ℕ) → left < cost → nat_lt left cost ≡ true
@@ -136,6 +142,38 @@ pub answered_gives : (j : Judged (Unit {0})) (l : Layout) (m m' : Stored) (c c' 
     → m' ≡ a.out.store → IsAdded a c c' → answered j l (state_of m c) left (Some a) ≡ done a.out.result (state_of m' c') rest
 answered_gives j l m m' c c' left rest a e h z store new =
     answered_runs j l (state_of m c) left rest a e h ∙ rw (size_same l a.out.result z) (ap (λ s. done a.out.result s rest) (added a m m' c c' store new))
+
+-- what is done with an answer's scalars
+abbrev reads : Layout → Outcome (List Scalar) → Outcome Value
+reads l o = bind o (λ us after rest. lift after.store (read l us) (λ v. done v after rest))
+
+reads_lifted : (j : Judged (Unit {0})) (l : Layout) (us : List Scalar) (s : State) (rest : ℕ)
+    → reads l (lift s.store j (λ _. done us s rest)) ≡ lift s.store (on j (λ _. read l us)) (λ v. done v s rest)
+reads_lifted (ok u) l us s rest = refl
+reads_lifted (no why) l us s rest = refl
+
+module _ (l : Layout) (m m' : Stored) (c c' : Changes) (left : ℕ) (a : Answer) where
+  pub value_fails : {B : Type 0} (to : B → Value) (fault : RunFault) → Answers a m c left m' c' (Err fault) → called.Ends to (answered_value l (state_of m c) left a) m' c' (Err fault)
+  value_fails to (Stuck why) h = absurd h
+  value_fails to Budget h = ap (reads l) (answered_needs (ok tt) l (state_of m c) left a refl h.0) ∙ ap needs (sym h.1)
+  value_fails to Memory h = tt
+
+  module _ (got : List Scalar × ℕ) (h : Answers a m c left m' c' (Ok got)) where
+    value_is : answered_value l (state_of m c) left a ≡ lift m' (read_whole l got.0) (λ v. done v (state_of m' c') got.1)
+    value_is =
+        ap (reads l) (answered_runs (ok tt) l (state_of m c) left got.1 a refl h.1)
+        ∙ reads_lifted (has_size l a.out.result) l a.out.result (state_behind (state_of m c) a.out) got.1
+        ∙ ap (λ (s : State). lift s.store (read_whole l a.out.result) (λ v. done v s got.1)) (added a m m' c c' h.2 h.3)
+        ∙ ap (λ us. lift m' (read_whole l us) (λ v. done v (state_of m' c') got.1)) (sym h.0)
+
+    pub value_unread : {A B : Type 0} (of : A → Value) (to : B → Value) (fault : RunFault) → Tries of (read_whole l got.0) (Err fault)
+        → called.Ends to (answered_value l (state_of m c) left a) m' c' (Err fault)
+    value_unread of to (Stuck why) e = value_is ∙ ap (λ j. lift m' j (λ v. done v (state_of m' c') got.1)) e
+    value_unread of to Budget e = absurd e
+    value_unread of to Memory e = tt
+
+    pub value_read : (v : Value) → read_whole l got.0 ≡ ok v → answered_value l (state_of m c) left a ≡ done v (state_of m' c') got.1
+    value_read v e = value_is ∙ ap (λ j. lift m' j (λ v. done v (state_of m' c') got.1)) e
 
 module _ (r : Resolution) (asked : Asked) (n : ℕ) where
   -- what is called is not astray where the run isn't
@@ -181,37 +219,11 @@ module _ (r : Resolution) (asked : Asked) (n : ℕ) where
   agreed : (g : CFun) (vs : List Value) (us : List Scalar) → gathered (laid r.whole.program.structs g.params) vs ≡ ok us → agree r.whole.program.structs g.params vs ≡ fine
   agreed g vs us e = agree_is r.whole.program.structs g.params vs ∙ rw e refl
 
-  -- what is done with the answer
-  abbrev reads : CFun → Outcome (List Scalar) → Outcome Value
-  reads g o = bind o (λ us after rest. lift after.store (read (layout r.whole.program.structs g.ty) us) (λ v. done v after rest))
-
-  pub call_needs : (g : CFun) (name : List ℕ) (vs : List Value) (us : List Scalar) (s : State) (left : ℕ) (a : Answer)
-      → gathered (laid r.whole.program.structs g.params) vs ≡ ok us → left < a.cost → at_call g name vs s left (Some a) ≡ needs s.store
-  call_needs g name vs us s left a e h = ap (reads g) (answered_needs _ (layout r.whole.program.structs g.ty) s left a (agreed g vs us e) h)
-
-  pub call_sized : (g : CFun) (name : List ℕ) (vs : List Value) (us : List Scalar) (s : State) (left rest : ℕ) (a : Answer)
-      → gathered (laid r.whole.program.structs g.params) vs ≡ ok us → a.cost + rest ≡ left → (length a.out.result ≡ size (layout r.whole.program.structs g.ty) → ⊥)
-      → at_call g name vs s left (Some a) ≡ stuck KindsDiffer a.out.store
-  call_sized g name vs us s left rest a e h z = ap (reads g) (answered_sized _ (layout r.whole.program.structs g.ty) s left rest a (agreed g vs us e) h z)
-
-  call_runs : (g : CFun) (name : List ℕ) (vs : List Value) (us : List Scalar) (m m' : Stored) (c c' : Changes) (left rest : ℕ) (a : Answer)
-      → gathered (laid r.whole.program.structs g.params) vs ≡ ok us → a.cost + rest ≡ left → length a.out.result ≡ size (layout r.whole.program.structs g.ty)
-      → m' ≡ a.out.store → IsAdded a c c'
-      → at_call g name vs (state_of m c) left (Some a) ≡ lift m' (read (layout r.whole.program.structs g.ty) a.out.result) (λ v. done v (state_of m' c') rest)
-  call_runs g name vs us m m' c c' left rest a e h z store new =
-      ap (reads g) (answered_gives _ (layout r.whole.program.structs g.ty) m m' c c' left rest a (agreed g vs us e) h z store new)
-
-  pub call_unread : (g : CFun) (name : List ℕ) (vs : List Value) (us : List Scalar) (m m' : Stored) (c c' : Changes) (left rest : ℕ) (a : Answer) (why : Why)
-      → gathered (laid r.whole.program.structs g.params) vs ≡ ok us → a.cost + rest ≡ left → length a.out.result ≡ size (layout r.whole.program.structs g.ty)
-      → m' ≡ a.out.store → IsAdded a c c' → read (layout r.whole.program.structs g.ty) a.out.result ≡ no why
-      → at_call g name vs (state_of m c) left (Some a) ≡ stuck why m'
-  call_unread g name vs us m m' c c' left rest a why e h z store new i = call_runs g name vs us m m' c c' left rest a e h z store new ∙ rw i refl
-
-  pub call_gives : (g : CFun) (name : List ℕ) (vs : List Value) (us : List Scalar) (m m' : Stored) (c c' : Changes) (left rest : ℕ) (a : Answer) (v : Value)
-      → gathered (laid r.whole.program.structs g.params) vs ≡ ok us → a.cost + rest ≡ left → length a.out.result ≡ size (layout r.whole.program.structs g.ty)
-      → m' ≡ a.out.store → IsAdded a c c' → read (layout r.whole.program.structs g.ty) a.out.result ≡ ok v
-      → at_call g name vs (state_of m c) left (Some a) ≡ done v (state_of m' c') rest
-  call_gives g name vs us m m' c c' left rest a v e h z store new i = call_runs g name vs us m m' c c' left rest a e h z store new ∙ rw i refl
+  -- what the answer gives
+  call_values : (g : CFun) (name : List ℕ) (vs : List Value) (us : List Scalar) (s : State) (left : ℕ) (a : Answer)
+      → gathered (laid r.whole.program.structs g.params) vs ≡ ok us → at_call g name vs s left (Some a) ≡ answered_value (layout r.whole.program.structs g.ty) s left a
+  call_values g name vs us s left a e =
+      ap (λ j. reads (layout r.whole.program.structs g.ty) (answered j (layout r.whole.program.structs g.ty) s left (Some a))) (agreed g vs us e)
 
   -- no more steps are left than there were, and the top rises as far as the table says
   call_under : (g : CFun) (name : List ℕ) (vs : List Value) (s : State) (left t : ℕ) (a : Answer) → a.out.store.top ≤ t → Under t left (at_call g name vs s left (Some a))
@@ -255,44 +267,14 @@ module _ (r : Resolution) (asked : Asked) (n : ℕ) where
       asked_of : (a : Answer) → asked name (flat_map scalars_of vs) m ≡ Some a → asked name us m ≡ Some a
       asked_of a i = ap (λ z. asked name z m) (gathered_own (map layout_of params) vs us e) ∙ i
 
-      pub ends_table : {B : Type 0} (to : B → Value) (fault : RunFault) → ((a : Answer) → asked name us m ≡ Some a → Answers a m d left m' d' (Err fault)) → called.Ends to result m' d' (Err fault)
-      ends_table to (Stuck why) t =
-          calm_asked f name vs (state_of m d) left (λ g. IsHead r.whole g kind params slots has_body) _ h calm (λ g a head i j. absurd (t a (asked_of a i)))
-      ends_table to Budget t =
+      pub ends_called : {B : Type 0} (to : B → Value) (ended : Result (B × ℕ) RunFault)
+          → ((a : Answer) → asked name us m ≡ Some a → called.Ends to (answered_value (layout_of kind) (state_of m d) left a) m' d' ended) → called.Ends to result m' d' ended
+      ends_called to ended t =
           calm_asked f name vs (state_of m d) left (λ g. IsHead r.whole g kind params slots has_body) _ h calm (λ g a head i j.
-          let u = t a (asked_of a i) in
-          j ∙ call_needs g name vs us (state_of m d) left a (known_args g vs (ok us) kind params slots has_body head e) u.0 ∙ ap needs (sym u.1))
-      ends_table to Memory t = tt
-
-      module _ (got : List Scalar × ℕ) (t : (a : Answer) → asked name us m ≡ Some a → Answers a m d left m' d' (Ok got)) where
-        pub ends_sized : (length got.0 ≡ size (layout_of kind) → ⊥) → result ≡ stuck KindsDiffer m'
-        ends_sized z =
-            calm_asked f name vs (state_of m d) left (λ g. IsHead r.whole g kind params slots has_body) _ h calm (λ g a head i j.
-            let u = t a (asked_of a i) in
-            j ∙ call_sized g name vs us (state_of m d) left got.1 a (known_args g vs (ok us) kind params slots has_body head e) u.1 (λ y. z (ap length u.0 ∙ y ∙ ap size (sym head.result)))
-            ∙ ap (stuck KindsDiffer) (sym u.2))
-
-        same_read : (g : CFun) (a : Answer) (j : Judged Value) → got.0 ≡ a.out.result → layout_of kind ≡ layout r.whole.program.structs g.ty → length got.0 ≡ size (layout_of kind)
-            → read (layout_of kind) (slots_from 0 (layout_of kind) got.0) ≡ j → read (layout r.whole.program.structs g.ty) a.out.result ≡ j
-        same_read g a j x y z w =
-            ap (λ us. read (layout r.whole.program.structs g.ty) us) (sym x) ∙ ap (λ l. read l got.0) (sym y) ∙ ap (read (layout_of kind)) (sym (whole_from (layout_of kind) got.0 z)) ∙ w
-
-        pub ends_unread : {A B : Type 0} (of : A → Value) (to : B → Value) (fault : RunFault) → length got.0 ≡ size (layout_of kind)
-            → Tries of (read (layout_of kind) (slots_from 0 (layout_of kind) got.0)) (Err fault) → called.Ends to result m' d' (Err fault)
-        ends_unread of to (Stuck why) z w =
-            calm_asked f name vs (state_of m d) left (λ g. IsHead r.whole g kind params slots has_body) _ h calm (λ g a head i j.
-            let u = t a (asked_of a i) in
-            j ∙ call_unread g name vs us m m' d d' left got.1 a why (known_args g vs (ok us) kind params slots has_body head e) u.1 (ap length (sym u.0) ∙ z ∙ ap size head.result) u.2 u.3
-            (same_read g a (no why) u.0 head.result z w))
-        ends_unread of to Budget z w = absurd w
-        ends_unread of to Memory z w = tt
-
-        pub ends_value : (v : Value) → length got.0 ≡ size (layout_of kind) → read (layout_of kind) (slots_from 0 (layout_of kind) got.0) ≡ ok v → result ≡ done v (state_of m' d') got.1
-        ends_value v z w =
-            calm_asked f name vs (state_of m d) left (λ g. IsHead r.whole g kind params slots has_body) _ h calm (λ g a head i j.
-            let u = t a (asked_of a i) in
-            j ∙ call_gives g name vs us m m' d d' left got.1 a v (known_args g vs (ok us) kind params slots has_body head e) u.1 (ap length (sym u.0) ∙ z ∙ ap size head.result) u.2 u.3
-            (same_read g a (ok v) u.0 head.result z w))
+          subst (λ (o : Outcome Value). called.Ends to o m' d' ended)
+          (sym (j ∙ call_values g name vs us (state_of m d) left a (known_args g vs (ok us) kind params slots has_body head e)
+          ∙ ap (λ l. answered_value l (state_of m d) left a) (sym head.result)))
+          (t a (asked_of a i)))
 
 pub fails_ends : {A : Type 0} (to : A → Value) (o : Outcome Value) (m : Stored) (d : Changes) (fault : RunFault) → called.Ends to o m d (Err fault) → Fails o m fault
 fails_ends to o m d (Stuck why) e = e

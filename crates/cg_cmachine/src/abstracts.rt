@@ -3,12 +3,13 @@
 
 ghost use Rattle.std.specs.Prelude.{◌≡◌, ◌<◌, ◌≤◌, ◌+◌, ◌^◌, ◌++◌, Some, IfOk, IfErr, OnOk, map};
 ghost use Rattle.cg_cbuiltins.specs.Called.{Ends, state_of};
-ghost use Rattle.cg_cmachine.specs.Abstracts.{Answers};
+ghost use Rattle.cg_clayout.specs.Kinds.{layout_of};
+ghost use Rattle.cg_cmachine.specs.Abstracts.{Answers, answered_value, read_whole};
 ghost use Rattle.cg_cmachine.specs.declared.machine.Next.TheVariants.{Ask, Goes};
-ghost use Rattle.cg_cmachine.specs.Machine.{IsLow, abstract_call, function_at, IsNext, IsState, Went, slack, said, weight};
-ghost use Rattle.cg_crun.specs.Operands.{scalars_of};
+ghost use Rattle.cg_cmachine.specs.Machine.{IsLow, abstract_call, function_at, gathered, IsNext, IsState, Went, slack, said, weight};
 ghost use Rattle.cg_crun.specs.Outcomes.{IsCalm};
-ghost use Rattle.cg_cvalues.specs.Values.{value_of};
+ghost use Rattle.cg_cvalues.specs.declared.fault.RunFault.TheVariants.{Memory as Wanting};
+ghost use Rattle.cg_cvalues.specs.Values.{Tries, value_of};
 ghost use Rattle.cg_heap.specs.Calls.{Answer};
 
 use crate::calls::gather;
@@ -16,9 +17,10 @@ use crate::machine::{Machine, Next, Run};
 use crate::running::land;
 use cg_base::{Items, Memory, Name};
 use cg_cbuiltins::Changes;
+use cg_clayout::Kind;
 use cg_ctree::Why;
 use cg_cvalues::{CValue, RunFault, read_local};
-use cg_heap::{ExternHeap, Scalar, Store};
+use cg_heap::{Called, ExternHeap, Scalar, Store};
 use std::alloc::Global;
 
 /// A list of these items.
@@ -32,6 +34,29 @@ pub(crate) fn listed<T: Copy>(alloc: Global, items: &[T]) -> Result<Items<T>, Me
     Ok(list)
 }
 
+/// Adds the addresses of cells that were made and freed.
+fn note(changes: &mut Changes, made: &[u64], freed: &[u64]) -> Result<(), RunFault>
+    ensures made { OnOk result (changes.new.made.items ≡ changes.old.made.items ++ made.now) }
+    ensures freed { OnOk result (changes.new.freed.items ≡ changes.old.freed.items ++ freed.now) }
+    ensures wanting { IfErr result (λ fault. fault ≡ Wanting) }
+{
+    changes.made.extend_from_slice(made)?;
+    changes.freed.extend_from_slice(freed)?;
+    Ok(())
+}
+
+/// The scalars that a call gave; the cells that it made and freed are added to those of the run.
+fn taken(changes: &mut Changes, called: Called) -> Result<Items<Scalar>, RunFault>
+    ensures value { IfOk result (λ value. value ≡ called.value) }
+    ensures made { OnOk result (changes.new.made.items ≡ changes.old.made.items ++ called.made) }
+    ensures freed { OnOk result (changes.new.freed.items ≡ changes.old.freed.items ++ called.freed) }
+    ensures wanting { IfErr result (λ fault. fault ≡ Wanting) }
+{
+    let Called { value, made, freed } = called;
+    note(changes, made.as_slice(), freed.as_slice())?;
+    Ok(value)
+}
+
 /// A call that a table answers, whose steps are counted before it runs: the result's scalars, and the steps that are left.
 pub(crate) fn call_table<X: ExternHeap, S: Store>(
     alloc: Global,
@@ -40,21 +65,65 @@ pub(crate) fn call_table<X: ExternHeap, S: Store>(
     changes: &mut Changes,
     left: u64,
     name: &Name,
-    arg: &[Scalar],
+    arg: &Items<Scalar>,
 ) -> Result<(Items<Scalar>, u64), RunFault>
     requires low { (S.stored store.old).top + 65536 < 2 ^ 63 }
     ensures { (answer : Answer) → (X.on_heaps table.now).asked name.now arg.now (S.stored store.old) ≡ Some answer
         → Answers answer (S.stored store.old) changes.old left (S.stored store.new) changes.new result }
 {
-    let arg = listed(alloc, arg)?;
-    let steps = table.steps(name, &arg, store);
+    let steps = table.steps(name, arg, store);
     if left < steps {
         return Err(RunFault::Budget);
     }
-    let called = table.run(alloc, name, &arg, store)?;
-    changes.made.extend_from_slice(called.made.as_slice())?;
-    changes.freed.extend_from_slice(called.freed.as_slice())?;
-    Ok((called.value, left - steps))
+    let called = table.run(alloc, name, arg, store)?;
+    let value = taken(changes, called)?;
+    Ok((value, left - steps))
+}
+
+/// The value of a type that scalars are, as many as the type has slots.
+fn read_result<'a>(
+    alloc: Global,
+    scalars: &[Scalar],
+    kind: Kind<'a>,
+) -> Result<CValue<'a>, RunFault>
+    ensures { Tries value_of (read_whole (layout_of kind.entry) scalars.now) result }
+{
+    if scalars.len() != kind.size() as usize {
+        return Err(RunFault::Stuck(Why::KindsDiffer));
+    }
+    read_local(alloc, scalars, 0, kind)
+}
+
+/// The same, with the result as a value of a type.
+fn call_for_value<'a, X: ExternHeap, S: Store>(
+    alloc: Global,
+    table: &X,
+    store: &mut S,
+    changes: &mut Changes,
+    left: u64,
+    name: &Name,
+    arg: &Items<Scalar>,
+    kind: Kind<'a>,
+) -> Result<(CValue<'a>, u64), RunFault>
+    requires low { (S.stored store.old).top + 65536 < 2 ^ 63 }
+    ensures { (answer : Answer) → (X.on_heaps table.now).asked name.now arg.now (S.stored store.old) ≡ Some answer
+        → Ends value_of (answered_value (layout_of kind.entry) (state_of (S.stored store.old) changes.old) left answer) (S.stored store.new) changes.new result }
+{
+    let (result, left) = call_table(alloc, table, store, changes, left, name, arg)?;
+    let value = read_result(alloc, result.as_slice(), kind)?;
+    Ok((value, left))
+}
+
+/// The scalars of the arguments of a call.
+fn arguments<'a>(
+    alloc: Global,
+    params: &[Kind<'a>],
+    values: &[CValue<'a>],
+) -> Result<Items<Scalar>, RunFault>
+    ensures { Tries (λ list. list) (gathered (map layout_of params.now) (map value_of values.now)) result }
+{
+    let slots = gather(alloc, params, values)?;
+    Ok(listed(alloc, slots.as_slice())?)
 }
 
 /// A call of the abstract function that the function at a place is: its value, and the steps that are left.
@@ -77,12 +146,8 @@ fn call_abstract<'i, 'a, X: ExternHeap, S: Store>(
     let Some(head) = run.program.head(function) else {
         return Err(RunFault::Stuck(Why::NoFunction));
     };
-    let arg = gather(alloc, head.params, values)?;
-    let (result, left) = call_table(alloc, table, store, changes, left, name, arg.as_slice())?;
-    if result.len() != head.kind.size() as usize {
-        return Err(RunFault::Stuck(Why::KindsDiffer));
-    }
-    Ok((read_local(alloc, result.as_slice(), 0, head.kind)?, left))
+    let arg = arguments(alloc, head.params, values)?;
+    call_for_value(alloc, table, store, changes, left, name, &arg, head.kind)
 }
 
 /// The statement at hand asks an abstract function.

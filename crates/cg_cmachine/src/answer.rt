@@ -9,6 +9,7 @@ ghost use Rattle.cg_cmachine.specs.declared.machine.Next.TheVariants.{Goes};
 ghost use Rattle.cg_cmachine.specs.Machine.{IsLow, IsState, said};
 ghost use Rattle.cg_cresolve.specs.Lines.{IsAt, linked};
 ghost use Rattle.cg_cresolve.specs.Resolutions.{IsFirst, IsHead, blocks_in};
+ghost use Rattle.cg_crun.specs.Operands.{scalars_of};
 ghost use Rattle.cg_crun.specs.Outcomes.{IsCalm};
 ghost use Rattle.cg_crun.specs.Runs.{crun, linked_to};
 ghost use Rattle.cg_ctree.specs.Trees.{program_of};
@@ -25,7 +26,7 @@ use cg_cbuiltins::Changes;
 use cg_clayout::Kind;
 use cg_cresolve::{Head, Resolved};
 use cg_ctree::{CProgram, Why};
-use cg_cvalues::push_scalars;
+use cg_cvalues::{CValue, push_scalars};
 use cg_heap::{ExternHeap, Link, Scalar, Store};
 use cg_value::NoExtern;
 use std::alloc::Global;
@@ -58,17 +59,44 @@ fn fits(params: &[Kind<'_>], arg: &[Scalar]) -> bool
     sum(params) == Some(arg.len())
 }
 
-/// What a run gives.
-fn told(alloc: Global, value: &[Scalar], steps: u64, changes: &Changes) -> Result<Ran, RunFault>
-    ensures told { IfOk result (λ ran. Tells ran value.now steps changes.now) }
+/// The addresses of the cells that a run made, and of those that it freed.
+fn cells(alloc: Global, changes: &Changes) -> Result<(Items<u64>, Items<u64>), RunFault>
+    ensures made { IfOk result (λ lists. lists.0 ≡ changes.now.made.items) }
+    ensures freed { IfOk result (λ lists. lists.1 ≡ changes.now.freed.items) }
     ensures wanting { IfErr result (λ fault. fault ≡ Memory) }
 {
+    let made = listed(alloc, changes.made.as_slice())?;
+    let freed = listed(alloc, changes.freed.as_slice())?;
+    Ok((made, freed))
+}
+
+/// What a run gives.
+fn told(
+    alloc: Global,
+    value: Items<Scalar>,
+    steps: u64,
+    changes: &Changes,
+) -> Result<Ran, RunFault>
+    ensures told { IfOk result (λ ran. Tells ran value steps changes.now) }
+    ensures wanting { IfErr result (λ fault. fault ≡ Memory) }
+{
+    let (made, freed) = cells(alloc, changes)?;
     Ok(Ran {
-        value: listed(alloc, value)?,
+        value,
         steps,
-        made: listed(alloc, changes.made.as_slice())?,
-        freed: listed(alloc, changes.freed.as_slice())?,
+        made,
+        freed,
     })
+}
+
+/// The scalars of a value.
+fn scalars(alloc: Global, value: &CValue<'_>) -> Result<Items<Scalar>, RunFault>
+    ensures scalars { IfOk result (λ list. list ≡ scalars_of (value_of value.now)) }
+    ensures wanting { IfErr result (λ fault. fault ≡ Memory) }
+{
+    let mut slots = Vec::new(alloc);
+    push_scalars(&mut slots, value)?;
+    Ok(listed(alloc, slots.as_slice())?)
 }
 
 /// Runs to the end, and tells what the run gave.
@@ -86,9 +114,8 @@ fn finish<'i, 'a, X: ExternHeap, S: Store>(
     ensures { Runs (said run.now.program.now ((X.on_heaps table.now).asked) run.now.budget m.old (S.stored store.old) Goes) run.now.budget (S.stored store.new) result }
 {
     let value = go_on(alloc, table, run, m, store)?;
-    let mut scalars = Vec::new(alloc);
-    push_scalars(&mut scalars, &value)?;
-    told(alloc, scalars.as_slice(), run.budget - m.left, &m.changes)
+    let scalars = scalars(alloc, &value)?;
+    told(alloc, scalars, run.budget - m.left, &m.changes)
 }
 
 /// Runs a function with a body.
@@ -125,6 +152,35 @@ fn run_body<'i, 'a, X: ExternHeap, S: Store>(
     finish(alloc, table, run, &mut m, store)
 }
 
+/// Runs a function that is an abstract one, on an argument that fits its parameters.
+fn run_table<'i, 'a, X: ExternHeap, S: Store>(
+    alloc: Global,
+    table: &X,
+    run: &Run<'i, 'a>,
+    function: usize,
+    head: Head<'i, 'a>,
+    name: &Name,
+    arg: &Items<Scalar>,
+    store: &mut S,
+    changes: &mut Changes,
+) -> Result<Ran, RunFault>
+    requires head { IsAt run.now.program.now.whole function (λ f. IsHead run.now.program.now.whole f head.kind head.params.now head.slots head.has_body) }
+    requires body { head.has_body ≡ false }
+    requires name { IsAt run.now.program.now.whole function (λ f. linked_to f.name run.now.program.now.whole.links ≡ Some name.now) }
+    requires fits { sum_sizes (map layout_of head.params.now) ≡ length arg.now }
+    requires made { changes.old.made.items ≡ [] }
+    requires freed { changes.old.freed.items ≡ [] }
+    requires low { (S.stored store.old).top < 2 ^ 32 }
+    requires calm { IsCalm (started run.now.program.now ((X.on_heaps table.now).asked) run.now.budget function arg.now (S.stored store.old)) }
+    ensures { Runs (started run.now.program.now ((X.on_heaps table.now).asked) run.now.budget function arg.now (S.stored store.old)) run.now.budget (S.stored store.new) result }
+{
+    let (value, left) = call_table(alloc, table, store, changes, run.budget, name, arg)?;
+    if value.len() != head.kind.size() as usize {
+        return Err(RunFault::Stuck(Why::KindsDiffer));
+    }
+    told(alloc, value, run.budget - left, changes)
+}
+
 /// Runs a function that is an abstract one.
 fn run_abstract<'i, 'a, X: ExternHeap, S: Store>(
     alloc: Global,
@@ -133,7 +189,7 @@ fn run_abstract<'i, 'a, X: ExternHeap, S: Store>(
     function: usize,
     head: Head<'i, 'a>,
     name: &Name,
-    arg: &[Scalar],
+    arg: &Items<Scalar>,
     store: &mut S,
 ) -> Result<Ran, RunFault>
     requires head { IsAt run.now.program.now.whole function (λ f. IsHead run.now.program.now.whole f head.kind head.params.now head.slots head.has_body) }
@@ -143,18 +199,14 @@ fn run_abstract<'i, 'a, X: ExternHeap, S: Store>(
     requires calm { IsCalm (started run.now.program.now ((X.on_heaps table.now).asked) run.now.budget function arg.now (S.stored store.old)) }
     ensures { Runs (started run.now.program.now ((X.on_heaps table.now).asked) run.now.budget function arg.now (S.stored store.old)) run.now.budget (S.stored store.new) result }
 {
-    if !fits(head.params, arg) {
+    if !fits(head.params, arg.as_slice()) {
         return Err(RunFault::Stuck(Why::KindsDiffer));
     }
     let mut changes = Changes {
         made: Vec::new(alloc),
         freed: Vec::new(alloc),
     };
-    let (value, left) = call_table(alloc, table, store, &mut changes, run.budget, name, arg)?;
-    if value.len() != head.kind.size() as usize {
-        return Err(RunFault::Stuck(Why::KindsDiffer));
-    }
-    told(alloc, value.as_slice(), run.budget - left, &changes)
+    run_table(alloc, table, run, function, head, name, arg, store, &mut changes)
 }
 
 /// The same for a program whose names are resolved.
@@ -163,7 +215,7 @@ fn run_resolved<X: ExternHeap, S: Store>(
     table: &X,
     program: &Resolved<'_>,
     function: &Name,
-    arg: &[Scalar],
+    arg: &Items<Scalar>,
     store: &mut S,
     budget: u64,
 ) -> Result<Ran, RunFault>
@@ -180,7 +232,7 @@ fn run_resolved<X: ExternHeap, S: Store>(
     };
     let run = Run { program, budget };
     if head.has_body {
-        return run_body(alloc, table, &run, at, head, arg, store);
+        return run_body(alloc, table, &run, at, head, arg.as_slice(), store);
     }
     match program.abstract_name(at) {
         None => Err(RunFault::Stuck(Why::NoBody)),
@@ -210,15 +262,7 @@ pub fn run_c_with<X: ExternHeap, S: Store>(
     ensures { Runs (crun (record { program = program_of program.now; links = links.now; asked = (X.on_heaps table.now).asked }) budget function.now arg.now (S.stored store.old)) budget (S.stored store.new) result }
 {
     let resolved = Resolved::new(alloc, program, links.as_slice())?;
-    run_resolved(
-        alloc,
-        table,
-        &resolved,
-        function,
-        arg.as_slice(),
-        store,
-        budget,
-    )
+    run_resolved(alloc, table, &resolved, function, arg, store, budget)
 }
 
 /// The same without abstract functions.
