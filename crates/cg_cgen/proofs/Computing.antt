@@ -1,29 +1,25 @@
--- The C of each operator does what the operator does.
-use Rattle.std.proofs.Common.{◌≡◌, ℕ, suc, ◌+◌, ◌%◌, ◌^◌, Bool, true, false, cond, Option, Some, Result, Ok, Err, IfOk, map, List, [], ◌∷◌, refl, sym, ap, ◌∙◌, subst, arith}
+-- The C of a sum does what the sum does, by the definition of runs on words.
+use Rattle.std.proofs.Common.{◌≡◌, ℕ, suc, ◌+◌, ◌%◌, ◌^◌, Bool, true, false, cond, Option, Some, [], ◌∷◌, refl, sym, ap, ◌∙◌, subst, arith}
 use Rattle.std.specs.Int.{◌∣◌}
 use Rattle.std.proofs.Math.Nat.{add-mod, mod-mod_of_dvd}
 use Rattle.std.proofs.lemmas.Nat.Gcd.{dvd_of_mod-eq-zero}
 use Rattle.cg_base.specs.declared.kind.Word.{Word}
 use Rattle.cg_base.specs.declared.kind.Word.TheVariants.{U8, U16, U32, U64}
-use Rattle.cg_base.specs.declared.memory.Memory.{Memory}
 use Rattle.cg_base.specs.Words.{bits}
-use Rattle.cg_core.specs.declared.op.Op.{Op}
 use Rattle.cg_core.specs.declared.op.Op.TheVariants.{Add}
 use Rattle.cg_ctree.specs.declared.tree.COp.TheVariants as op
 use Rattle.cg_ctree.specs.declared.tree.COpnd.{COpnd}
 use Rattle.cg_ctree.specs.declared.tree.CPath.{CPath}
 use Rattle.cg_ctree.specs.declared.tree.CRhs.{CRhs}
 use Rattle.cg_ctree.specs.declared.tree.CRhs.TheVariants.{Binary}
-use Rattle.cg_ctree.specs.declared.tree.CStmt as statement
-use Rattle.cg_ctree.specs.declared.tree.CStmt.{CStmt}
 use Rattle.cg_ctree.specs.declared.tree.CTy.{CTy}
 use Rattle.cg_ctree.specs.declared.tree.CTy.TheVariants as ty
 use Rattle.cg_ctree.specs.declared.why.Why.TheVariants.{KindsDiffer}
 use Rattle.cg_base.proofs.WordLaws.{word_same}
 use Rattle.cg_ctree.specs.Runs.{ok, no, on, Value, literal, typed, Variable, Frame, look, set, number_of, give, write_found, write_path, write, done, goes, onward, lift, bind, Calls, right, run_stmt, run_block}
-use Rattle.cg_ctree.specs.Trees.{stmt_of, assign, to_block}
+use Rattle.cg_ctree.specs.Trees.{assign, to_block}
 use Rattle.cg_cgen.specs.Code.{inner, op_code}
-use Rattle.cg_cgen.specs.Computed.{IsNumber, IsVariable, Gives, Computes, OpCodeComputes}
+use Rattle.cg_cgen.specs.Computed.{IsNumber, IsVariable, Gives, SumsCompute}
 
 -- ---- operands
 
@@ -86,15 +82,6 @@ sum_runs word to l r calls n t frame rest a b i j k =
 sum_gives : (word : Word) (to : CPath) (l r : COpnd) → Gives word to l r (λ a b. (a + b) % 2 ^ bits word) (op_code Add word to l r)
 sum_gives word to l r = record { steps = 1; within = omega arith; runs = sum_runs word to l r }
 
--- ---- each operator
-
-pub op_code_computes : OpCodeComputes
-op_code_computes Add word to l r = sum_gives word to l r
-op_code_computes _ word to l r = refl
-
-pub computed_where : (op : Op) (word : Word) (to : CPath) (l r : COpnd) (made : Result (List CStmt) Memory) → IfOk made (λ stmts. map stmt_of stmts ≡ op_code op word to l r)
-    → IfOk made (λ stmts. Computes op word to l r (map stmt_of stmts))
-computed_where op word to l r (Ok stmts) e = subst (Computes op word to l r) (sym e) (op_code_computes op word to l r)
-computed_where op word to l r (Err memory) e = tt
-
-pub ruleset code_steps = (statement.the_lemmas)
+-- the C of a sum does what the sum does
+pub sums_compute : SumsCompute
+sums_compute word to l r = sum_gives word to l r

@@ -1,1 +1,5 @@
 pub mod Computing
+pub mod Numbers
+pub mod Operating
+pub mod Paths
+pub mod Statements

@@ -1,8 +1,7 @@
--- What the C of an operator does, by the definition of runs (docs/LANGUAGE.md, "Operators in C").
+-- What the C of a sum does, by the definition of runs on words (docs/LANGUAGE.md, "Operators in C").
 use Rattle.std.specs.Prelude.{◌≡◌, ℕ, ◌+◌, ◌%◌, ◌^◌, ◌≤◌, false, List, [], Some}
 use Rattle.cg_base.specs.declared.kind.Word.{Word}
 use Rattle.cg_base.specs.Words.{bits}
-use Rattle.cg_core.specs.declared.op.Op.{Op}
 use Rattle.cg_core.specs.declared.op.Op.TheVariants.{Add}
 use Rattle.cg_ctree.specs.declared.tree.COpnd.{COpnd}
 use Rattle.cg_ctree.specs.declared.tree.CPath.{CPath}
@@ -34,12 +33,7 @@ pub record Gives (word : Word) (to : CPath) (left right : COpnd) (f : ℕ → �
   pub runs : (calls : Calls) (n : ℕ) (t : CTy) (frame : Frame) (rest a b : ℕ) → IsNumber word frame left a → IsNumber word frame right b → IsVariable word frame to
       → run_block calls n t (to_block code) frame (steps + rest) ≡ done (goes (set to.base (f a b) frame)) rest
 
--- Statements do what an operator of a word does on numbers: a sum is taken modulo 2^n at a word of n bits. Of an operator that has
--- no C so far there are none: C for it wants a row here.
-abbrev pub Computes : Op → Word → CPath → COpnd → COpnd → List Stmt → Type 0
-Computes Add word to left right code = Gives word to left right (λ a b. (a + b) % 2 ^ bits word) code
-Computes _ word to left right code = code ≡ []
-
--- the C of each operator does what the operator does, and an operator without a row has none
-abbrev pub OpCodeComputes : Type 0
-OpCodeComputes = (op : Op) (word : Word) (to : CPath) (left right : COpnd) → Computes op word to left right (op_code op word to left right)
+-- The C of a sum does what the sum does, by the definition of runs on words, on which lowering stands so far: it is taken modulo 2^n at a
+-- word of n bits.
+abbrev pub SumsCompute : Type 0
+SumsCompute = (word : Word) (to : CPath) (left right : COpnd) → Gives word to left right (λ a b. (a + b) % 2 ^ bits word) (op_code Add word to left right)

@@ -1,7 +1,14 @@
-// The law of the C of operators.
-ghost use Rattle.cg_cgen.specs.Computed.{OpCodeComputes};
+// The laws of the C of operators.
+ghost use Rattle.cg_cgen.specs.Computed.{SumsCompute};
+ghost use Rattle.cg_cgen.specs.Meanings.{OperatorsCompute};
 
-/// The C of an operator that has C so far computes it, on any operands, of any width; the others have no statements.
-pub fn op_code_computes()
-    ensures { OpCodeComputes }
+/// The C of each operator does what the operator does, in every program and state: where its operands can be read and are of other
+/// variables than the path that is set, it takes at most 6 steps to set that path, and changes nothing else.
+pub fn operators_compute()
+    ensures { OperatorsCompute }
+{}
+
+/// The C of a sum does what the sum does, by the definition of runs on words, on which lowering stands so far.
+pub fn sums_compute()
+    ensures { SumsCompute }
 {}

@@ -1,9 +1,12 @@
 //! The C of operators, by [`op_stmts`]: statements that do on words of C what an operator does on numbers (docs/LANGUAGE.md,
-//! "Operators in C"). So far of sums; the other operators, dispatch functions and iterators join here.
+//! "Operators in C"). Dispatch functions and iterators join here.
 #![tactic(auto)]
 
+mod copies;
 mod law;
 mod ops;
+#[cfg(test)]
+mod tests;
 
-pub use law::op_code_computes;
+pub use law::{operators_compute, sums_compute};
 pub use ops::op_stmts;

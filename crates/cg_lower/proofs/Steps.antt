@@ -1,7 +1,7 @@
 -- Runs of lowered statements, and how they join.
 use Rattle.std.proofs.Common.{◌≡◌, ℕ, suc, ◌+◌, ◌%◌, ◌^◌, ◌<◌, ◌≤◌, List, [], ◌∷◌, ◌++◌, refl, sym, ap, ◌∙◌, subst, arith}
 use Rattle.cg_base.specs.declared.kind.Word.TheVariants.{U32}
-use Rattle.cg_cgen.proofs.Computing.{op_code_computes}
+use Rattle.cg_cgen.proofs.Computing.{sums_compute}
 use Rattle.cg_cgen.specs.Code.{op_code}
 use Rattle.cg_cgen.specs.Computed.{Gives, IsNumber, IsVariable}
 use Rattle.cg_core.specs.declared.op.Op.TheVariants.{Add}
@@ -79,7 +79,7 @@ abbrev pub sum_code : ℕ → COpnd → COpnd → List Stmt
 sum_code to o o' = op_code Add U32 (path (local to)) o o'
 
 pub sum_gives : (to : ℕ) (o o' : COpnd) → Gives U32 (path (local to)) o o' (λ a b. (a + b) % 2 ^ 32) (sum_code to o o')
-sum_gives to o o' = op_code_computes Add U32 (path (local to)) o o'
+sum_gives to o o' = sums_compute U32 (path (local to)) o o'
 
 is_number : (fr : Frame) (o : COpnd) (n : ℕ) → Holds fr o n → IsNumber U32 fr o n
 is_number fr o n h = record { value = h.value; judged = h.judged; given = h.given }
