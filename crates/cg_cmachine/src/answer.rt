@@ -71,12 +71,7 @@ fn cells(alloc: Global, changes: &Changes) -> Result<(Items<u64>, Items<u64>), R
 }
 
 /// What a run gives.
-fn told(
-    alloc: Global,
-    value: Items<Scalar>,
-    steps: u64,
-    changes: &Changes,
-) -> Result<Ran, RunFault>
+fn told(alloc: Global, value: Items<Scalar>, steps: u64, changes: &Changes) -> Result<Ran, RunFault>
     ensures told { IfOk result (λ ran. Tells ran value steps changes.now) }
     ensures wanting { IfErr result (λ fault. fault ≡ Memory) }
 {
@@ -206,7 +201,17 @@ fn run_abstract<'i, 'a, X: ExternHeap, S: Store>(
         made: Vec::new(alloc),
         freed: Vec::new(alloc),
     };
-    run_table(alloc, table, run, function, head, name, arg, store, &mut changes)
+    run_table(
+        alloc,
+        table,
+        run,
+        function,
+        head,
+        name,
+        arg,
+        store,
+        &mut changes,
+    )
 }
 
 /// The same for a program whose names are resolved.
