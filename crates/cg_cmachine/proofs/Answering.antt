@@ -1,16 +1,16 @@
 -- The beginning and the end of a run, as equations.
-use Rattle.std.proofs.Common.{◌≡◌, ℕ, ◌+◌, ◌-◌, ◌<◌, ◌≤◌, ◌^◌, Bool, true, false, nat_eq, nat_le, Some, None, List, [], ◌∷◌, ◌++◌, drop, length, map, take, refl, sym, ap, ◌∙◌, arith, subst, Option}
-use Rattle.std.proofs.lemmas.List.{append-nil, drop-append-le, length-append, length-drop, length-replicate, take-append-le, take_all}
+use Rattle.std.proofs.Common.{◌≡◌, ℕ, ◌+◌, ◌-◌, ◌≤◌, Bool, true, false, nat_eq, nat_le, Some, None, List, [], ◌∷◌, ◌++◌, drop, length, map, take, refl, sym, ap, ◌∙◌, arith, subst, Option}
+use Rattle.std.proofs.lemmas.List.{drop-append-le, length-drop, take-append-le}
 use Rattle.std.proofs.lemmas.List.Elements.{All-nil}
 use Rattle.std.specs.List.{All}
-use Rattle.std.specs.Prelude.{get_or, if◌then◌else◌, replicate, slice_get, Result, Ok, Err, IfOk, IfErr}
+use Rattle.std.specs.Prelude.{if◌then◌else◌, replicate, slice_get, Result, Ok, Err, IfOk, IfErr}
 use Rattle.cg_cbuiltins.specs.Called.{state_of}
 use Rattle.cg_cbuiltins.specs.declared.changes.Changes.{Changes}
 use Rattle.cg_clayout.specs.declared.kind.Kind.{Kind}
 use Rattle.cg_clayout.specs.Kinds.{layout_of}
 use Rattle.cg_cresolve.specs.Lines.{IsAt, linked}
-use Rattle.cg_cresolve.specs.Resolutions.{IsFirst, IsHead, Resolution, blocks_in, lines_at}
-use Rattle.cg_cresolve.specs.Scopes.{Scope, declared_as, frame_of as scoped, locals_of, scope_of, total}
+use Rattle.cg_cresolve.specs.Resolutions.{IsFirst, IsHead, Resolution, blocks_in}
+use Rattle.cg_cresolve.specs.Scopes.{declared_as, total}
 use Rattle.cg_crun.specs.Layouts.{Layout, layout, size}
 use Rattle.cg_crun.specs.Operands as operands
 use Rattle.cg_crun.specs.Operands.{Value}

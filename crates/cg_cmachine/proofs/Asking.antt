@@ -1,5 +1,5 @@
 -- Calls of abstract functions, as equations.
-use Rattle.std.proofs.Common.{◌≡◌, ℕ, ◌+◌, ◌-◌, ◌<◌, ◌≤◌, Bool, true, false, cond, nat_eq, nat_lt, Some, None, List, [], ◌∷◌, ◌++◌, length, map, take, drop, refl, sym, subst, ap, ◌∙◌, arith}
+use Rattle.std.proofs.Common.{◌≡◌, ℕ, ◌+◌, ◌-◌, ◌<◌, ◌≤◌, Bool, true, false, cond, nat_eq, nat_lt, Some, None, List, [], ◌∷◌, ◌++◌, length, map, refl, sym, subst, ap, ◌∙◌, arith}
 use Rattle.std.proofs.lemmas.List.{take_all}
 use Rattle.std.specs.List.{flat_map}
 use Rattle.std.specs.Prelude.{slice_get}
@@ -14,14 +14,13 @@ use Rattle.cg_cresolve.specs.Resolutions.{IsHead, Resolution, next}
 use Rattle.cg_crun.specs.Layouts.{Layout, cell, group, layout, pointer, same_layout, size}
 use Rattle.cg_crun.specs.Operands as operands
 use Rattle.cg_crun.specs.Operands.{Value, literal, typed, give, read, scalars_of}
-use Rattle.cg_crun.specs.Outcomes.{Judged, ok, no, on, State, Outcome, IsCalm, done, stuck, needs, astray, bind, lift, spend_for}
-use Rattle.cg_crun.specs.Runs.{Flow, agree, answered, call_abstract, has_size, onward, state_behind}
+use Rattle.cg_crun.specs.Outcomes.{Judged, ok, no, on, State, Outcome, IsCalm, done, stuck, needs, astray, bind, lift}
+use Rattle.cg_crun.specs.Runs.{Flow, agree, answered, has_size, onward, state_behind}
 use Rattle.cg_ctree.specs.declared.tree.CDecl.{CDecl}
 use Rattle.cg_ctree.specs.declared.tree.CFun.{CFun}
 use Rattle.cg_ctree.specs.declared.tree.CStruct.{CStruct}
 use Rattle.cg_ctree.specs.declared.why.Why.{Why}
 use Rattle.cg_ctree.specs.declared.why.Why.TheVariants.{KindsDiffer}
-use Rattle.cg_ctree.specs.Trees.{function_of}
 use Rattle.cg_cvalues.proofs.Giving.{give_typed}
 use Rattle.cg_cvalues.specs.Values.{Tries, slots_from}
 use Rattle.cg_cvalues.specs.declared.fault.RunFault.{RunFault}
@@ -31,14 +30,14 @@ use Rattle.cg_cmachine.specs.declared.machine.Machine.{Machine}
 use Rattle.cg_cmachine.specs.declared.machine.Next.{Next}
 use Rattle.cg_base.specs.Words.{bits}
 use Rattle.std.specs.Prelude.{◌^◌}
-use Rattle.cg_heap.specs.Calls.{Answer, Out}
+use Rattle.cg_heap.specs.Calls.{Answer}
 use Rattle.cg_heap.specs.declared.cell.Scalar.{Scalar}
 use Rattle.cg_heap.specs.declared.cell.Scalar.TheVariants.{Word}
 use Rattle.cg_heap.specs.Stored.{Stored}
 use Rattle.cg_cmachine.specs.declared.machine.Frame.{Frame}
 use Rattle.cg_cmachine.specs.declared.machine.Kont.{Kont}
 use Rattle.cg_cmachine.specs.Abstracts.{Answers, IsAdded, answered_value, read_whole}
-use Rattle.cg_cmachine.specs.Machine.{Asked, abstract_call, block, function_at, gathered, landed, program, waits, weight}
+use Rattle.cg_cmachine.specs.Machine.{Asked, abstract_call, function_at, gathered, landed, waits, weight}
 use Rattle.cg_cmachine.proofs.Entries.{at_place, laid}
 use Rattle.cg_cmachine.proofs.Steps.{Fails, waits_astray, waits_stuck}
 use Rattle.cg_cmachine.proofs.Tops.{Under, astray_under, bind_under, done_under, plain_under, spend_under, under_done}

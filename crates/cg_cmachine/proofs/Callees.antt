@@ -1,5 +1,5 @@
 -- Calls by what is called.
-use Rattle.std.proofs.Common.{◌≡◌, ◌+◌, ◌*◌, ◌<◌, ◌^◌, List, refl, arith}
+use Rattle.std.proofs.Common.{◌≡◌, List, refl, arith}
 use Rattle.std.specs.Prelude.{IfOk, Err, Ok, Result}
 use Rattle.cg_cbuiltins.specs.Called.{state_of}
 use Rattle.cg_cbuiltins.specs.declared.built_in.BuiltIn.{BuiltIn}

@@ -1,20 +1,20 @@
 -- Calls, as equations.
-use Rattle.std.proofs.Common.{◌≡◌, ℕ, suc, ◌+◌, ◌-◌, ◌<◌, ◌≤◌, ◌^◌, Bool, true, false, cond, nat_lt, Some, None, List, [], ◌∷◌, ◌++◌, drop, length, map, take, refl, sym, ap, ◌∙◌, arith}
+use Rattle.std.proofs.Common.{◌≡◌, ℕ, suc, ◌+◌, ◌-◌, ◌<◌, ◌^◌, Bool, true, false, cond, nat_lt, Some, None, List, [], ◌∷◌, ◌++◌, length, map, refl, sym, ap, ◌∙◌, arith}
 use Rattle.std.proofs.lemmas.List.{append_assoc, drop_at, length-append, length-replicate, replicate-append-replicate, take_at}
-use Rattle.std.specs.Option.{is_some, option_map}
+use Rattle.std.specs.Option.{is_some}
 use Rattle.std.specs.Prelude.{get_or, replicate, slice_get}
 use Rattle.std.specs.declared.option.Option.{Option}
 use Rattle.cg_base.specs.Words.{bits}
 use Rattle.cg_clayout.specs.declared.kind.Kind.{Kind}
 use Rattle.cg_clayout.specs.Kinds.{layout_of}
-use Rattle.cg_cresolve.specs.Lines.{IsAt, IsWhole, Whole, linked}
+use Rattle.cg_cresolve.specs.Lines.{IsAt, IsWhole}
 use Rattle.cg_cresolve.specs.Resolutions.{IsFirst, IsHead, Resolution, blocks_in, lines_at, next}
-use Rattle.cg_cresolve.specs.Scopes.{Scope, declared_as, frame_of as scoped, locals_of, scope_of, total}
+use Rattle.cg_cresolve.specs.Scopes.{Scope, declared_as, frame_of as scoped, locals_of, total}
 use Rattle.cg_crun.specs.Layouts.{Layout, cell, group, layout, pointer, same_layout, size}
 use Rattle.cg_crun.specs.Operands as operands
 use Rattle.cg_crun.specs.Operands.{Value, literal, typed, give, scalars_of}
 use Rattle.cg_crun.specs.Outcomes.{Judged, ok, no, on, State, Outcome, stuck, done, bind, lift}
-use Rattle.cg_crun.specs.Runs.{Calls, Linked, enter, onward, returned, run_block, unset}
+use Rattle.cg_crun.specs.Runs.{Linked, enter, onward, returned, run_block, unset}
 use Rattle.cg_ctree.specs.declared.tree.CBody.{CBody}
 use Rattle.cg_ctree.specs.declared.tree.CDecl.{CDecl}
 use Rattle.cg_ctree.specs.declared.tree.CFun.{CFun}

@@ -1,5 +1,5 @@
 -- Statements, and where they end, as equations.
-use Rattle.std.proofs.Common.{◌≡◌, ℕ, suc, ◌+◌, ◌<◌, List, [], ◌∷◌, ◌++◌, length, refl, sym, ap, ◌∙◌, arith}
+use Rattle.std.proofs.Common.{◌≡◌, ℕ, List, [], ◌∷◌, ◌++◌, refl, sym, ap, ◌∙◌}
 use Rattle.cg_cbuiltins.specs.Called.{state_of}
 use Rattle.cg_cresolve.specs.declared.code.Position.{Position}
 use Rattle.cg_cresolve.specs.declared.line.Callee.{Callee}
@@ -25,9 +25,9 @@ use Rattle.cg_cvalues.specs.declared.fault.RunFault.TheVariants.{Stuck, Budget, 
 use Rattle.cg_heap.specs.declared.cell.Scalar.{Scalar}
 use Rattle.std.specs.Prelude.{Err}
 use Rattle.cg_cbuiltins.specs.declared.changes.Changes.{Changes}
-use Rattle.cg_cmachine.specs.Machine.{Asked, Cont, Ends, Went, IsTyped, block, by_names, framed, lay_at, landed, on_kont, valued, waits}
-use Rattle.cg_cmachine.specs.Statements.{acts, assigns}
-use Rattle.cg_cmachine.proofs.Stands.{block_needs, block_none, stands_acts}
+use Rattle.cg_cmachine.specs.Machine.{Asked, Cont, Ends, Went, IsTyped, block, by_names, lay_at, landed, on_kont, waits}
+use Rattle.cg_cmachine.specs.Statements.{assigns}
+use Rattle.cg_cmachine.proofs.Stands.{block_needs, block_none}
 use Rattle.cg_cmachine.proofs.Steps.{waits_needs, waits_none, waits_push, waits_stuck}
 
 module _ (r : Resolution) (asked : Asked) (n : ℕ) where

@@ -1,5 +1,5 @@
 -- A built-in leaves no more steps than there were, and raises the top of the store by one at most.
-use Rattle.std.proofs.Common.{◌≡◌, ℕ, ◌+◌, ◌*◌, ◌-◌, ◌<◌, ◌≤◌, ◌^◌, Bool, true, false, cond, ◌&&◌, nat_le, nat_lt, Some, None, List, [], ◌∷◌, ◌++◌, drop, refl, sym, ap, ◌∙◌, arith}
+use Rattle.std.proofs.Common.{◌≡◌, ℕ, ◌+◌, ◌*◌, ◌-◌, ◌<◌, ◌≤◌, ◌^◌, Bool, true, false, cond, ◌&&◌, nat_le, nat_lt, Some, None, List, [], ◌∷◌, ◌++◌, drop, refl, arith}
 use Rattle.std.specs.declared.option.Option.{Option}
 use Rattle.cg_base.specs.declared.kind.Word.{Word}
 use Rattle.cg_base.specs.declared.kind.Word.TheVariants.{U32}
@@ -12,7 +12,6 @@ use Rattle.cg_crun.specs.Operands.{Value, typed, address_at, give, only, present
 use Rattle.cg_crun.specs.Outcomes.{Judged, ok, no, on, State, Outcome, done, stuck, needs, astray, bind, lift, spend_for}
 use Rattle.cg_crun.specs.Targets.{spliced, with_cell_at, written_cell}
 use Rattle.cg_ctree.specs.declared.why.Why.{Why}
-use Rattle.cg_ctree.specs.declared.why.Why.TheVariants.{NoCell}
 use Rattle.cg_cvalues.specs.declared.place.Place.{Place}
 use Rattle.cg_cvalues.specs.declared.place.Place.TheVariants.{Nowhere, Local, Behind}
 use Rattle.cg_cvalues.specs.Values.{Changed, overwritten, write_behind, write_cell, write_place}

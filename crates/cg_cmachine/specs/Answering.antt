@@ -1,5 +1,5 @@
 -- The beginning of a run.
-use Rattle.std.specs.Prelude.{◌≡◌, ℕ, ◌+◌, List, [], ◌∷◌, Option, None, Result, Ok, Err}
+use Rattle.std.specs.Prelude.{◌≡◌, ℕ, ◌+◌, List, [], ◌∷◌, Option, None}
 use Rattle.std.specs.Option.{option_map}
 use Rattle.cg_cbuiltins.specs.declared.changes.Changes.{Changes}
 use Rattle.cg_cmachine.specs.declared.answer.Ran.{Ran}

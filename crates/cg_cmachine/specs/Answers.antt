@@ -1,6 +1,6 @@
 -- What a run answers (docs/LANGUAGE.md, "The C subset").
 use Rattle.std.specs.Prelude.{◌≡◌, ℕ, ◌+◌, Result, Ok, Err, List}
-use Rattle.cg_crun.specs.Outcomes.{Outcome, done, stuck, needs, astray}
+use Rattle.cg_crun.specs.Outcomes.{Outcome, done, stuck, needs}
 use Rattle.cg_cmachine.specs.declared.answer.Ran.{Ran}
 use Rattle.cg_cvalues.specs.declared.fault.RunFault.{RunFault}
 use Rattle.cg_cvalues.specs.declared.fault.RunFault.TheVariants.{Stuck, Budget, Memory}

@@ -1,5 +1,5 @@
 -- What a state of the machine will give: what waits on the stack stands for what is done once the statements at hand are done.
-use Rattle.std.specs.Prelude.{◌≡◌, ℕ, ◌+◌, ◌*◌, ◌<◌, ◌≤◌, ◌^◌, List, [], ◌∷◌, ◌++◌, length, map, slice_get, cond, nat_eq, Option, Some, None, Result, Ok, Err}
+use Rattle.std.specs.Prelude.{◌≡◌, ℕ, ◌+◌, ◌*◌, ◌<◌, ◌^◌, List, [], ◌∷◌, ◌++◌, length, map, slice_get, Option, Some, None, Result, Ok, Err}
 use Rattle.std.specs.List.{All}
 use Rattle.std.specs.Option.{option_map}
 use Rattle.cg_cbuiltins.specs.Called.{state_of}
@@ -21,13 +21,12 @@ use Rattle.cg_crun.specs.Layouts.{Layout, group, empty, layout, size}
 use Rattle.cg_crun.specs.Operands.{Value, typed, scalars_of}
 use Rattle.cg_crun.specs.Operands as operands
 use Rattle.cg_crun.specs.Outcomes.{Judged, ok, no, on, State, Outcome, done, stuck, needs, astray, bind}
-use Rattle.cg_crun.specs.Runs.{Calls, Flow, Linked, assigned, back, call_abstract, calls_in, choose, goes, onward, returned, run_block, run_cases, run_function, find}
+use Rattle.cg_crun.specs.Runs.{Calls, Flow, Linked, assigned, back, call_abstract, calls_in, choose, goes, onward, returned, run_block, run_function}
 use Rattle.cg_ctree.specs.declared.tree.CFun.{CFun}
 use Rattle.cg_ctree.specs.declared.why.Why.TheVariants.{NoCase, NoFunction, KindsDiffer}
 use Rattle.cg_ctree.specs.Trees.{assign, Block, also, block_of, function_of}
 use Rattle.cg_cvalues.specs.declared.fault.RunFault.{RunFault}
 use Rattle.cg_cvalues.specs.declared.fault.RunFault.TheVariants.{Stuck, Budget, Memory}
-use Rattle.cg_cvalues.specs.declared.value.CValue.{CValue}
 use Rattle.cg_cvalues.specs.Values.{value_of}
 use Rattle.cg_heap.specs.Calls.{Answer}
 use Rattle.cg_heap.specs.declared.cell.Scalar.{Scalar}

@@ -1,5 +1,5 @@
 -- What an action does, in the state at hand.
-use Rattle.std.specs.Prelude.{ℕ, List, map, true, false}
+use Rattle.std.specs.Prelude.{ℕ, List, true, false}
 use Rattle.cg_cbuiltins.specs.Called.{built_in_of, into_place, state_of}
 use Rattle.cg_clayout.specs.Kinds.{layout_of, shape_layout}
 use Rattle.cg_cmachine.specs.declared.machine.Machine.{Machine}
@@ -17,7 +17,6 @@ use Rattle.cg_crun.specs.Layouts.{size}
 use Rattle.cg_crun.specs.Operands.{Value, give}
 use Rattle.cg_crun.specs.Outcomes.{on, State, Outcome, done, bind, lift}
 use Rattle.cg_crun.specs.Runs.{Flow, back, choose, goes, onward}
-use Rattle.cg_cvalues.specs.declared.place.Operand.{Operand}
 use Rattle.cg_cvalues.specs.declared.place.Place.{Place}
 use Rattle.cg_cvalues.specs.Values.{judged, judged_all}
 use Rattle.cg_heap.specs.declared.cell.Scalar.{Scalar}

@@ -80,7 +80,7 @@ pub(crate) fn call_table<X: ExternHeap, S: Store>(
     Ok((value, left - steps))
 }
 
-/// The value of a type that scalars are, as many as the type has slots.
+/// The value of a type that all of these scalars are; they have to be as many as the type has slots.
 fn read_result<'a>(
     alloc: Global,
     scalars: &[Scalar],
@@ -94,7 +94,7 @@ fn read_result<'a>(
     read_local(alloc, scalars, 0, kind)
 }
 
-/// The same, with the result as a value of a type.
+/// A call that a table answers, whose steps are counted before it runs: the result as a value of a type, and the steps that are left.
 fn call_for_value<'a, X: ExternHeap, S: Store>(
     alloc: Global,
     table: &X,

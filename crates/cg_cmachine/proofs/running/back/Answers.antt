@@ -4,7 +4,7 @@ use Rattle.cg_crun.specs.Outcomes.{Outcome}
 use Rattle.cg_cvalues.specs.Values.{value_of}
 use Rattle.cg_heap.specs.declared.cell.Scalar.{Scalar}
 use Rattle.std.specs.Prelude.{List}
-use Rattle.cg_cmachine.specs.Machine.{Went, on_kont, waits}
+use Rattle.cg_cmachine.specs.Machine.{Went, waits}
 use Rattle.cg_cmachine.proofs.Entries.{value_whole}
 use Rattle.cg_cmachine.proofs.Forms as forms
 use Rattle.cg_cmachine.proofs.running.back.Goals as goal

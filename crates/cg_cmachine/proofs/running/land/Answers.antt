@@ -1,4 +1,4 @@
-use Rattle.std.proofs.Common.{◌≡◌, ◌∙◌, ap, subst, sym}
+use Rattle.std.proofs.Common.{◌∙◌, ap, subst, sym}
 use Rattle.cg_cbuiltins.specs.Called.{state_of}
 use Rattle.cg_cresolve.specs.Resolutions.{next}
 use Rattle.cg_crun.specs.Outcomes.{Outcome}
