@@ -1,0 +1,420 @@
+-- The C program of a list of instances does what the update semantics does.
+use Rattle.std.proofs.Common.{◌≡◌, ℕ, zero, suc, ◌+◌, ◌*◌, ◌-◌, ◌^◌, ◌<◌, ◌≤◌, Bool, true, false, cond, Option, Some, None, List, [], ◌∷◌, ◌++◌, length, slice_get, refl, sym, ap, ◌∙◌, subst, arith, IsTrue, nat_lt, if◌then◌else◌}
+use Rattle.std.proofs.lemmas.Bool.{eq-eqb, eqb-true, le-ltb}
+use Rattle.std.proofs.lemmas.List.{append-nil}
+use Rattle.std.proofs.lemmas.Option.{slice_get_within}
+use Rattle.std.specs.Option.{option_map}
+use Rattle.cg_base.specs.declared.fun.Fun.{Fun}
+use Rattle.cg_base.specs.declared.fun.Fun.TheVariants.{User, Lib as OfLib}
+use Rattle.cg_base.specs.declared.fun.Lib.{Lib}
+use Rattle.cg_base.specs.Types.{Tau, arrow}
+use Rattle.cg_core.specs.Kernels as kernels
+use Rattle.cg_core.specs.Terms.{Note, Tree}
+use Rattle.cg_base.specs.Words.{bits}
+use Rattle.cg_crun.specs.Layouts.{Layout, cell, pointer, group, same_layout, size}
+use Rattle.cg_crun.specs.Operands.{Value, literal, typed, give, scalars_of}
+use Rattle.cg_crun.specs.Outcomes as runs
+use Rattle.cg_crun.specs.Outcomes.{ok, no, done}
+use Rattle.cg_crun.specs.Runs.{Linked, call_abstract, find, state_behind}
+use Rattle.cg_ctree.specs.declared.tree.CStruct.{CStruct}
+use Rattle.cg_ctree.specs.declared.tree.CTy.{CTy}
+use Rattle.cg_ctree.specs.declared.why.Why.TheVariants.{KindsDiffer}
+use Rattle.cg_ctree.specs.Trees as trees
+use Rattle.cg_heap.specs.Calls.{Answer}
+use Rattle.cg_heap.specs.declared.cell.Scalar.{Scalar}
+use Rattle.cg_heap.specs.declared.cell.Scalar.TheVariants.{Word as NumberScalar}
+use Rattle.cg_heap.specs.declared.foreign.Link.{Link}
+use Rattle.cg_heap.specs.Stored.{Stored}
+use Rattle.cg_lawful.specs.Lawful.{library_arity}
+use Rattle.cg_machine.specs.Foreigns.{is_known}
+use Rattle.cg_typing.specs.Contexts.{look}
+use Rattle.cg_typing.specs.Functions.{are_good_arguments, arg_types, asked_by, fun_type}
+use Rattle.cg_typing.specs.Instances.{as_arguments, Entry, Instance, IsDerivedBody, IsDerivedMaybe, IsEntry, takes_as_many}
+use Rattle.cg_typing.specs.Library.{library_type}
+use Rattle.cg_typing.specs.Parts.{given_by, taken_by}
+use Rattle.cg_typing.specs.Rules.{type_at}
+use Rattle.cg_update.specs.Calls.{Program, abstract, answer_of, argument_of, library, types_of}
+use Rattle.cg_update.specs.Machines.{is_machine}
+use Rattle.cg_update.specs.Outcomes.{State, starting, Outcome, no_result, gives, where_true, given, pay_for}
+use Rattle.cg_update.specs.Updates as updates
+use Rattle.cg_update.specs.Updates.{Result, calls_within, entered, entered_by, given_outside, outcome, result_of, update, updated}
+use Rattle.cg_lower_laws.specs.CTypes.{c_type, declared, IsDeclared}
+use Rattle.cg_lower_laws.specs.Functions.{body_of, function_at, function_maybe, function_of, linked_in, low_body, low_instance, low_outside}
+use Rattle.cg_lower_laws.specs.LibraryCode.{low_library, whole_argument}
+use Rattle.cg_lower_laws.specs.Lowered.{Low, Whole, function_name}
+use Rattle.cg_lower_laws.specs.Places.{argument, argument_name}
+use Rattle.cg_lower_laws.specs.Simulated.{as_run, IsProgramOf, IsReady, LoweringSimulates, Simulates}
+use Rattle.cg_lower_laws.specs.Typed.{IsTyped}
+use Rattle.cg_lower_laws.proofs.Bodies.{begins, begins_fresh, begins_is, BodyRan, bodied, body_answers, body_runs}
+use Rattle.cg_lower_laws.proofs.Computing.{Called, CallsRun}
+use Rattle.cg_lower_laws.proofs.Finding.{abstract_called, found_at, own_called}
+use Rattle.cg_lower_laws.proofs.Frames.{is_kept, Keeps}
+use Rattle.cg_lower_laws.proofs.Inversions.{on_is, pay_for_is, same_rest, same_scalars, same_state, where_is}
+use Rattle.cg_lower_laws.proofs.Layouts.{machine_slots, size_slots}
+use Rattle.cg_lower_laws.proofs.LibraryCalls.{library_ran}
+use Rattle.cg_lower_laws.proofs.Operands.{IsReadable, machine_readable, readable}
+use Rattle.cg_lower_laws.proofs.Runs.{Answers}
+use Rattle.cg_lower_laws.proofs.Simulating.{simulated}
+use Rattle.cg_lower_laws.proofs.Terms.{lay_c, Ran}
+use Rattle.cg_lower_laws.proofs.Typings.{Agrees, checked_is, derived_typed}
+
+-- ---- lists of instances
+
+-- a place below the length has an element
+there : {A : Type 0} (xs : List A) (k : ℕ) → k < length xs → (x : A) × (slice_get xs k ≡ Some x)
+there [] k h = absurd (omega arith)
+there (x ∷ xs) zero h = (x, refl)
+there (x ∷ xs) (suc k) h = there xs k (omega arith)
+
+-- an entry with a type
+entry_is : (o : Option Entry) (t : Tau) → option_map (λ (e : Entry). e.ty) o ≡ Some t → (e : Entry) × (o ≡ Some e) × (e.ty ≡ t)
+entry_is None t h = absurd (cc)
+entry_is (Some e) t h = (e, refl, cc)
+
+-- type arguments that are written nowhere are the types
+types_back : (ts : List Tau) → arg_types (as_arguments ts) ≡ ts
+types_back [] = refl
+types_back (t ∷ ts) = ap (λ z. t ∷ z) (types_back ts)
+
+-- an arrow is one from what it takes to what it gives
+arrow_is : (t a b : Tau) → t ≡ arrow a b → t ≡ arrow (taken_by t) (given_by t)
+arrow_is t a b e = e ∙ ap (λ z. arrow (taken_by z) (given_by z)) (sym e)
+
+-- the function at a place has the name of the place
+named_maybe : (whole : Whole) (k : ℕ) (x : Option Instance) (e : Option Entry) (f : trees.Function) → function_maybe whole k x e ≡ Some f → f.name ≡ function_name k
+named_maybe whole k None None f h = absurd (cc)
+named_maybe whole k None (Some e) f h = absurd (cc)
+named_maybe whole k (Some x) None f h = absurd (cc)
+named_maybe whole k (Some x) (Some e) f h = let same : function_of whole k x e ≡ f = cc in sym (ap (λ z. z.name) same)
+
+-- ---- values
+
+-- what passes a test is given as it is
+ok_given : (b : Bool) (us ws : List Scalar) → cond b (ok us) (no KindsDiffer) ≡ ok ws → us ≡ ws
+ok_given true us ws e = cc
+ok_given false us ws e = absurd (cc)
+
+-- the scalars of a value are those that it gives
+scalars_given : (l : Layout) (v : Value) (us : List Scalar) → give l v ≡ ok us → scalars_of v ≡ us
+scalars_given (cell w) (literal n) us e = ok_given (nat_lt n (2 ^ bits w)) (NumberScalar n ∷ []) us e
+scalars_given (pointer x) (literal n) us e = absurd (cc)
+scalars_given (group x ms) (literal n) us e = absurd (cc)
+scalars_given (cell w) (typed k ws) us e = ok_given (same_layout (cell w) k) ws us e
+scalars_given (pointer x) (typed k ws) us e = ok_given (same_layout (pointer x) k) ws us e
+scalars_given (group x ms) (typed k ws) us e = ok_given (same_layout (group x ms) k) ws us e
+
+-- what an abstract function answers is what a call of it gives
+abstract_gives : (q : Linked) (f : trees.Function) (name : List ℕ) (t r : CTy) (v : Value) (us : List Scalar) (s : runs.State) (a : Answer) (b b' : ℕ) → f.params ≡ declared t argument_name ∷ [] → f.ty ≡ r
+    → give (lay_c q t) v ≡ ok us → q.asked name us s.store ≡ Some a → b ≡ a.cost + b' → length a.out.result ≡ size (lay_c q r) → IsReadable (lay_c q r) a.out.result
+    → call_abstract q f name (v ∷ []) s b ≡ done (typed (lay_c q r) a.out.result) (state_behind s a.out) b'
+abstract_gives q f name t r v us s a b b' params ty g asked e full reads =
+    let few : nat_lt b a.cost ≡ false = le-ltb b a.cost (omega (arith, e)) in
+    let left : b - a.cost ≡ b' = omega (arith, e) in
+    rw (params, ty, scalars_given (lay_c q t) v us g, append-nil us, asked, g, few, left, eq-eqb (length a.out.result) (size (lay_c q r)) full, readable (lay_c q r) a.out.result reads) refl
+
+-- a table that answers knows a function of the source
+answer_is : (p : Program) (o : Option kernels.Function) (us : List Scalar) (m : Stored) (a : Answer) → answer_of p o us m ≡ Some a
+    → (f : kernels.Function) × (o ≡ Some f) × (p.on_heaps.asked f.at.name us m ≡ Some a)
+answer_is p None us m a h = absurd (cc)
+answer_is p (Some f) us m a h = by_test (is_known p.foreign f) h
+  where
+    by_test : (b : Bool) → cond b (p.on_heaps.asked f.at.name us m) None ≡ Some a
+        → (g : kernels.Function) × (Some f ≡ Some g) × (p.on_heaps.asked g.at.name us m ≡ Some a)
+    by_test true e = (f, refl, e)
+    by_test false e = absurd (cc)
+
+module _ (p : Program) (whole : Whole) (ss : List CStruct) (links : List Link) (order : List ℕ) (is : IsProgramOf p whole ss links order) where
+  abbrev q : Linked
+  q = linked_in whole ss p links order
+
+  abbrev types : ℕ → Option Tau
+  types = types_of p
+
+  abbrev lay_of : Tau → Layout
+  lay_of t = lay_c q (c_type whole.numbered t)
+
+  -- the places of instances are numbers of 32 bits
+  few : (k : ℕ) (t : Tau) → types_of p k ≡ Some t → k < 2 ^ 32
+  few k t h =
+      let e = entry_is (slice_get p.entries k) t h in
+      let lt = slice_get_within p.entries k e.0 e.1 in omega (arith, lt, is.instances.as_many, is.few)
+
+  -- a machine value has the size of its layout
+  sized : (t : Tau) (us : List Scalar) → IsDeclared whole.numbered ss t → is_machine types t us ≡ true → length us ≡ size (lay_of t)
+  sized t us d m = machine_slots types t us m ∙ sym (size_slots whole.numbered ss t d)
+
+  module _ (k : ℕ) (x : Instance) (e : Entry) (listed : slice_get p.list k ≡ Some x) (entry : slice_get p.entries k ≡ Some e) where
+    abbrev taken : Tau
+    taken = taken_by e.ty
+
+    abbrev result : Tau
+    result = given_by e.ty
+
+    -- what holds of the instance at this place
+    ready : IsReady p whole ss links k x e
+    ready = is.ready k x e listed entry
+
+    derived : IsEntry p.functions p.list x e
+    derived = is.instances.each k x e listed entry
+
+    -- its C function is found
+    found : find (function_name k) q.program.functions ≡ Some (function_of whole k x e)
+    found =
+        found_at (function_at whole p.entries) (λ j f. named_maybe whole j (slice_get whole.list j) (slice_get p.entries j) f) order k (function_of whole k x e)
+        (λ j c. let lt = is.only j c in omega (arith, lt, is.few))
+        (is.placed k (slice_get_within p.list k x listed))
+        (ap (λ z. function_maybe whole k (slice_get z k) (slice_get p.entries k)) is.same_list ∙ ap (λ z. function_maybe whole k z (slice_get p.entries k)) listed ∙ ap (λ z. function_maybe whole k (Some x) z) entry)
+
+    -- and has the body that is lowered
+    found_bodied : (a : Low) → low_instance whole x e.body ≡ Some a
+        → find (function_name k) q.program.functions ≡ Some (bodied (function_name k) (c_type whole.numbered taken) (c_type whole.numbered result) a)
+    found_bodied a h =
+        found
+        ∙ ap
+        (λ z. Some (record {
+          ty = c_type whole.numbered result;
+          name = function_name k;
+          params = declared (c_type whole.numbered taken) argument_name ∷ [];
+          body = option_map body_of z;
+        }))
+        h
+
+    -- what the statements of its body do, where it has one
+    record Ended (us ws : List Scalar) (s s' : State) (left rest : ℕ) : Type 0 where
+      low : Low
+      is_low : low_instance whole x e.body ≡ Some low
+      steps : ℕ
+      within : steps + 32 * rest ≤ 32 * left + 16
+      ran : BodyRan q (lay_of result) low (begins q (c_type whole.numbered taken) us low.locals) (as_run s) (as_run s') ws steps
+
+    -- which is what a call of it does
+    ended_called : (us ws : List Scalar) (s s' : State) (left rest : ℕ) (v : Value) → give (lay_of taken) v ≡ ok us → Ended us ws s s' left rest
+        → Called q (function_name k) (v ∷ []) s s' (lay_of result) ws left rest
+    ended_called us ws s s' left rest v g r =
+        let f : find (function_name k) q.program.functions ≡ Some (bodied (function_name k) (c_type whole.numbered taken) (c_type whole.numbered result) r.low) =
+        found_bodied r.low r.is_low in
+        record {
+          steps = suc r.steps;
+          within = omega (arith, r.within);
+          answers =
+              body_answers q whole.numbered (function_name k) (c_type whole.numbered taken) (c_type whole.numbered result) r.low us ws (as_run s) (as_run s') r.steps f r.ran v
+              (own_called q k (bodied (function_name k) (c_type whole.numbered taken) (c_type whole.numbered result) r.low) f (body_of r.low) refl)
+              g;
+        }
+
+    -- ---- an instance with a body
+
+    -- its body is derived in the context of its argument
+    derived_body : (core : Tree Note) → e.body ≡ Some core → IsDerivedBody p.functions taken result core
+    derived_body core b =
+        subst (λ z. IsDerivedMaybe p.functions taken z (Some core)) (sym (ap given_by derived.is_arrow))
+        (subst (λ z. IsDerivedMaybe p.functions z derived.result (Some core)) (sym (ap taken_by derived.is_arrow))
+        (subst (λ z. IsDerivedMaybe p.functions derived.argument derived.result z) b derived.derived))
+
+    -- C has a variable for the argument
+    agrees : (t : Tau) → Agrees whole.numbered (Some t ∷ []) (c_type whole.numbered t ∷ [])
+    agrees t = record { as_many = refl; each = each }
+      where
+        each : (i : ℕ) (u : Tau) → look (Some t ∷ []) i ≡ Some u → slice_get (c_type whole.numbered t ∷ []) i ≡ Some (c_type whole.numbered u)
+        each zero u h = let same : t ≡ u = cc in ap (λ z. Some (c_type whole.numbered z)) same
+        each (suc i) u h = absurd (cc)
+
+    -- so the types of its body fit in C
+    core_typed : (core : Tree Note) → e.body ≡ Some core → IsTyped p.functions whole.numbered ss (c_type whole.numbered taken ∷ []) core
+    core_typed core b =
+        let d = derived_body core b in
+        derived_typed whole.numbered ss p.functions [] (Some taken ∷ []) d.tree (Some result) core (c_type whole.numbered taken ∷ []) (agrees taken) d.derives (ready.nodes core b)
+
+    module _ (calls : updates.Calls) (callees : CallsRun p whole q calls) (us ws : List Scalar) (s s' : State) (left rest : ℕ) (machine : is_machine types taken us ≡ true) where
+      -- its body runs in the frame that a call begins with
+      core_ran : (core : Tree Note) → e.body ≡ Some core → update p calls core (us ∷ []) s left ≡ gives ws s' rest
+          → Ran q types whole.numbered (lay_of result) 0 (begins q (c_type whole.numbered taken) us (low_body whole core).locals) s (low_body whole core) (type_at core) ws s' left rest
+      core_ran core b h =
+          let small = ready.few (low_body whole core) (ap (low_instance whole x) b) in
+          simulated p whole q (lay_of result) calls few is.same_list is.instances callees core (ready.named core b) 0 (c_type whole.numbered taken ∷ []) (whole_argument ∷ []) (us ∷ [])
+          (begins q (c_type whole.numbered taken) us (low_body whole core).locals) s s' left rest ws (core_typed core b) (
+            is_kept (begins q (c_type whole.numbered taken) us (low_body whole core).locals) argument (lay_of taken) us
+                (begins_is q (c_type whole.numbered taken) us (low_body whole core).locals (sized taken us ready.argument machine)),
+            tt,
+            tt,
+          )
+          (begins_fresh q (c_type whole.numbered taken) us (low_body whole core).locals small) (omega (arith, small)) h
+
+      -- and leaves its result to be read
+      core_ended : (core : Tree Note) → e.body ≡ Some core → update p calls core (us ∷ []) s left ≡ gives ws s' rest → Ended us ws s s' left rest
+      core_ended core b h =
+          let d = derived_body core b in
+          let same : type_at core ≡ result = checked_is p.functions [] (Some taken ∷ []) d.tree result core d.derives in
+          let r = core_ran core b h in
+          record {
+            low = low_body whole core;
+            is_low = ap (low_instance whole x) b;
+            steps = r.steps;
+            within = omega (arith, r.within);
+            ran = record {
+              frame = r.frame;
+              runs = r.went.runs;
+              keeps = subst (λ z. Keeps r.frame (low_body whole core).value (lay_of z) ws) same r.keeps;
+              readable = machine_readable whole.numbered ss types few result ws (subst (λ z. is_machine types z ws ≡ true) same r.machine);
+            };
+          }
+
+      -- ---- a function of the library
+
+      -- its type is that of the function
+      library_is : (lib : Lib) → x.fun ≡ OfLib lib → library_type lib x.types ≡ arrow taken result
+      library_is lib f =
+          let here : Some (library_type lib (arg_types (as_arguments x.types))) ≡ Some e.ty = sym (ap (λ z. fun_type p.functions z (as_arguments x.types)) f) ∙ derived.is in
+          let same : library_type lib (arg_types (as_arguments x.types)) ≡ e.ty = cc in
+          ap (library_type lib) (sym (types_back x.types)) ∙ same ∙ arrow_is e.ty derived.argument derived.result derived.is_arrow
+
+      -- it has the body of the function
+      library_low : (lib : Lib) → x.fun ≡ OfLib lib → e.body ≡ None → low_instance whole x e.body ≡ Some (low_library whole lib x.types)
+      library_low lib f b =
+          ap (low_instance whole x) b ∙ ap (λ z. low_outside whole z x) f ∙ ap (λ z. if z then None else Some (low_library whole lib x.types)) (ready.no_iterator lib f)
+
+      -- which does what the library does
+      library_ended : (lib : Lib) → x.fun ≡ OfLib lib → e.body ≡ None → library lib x.types us s left ≡ gives ws s' rest → Ended us ws s s' left rest
+      library_ended lib f b h =
+          let many = subst (λ z. IsTrue (takes_as_many p.functions z (length x.types))) f ready.good.many in
+          let good = subst (λ z. IsTrue (are_good_arguments [] (asked_by p.functions z) (as_arguments x.types))) f ready.good.good in
+          let is_low = library_low lib f b in
+          let a = low_library whole lib x.types in
+          let r =
+          library_ran q whole (lay_of result) types lib x.types taken result (begins q (c_type whole.numbered taken) us a.locals) s s' us ws left rest (ready.no_iterator lib f) (library_is lib f)
+          (sym (eqb-true (library_arity lib) (length x.types) many)) good ready.argument ready.result
+          (begins_is q (c_type whole.numbered taken) us a.locals (sized taken us ready.argument machine)) (begins_fresh q (c_type whole.numbered taken) us a.locals (ready.few a is_low)) machine h in
+          record { low = a; is_low = is_low; steps = r.steps; within = r.within; ran = record { frame = r.frame; runs = r.runs; keeps = r.keeps; readable = r.readable } }
+
+      -- ---- an abstract function
+
+      -- what the table answers is what a call gives
+      abstract_called_so : (i : ℕ) (f : kernels.Function) (a : Answer) (v : Value) → x.fun ≡ User i → e.body ≡ None → slice_get p.functions i ≡ Some f
+          → p.on_heaps.asked f.at.name us s.store ≡ Some a → is_machine types result a.out.result ≡ true → give (lay_of taken) v ≡ ok us
+          → Answers q (function_name k) (v ∷ []) (as_run s) a.cost (typed (lay_of result) a.out.result) (state_behind (as_run s) a.out)
+      abstract_called_so i f a v is_user b at asked m g =
+          let no_body : (function_of whole k x e).body ≡ None = ap (option_map body_of) (ap (low_instance whole x) b ∙ ap (λ z. low_outside whole z x) is_user) in
+          let callee_is = abstract_called q k (function_of whole k x e) found f.at.name no_body (ready.linked i f is_user b at) in
+          record {
+            by = λ n c c' h le.
+                rw callee_is
+                (abstract_gives q (function_of whole k x e) f.at.name (c_type whole.numbered taken) (c_type whole.numbered result) v us (as_run s) a c c' refl refl g asked h
+                (sized result a.out.result ready.result m) (machine_readable whole.numbered ss types few result a.out.result m));
+          }
+
+      -- as in the update semantics
+      abstract_ends : (i : ℕ) (v : Value) → x.fun ≡ User i → e.body ≡ None → give (lay_of taken) v ≡ ok us → abstract p result i us s left ≡ gives ws s' rest
+          → Called q (function_name k) (v ∷ []) s s' (lay_of result) ws left rest
+      abstract_ends i v is_user b g h =
+          subst (λ z. Called q (function_name k) (v ∷ []) s z (lay_of result) ws left rest) (same_state a.out.result ws after s' (left - a.cost) rest paid.1)
+          (subst (λ z. Called q (function_name k) (v ∷ []) s after (lay_of result) z left rest) (same_scalars a.out.result ws after s' (left - a.cost) rest paid.1)
+          (record {
+            steps = a.cost;
+            within = omega (arith, paid.0, same_rest a.out.result ws after s' (left - a.cost) rest paid.1);
+            answers = abstract_called_so i known.0 a v is_user b known.1 known.2 formed.0 g;
+          }))
+        where
+          there_is : (a : Answer) × (answer_of p (slice_get p.functions i) us s.store ≡ Some a)
+              × (where_true (is_machine types result a.out.result) (pay_for a.cost left (λ rest. given a.out s rest)) ≡ gives ws s' rest)
+          there_is =
+              on_is (answer_of p (slice_get p.functions i) us s.store)
+              (λ a. where_true (is_machine types result a.out.result) (pay_for a.cost left (λ rest. given a.out s rest))) ws s' rest h
+
+          a : Answer
+          a = there_is.0
+
+          after : State
+          after = record { store = a.out.store; made = s.made ++ a.out.made; freed = s.freed ++ a.out.freed }
+
+          formed : (is_machine types result a.out.result ≡ true) × (pay_for a.cost left (λ rest. given a.out s rest) ≡ gives ws s' rest)
+          formed = where_is (is_machine types result a.out.result) (pay_for a.cost left (λ rest. given a.out s rest)) ws s' rest there_is.2
+
+          paid : (a.cost ≤ left) × (given a.out s (left - a.cost) ≡ gives ws s' rest)
+          paid = pay_for_is a.cost left (λ rest. given a.out s rest) ws s' rest formed.1
+
+          known : (f : kernels.Function) × (slice_get p.functions i ≡ Some f) × (p.on_heaps.asked f.at.name us s.store ≡ Some a)
+          known = answer_is p (slice_get p.functions i) us s.store a there_is.1
+
+      -- ---- each instance
+
+      -- an instance without a body
+      by_fun : (f : Fun) (v : Value) → x.fun ≡ f → e.body ≡ None → give (lay_of taken) v ≡ ok us → given_outside p calls f x.types e.ty us s left ≡ gives ws s' rest
+          → Called q (function_name k) (v ∷ []) s s' (lay_of result) ws left rest
+      by_fun (User i) v f b g h = abstract_ends i v f b g h
+      by_fun (OfLib lib) v f b g h =
+          ended_called us ws s s' left rest v g
+          (library_ended lib f b
+          (subst
+          (λ z. cond z (updates.iterated p calls lib x.types (record { ty = taken; scalars = us }) s left) (library lib x.types us s left) ≡ gives ws s' rest)
+          (ready.no_iterator lib f) h))
+
+      -- an instance with or without one
+      by_body : (o : Option (Tree Note)) (v : Value) → e.body ≡ o → give (lay_of taken) v ≡ ok us → entered_by p calls x e.ty o us s left ≡ gives ws s' rest
+          → Called q (function_name k) (v ∷ []) s s' (lay_of result) ws left rest
+      by_body None v b g h = by_fun x.fun v refl b g h
+      by_body (Some core) v b g h = ended_called us ws s s' left rest v g (core_ended core b h)
+
+  -- what an instance that is called gives
+  entered_is : (calls : updates.Calls) (k : ℕ) (x : Instance) (e : Entry) (us ws : List Scalar) (s s' : State) (left rest : ℕ) → slice_get p.list k ≡ Some x → slice_get p.entries k ≡ Some e
+      → entered p calls (slice_get p.list k) (slice_get p.entries k) us s left ≡ gives ws s' rest → entered_by p calls x e.ty e.body us s left ≡ gives ws s' rest
+  entered_is calls k x e us ws s s' left rest listed entry h =
+      sym (ap (λ z. entered p calls z (slice_get p.entries k) us s left) listed ∙ ap (λ z. entered p calls (Some x) z us s left) entry) ∙ h
+
+  -- calls that are nested so deep
+  calls_run : (depth : ℕ) → CallsRun p whole q (calls_within p depth)
+  unfolding calls_within
+  calls_run zero k a b us ws s s' left rest v t h ma mb g = absurd (cc)
+  calls_run (suc depth) k a b us ws s s' left rest v t h ma mb g =
+      let e = entry_is (slice_get p.entries k) (arrow a b) t in
+      let lt = slice_get_within p.entries k e.0 e.1 in
+      let x = there p.list k (omega (arith, lt, is.instances.as_many)) in
+      let takes : taken_by e.0.ty ≡ a = ap taken_by e.2 in
+      subst (λ z. Called q (function_name k) (v ∷ []) s s' (lay_of (given_by z)) ws left rest) e.2
+      (by_body k x.0 e.0 x.1 e.1 (calls_within p depth) (calls_run depth) us ws s s' left rest (subst (λ z. is_machine types z us ≡ true) (sym takes) ma) e.0.body v refl
+      (subst (λ z. give (lay_of z) v ≡ ok us) (sym takes) g)
+      (entered_is (calls_within p depth) k x.0 e.0 us ws s s' left rest x.1 e.1 h))
+
+  -- ---- runs
+
+  -- a result and its cost
+  record Ends (n : ℕ) (o : Outcome) (r : Result) : Type 0 where
+    left : ℕ
+    gave : o ≡ gives r.value r.state left
+    cost : r.cost ≡ n - left
+
+  -- a result is given, at the cost of what is spent
+  ends_is : (n : ℕ) (o : Outcome) (r : Result) → result_of n o ≡ Some r → Ends n o r
+  ends_is n no_result r h = absurd (cc)
+  ends_is n (gives us s left) r h =
+      let same : record { value = us; state = s; cost = n - left } ≡ r = cc in
+      subst (Ends n (gives us s left)) same (record { left = left; gave = refl; cost = refl })
+
+  -- a run of an instance with a body
+  simulates : Simulates p q
+  unfolding updated calls_within
+  simulates n k x e core us m r listed entry b h = (
+    32 * r.cost + 32 - suc ran.steps,
+    body_runs q whole.numbered (function_name k) (c_type whole.numbered (taken_by e.ty)) (c_type whole.numbered (given_by e.ty)) ran.low us r.value (as_run (starting m)) (as_run r.state) ran.steps
+        (found_bodied k x e listed entry ran.low ran.is_low) ran.ran (32 * r.cost + 32) (32 * r.cost + 32 - suc ran.steps)
+        (sized (taken_by e.ty) us (ready k x e listed entry).argument machine) (omega (arith, ran.within, ends.cost)),
+  )
+    where
+      ends : Ends n (outcome p n k us m) r
+      ends = ends_is n (outcome p n k us m) r h
+
+      runs_so : (is_machine types (argument_of (types_of p k)) us ≡ true) × (calls_within p (suc n) k us (starting m) n ≡ gives r.value r.state ends.left)
+      runs_so = where_is (is_machine types (argument_of (types_of p k)) us) (calls_within p (suc n) k us (starting m) n) r.value r.state ends.left ends.gave
+
+      machine : is_machine types (taken_by e.ty) us ≡ true
+      machine = subst (λ z. is_machine types (argument_of (option_map (λ (e : Entry). e.ty) z)) us ≡ true) entry runs_so.0
+
+      given_so : entered_by p (calls_within p n) x e.ty e.body us (starting m) n ≡ gives r.value r.state ends.left
+      given_so = entered_is (calls_within p n) k x e us r.value (starting m) r.state n ends.left listed entry runs_so.1
+
+      ran : Ended k x e listed entry us r.value (starting m) r.state n ends.left
+      ran =
+          core_ended k x e listed entry (calls_within p n) (calls_run n) us r.value (starting m) r.state n ends.left machine core b
+          (sym (ap (λ z. entered_by p (calls_within p n) x e.ty z us (starting m) n) b) ∙ given_so)
+
+pub lowering_simulates : LoweringSimulates
+lowering_simulates p whole ss links order is = simulates p whole ss links order is

@@ -1,0 +1,9 @@
+pub mod CTypes
+pub mod Places
+pub mod Lowered
+pub mod LibraryCode
+pub mod Functions
+pub mod Typed
+pub mod Simulated
+pub mod Structs
+pub mod Printables

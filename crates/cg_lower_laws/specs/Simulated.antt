@@ -1,0 +1,79 @@
+-- What the C of a list of instances promises (docs/LANGUAGE.md, "The C of instances").
+use Rattle.std.specs.Prelude.{◌≡◌, ℕ, ◌+◌, ◌*◌, ◌^◌, ◌<◌, ◌≤◌, false, List, length, slice_get, Some, None, Contains}
+use Rattle.std.specs.List.{AllByRecursion}
+use Rattle.cg_base.specs.declared.fun.Fun.TheVariants.{User, Lib as OfLib}
+use Rattle.cg_base.specs.declared.fun.Lib.{Lib}
+use Rattle.cg_core.specs.Kernels.{Function}
+use Rattle.cg_core.specs.Terms.{Note, Tree, term, fun, app}
+use Rattle.cg_crun.specs.Outcomes as runs
+use Rattle.cg_crun.specs.Outcomes.{done}
+use Rattle.cg_crun.specs.Runs.{Linked, crun, linked_to}
+use Rattle.cg_ctree.specs.declared.tree.CStruct.{CStruct}
+use Rattle.cg_heap.specs.declared.cell.Scalar.{Scalar}
+use Rattle.cg_heap.specs.declared.foreign.Link.{Link}
+use Rattle.cg_heap.specs.Stored.{Stored}
+use Rattle.cg_operations.specs.Iterators.{is_iterator}
+use Rattle.cg_typing.specs.Instances.{AreInstances, Entry, Instance, IsGood, nodes_of}
+use Rattle.cg_typing.specs.Parts.{given_by, taken_by}
+use Rattle.cg_typing.specs.Rules.{type_at}
+use Rattle.cg_update.specs.Calls.{Program}
+use Rattle.cg_update.specs.Outcomes.{State}
+use Rattle.cg_update.specs.Updates.{Result, updated}
+use Rattle.cg_lower_laws.specs.CTypes.{IsDeclared}
+use Rattle.cg_lower_laws.specs.Functions.{linked_in, low_instance}
+use Rattle.cg_lower_laws.specs.Lowered.{Low, Whole, function_name}
+
+-- a state of the update semantics as one of runs
+abbrev pub as_run : State → runs.State
+as_run s = record { store = s.store; made = s.made; freed = s.freed }
+
+-- ---- which calls have C so far
+
+-- a named function is called, and no value
+abbrev pub IsNamed : Tree Note → Type 0
+IsNamed (term note (fun f args)) = Unit {0}
+IsNamed t = ⊥
+
+abbrev pub CallsNamed : Tree Note → Type 0
+CallsNamed (term note (app f x)) = IsNamed f
+CallsNamed t = Unit {0}
+
+abbrev pub IsNoIterator : Instance → Type 0
+IsNoIterator x = (lib : Lib) → x.fun ≡ OfLib lib → is_iterator lib ≡ false
+
+-- ---- a whole program
+
+-- what holds of the instance at a place: it is one of its function and no iterator, its body calls named functions alone, the structs of
+-- its types and of all nodes are declared, and it has fewer than 2^64 locals
+pub record IsReady (p : Program) (whole : Whole) (ss : List CStruct) (links : List Link) (k : ℕ) (x : Instance) (e : Entry) : Type 0 where
+  pub good : IsGood p.functions x
+  pub no_iterator : IsNoIterator x
+  pub argument : IsDeclared whole.numbered ss (taken_by e.ty)
+  pub result : IsDeclared whole.numbered ss (given_by e.ty)
+  pub nodes : (core : Tree Note) → e.body ≡ Some core → AllByRecursion (λ t. IsDeclared whole.numbered ss (type_at t)) (nodes_of core)
+  pub named : (core : Tree Note) → e.body ≡ Some core → AllByRecursion CallsNamed (nodes_of core)
+  pub few : (a : Low) → low_instance whole x e.body ≡ Some a → length a.locals < 2 ^ 64
+  pub linked : (i : ℕ) (f : Function) → x.fun ≡ User i → e.body ≡ None → slice_get p.functions i ≡ Some f → linked_to (function_name k) links ≡ Some f.at.name
+
+-- a C program is that of these instances, each of which has its function there, in whatever order
+pub record IsProgramOf (p : Program) (whole : Whole) (ss : List CStruct) (links : List Link) (order : List ℕ) : Type 0 where
+  pub same_list : whole.list ≡ p.list
+  pub instances : AreInstances p.functions p.list p.entries
+  pub few : length p.list ≤ 2 ^ 32
+  pub placed : (k : ℕ) → k < length p.list → Contains order k
+  pub only : (k : ℕ) → Contains order k → k < length p.list
+  pub ready : (k : ℕ) (x : Instance) (e : Entry) → slice_get p.list k ≡ Some x → slice_get p.entries k ≡ Some e → IsReady p whole ss links k x e
+
+-- Where an instance with a body gives a result at cost k, its C ends within 32k + 32 steps with the same scalars, heap, and addresses of
+-- the cells that were made and freed.
+abbrev pub Simulates : Program → Linked → Type 0
+Simulates p linked =
+    (n k : ℕ) (x : Instance) (e : Entry) (core : Tree Note) (us : List Scalar) (m : Stored) (r : Result)
+    → slice_get p.list k ≡ Some x → slice_get p.entries k ≡ Some e → e.body ≡ Some core → updated p n k us m ≡ Some r
+    → (left : ℕ) × (crun linked (32 * r.cost + 32) (function_name k) us m ≡ done r.value (as_run r.state) left)
+
+-- the C of every list of instances without iterators and calls of function values does what the update semantics does
+abbrev pub LoweringSimulates : Type 0
+LoweringSimulates =
+    (p : Program) (whole : Whole) (ss : List CStruct) (links : List Link) (order : List ℕ) → IsProgramOf p whole ss links order
+    → Simulates p (linked_in whole ss p links order)

@@ -1,0 +1,21 @@
+// The laws of lowering.
+ghost use Rattle.cg_lower_laws.specs.Printables.{LoweringIsPrintable};
+ghost use Rattle.cg_lower_laws.specs.Simulated.{LoweringSimulates};
+ghost use Rattle.cg_lower_laws.specs.Structs.{CoveredAreDeclared};
+
+/// The C of a list of instances without iterators and calls of function values simulates the update semantics: where an instance with a body
+/// gives a result at cost k on a heap, its C function ends within 32k + 32 steps, with the same scalars, heap, and addresses of the
+/// cells that were made and freed.
+pub fn lowering_simulates()
+    ensures { LoweringSimulates }
+{}
+
+/// The C of a list of instances can be printed, where no body is deeper than 2,048 and its structs can.
+pub fn lowering_is_printable()
+    ensures { LoweringIsPrintable }
+{}
+
+/// The structs of a table of types, of which each stands behind those that are its parts, are declared as the types say.
+pub fn covered_are_declared()
+    ensures { CoveredAreDeclared }
+{}
