@@ -25,7 +25,7 @@ use Rattle.cg_lower_laws.proofs.Terms.{lay_c}
 -- ---- the frame that a call begins with
 
 -- as many as are asked for
-length_replicate : {A : Type 0} (n : ℕ) (x : A) → length (replicate n x) ≡ n
+pub length_replicate : {A : Type 0} (n : ℕ) (x : A) → length (replicate n x) ≡ n
 length_replicate zero x = refl
 length_replicate (suc n) x = ap suc (length_replicate n x)
 
@@ -114,7 +114,7 @@ pub record BodyRan (q : Linked) (l : Layout) (a : Low) (fr : Frame) (s s' : Stat
   pub readable : IsReadable l ws
 
 -- the operand of the return is read in the frame behind them
-body_returns : (q : Linked) (numbered : Tau → ℕ) (l : Layout) (a : Low) (fr : Frame) (s s' : State) (ws : List Scalar) (steps : ℕ) → BodyRan q l a fr s s' ws steps
+pub body_returns : (q : Linked) (numbered : Tau → ℕ) (l : Layout) (a : Low) (fr : Frame) (s s' : State) (ws : List Scalar) (steps : ℕ) → BodyRan q l a fr s s' ws steps
     → (m b b' : ℕ) → b ≡ suc steps + b' → b ≤ m → returned q (run_block q (calls_in q m) m l (to_block (a.code ++ return' (operand a.value) ∷ [])) fr s b) ≡ done ws s' b'
 body_returns q numbered l a fr s s' ws steps ran m b b' e le =
     let r : Reads numbered q.program.structs s'.store ran.frame (operand a.value) l ws = reads numbered q.program.structs s'.store ran.frame a.value l ws ran.keeps ran.readable in

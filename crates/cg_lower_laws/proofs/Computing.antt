@@ -1,12 +1,14 @@
--- Operators, conversions, and calls of named functions.
+-- Operators, conversions, and calls of functions that are named and of function values.
 use Rattle.std.proofs.Common.{◌≡◌, ℕ, zero, suc, ◌+◌, ◌*◌, ◌%◌, ◌^◌, ◌<◌, ◌≤◌, Bool, true, false, ◌||◌, not, cond, IsTrue, Option, Some, None, option_map, unwrap_or, List, [], ◌∷◌, ◌++◌, length, length-append, get_or, slice_get, replicate, refl, sym, ap, ◌∙◌, subst, arith, ◌⊎◌, inl, inr}
 use Rattle.std.proofs.Math.Nat.{mod-eq_of_lt}
+use Rattle.std.specs.List.{list_any}
 use Rattle.std.proofs.lemmas.List.{drop_all}
 use Rattle.std.proofs.lemmas.Option.{slice_get_cases, slice_get_within}
 use Rattle.cg_base.specs.declared.fun.Fun.{Fun}
 use Rattle.cg_base.specs.declared.fun.Fun.TheVariants.{User, Lib as OfLib}
 use Rattle.cg_base.specs.declared.kind.Word.{Word}
 use Rattle.cg_base.specs.declared.kind.Word.TheVariants.{U32}
+use Rattle.cg_base.specs.Same.{same_type}
 use Rattle.cg_base.specs.Types.{Tau, word, bool, arrow}
 use Rattle.cg_base.specs.Words.{bits}
 use Rattle.cg_core.specs.declared.op.Op.{Op}
@@ -36,6 +38,7 @@ use Rattle.cg_heap.specs.declared.cell.Scalar.{Scalar}
 use Rattle.cg_heap.specs.declared.cell.Scalar.TheVariants.{Unset, Word as NumberScalar}
 use Rattle.cg_inst.specs.Lists.{same_instance}
 use Rattle.cg_inst.proofs.SameInstance.{instance_is}
+use Rattle.cg_inst.proofs.SameType.{same_is}
 use Rattle.cg_typing.specs.Functions.{arg_types, fun_type}
 use Rattle.cg_kinds.specs.Kinds.{is_word, subst as type_with}
 use Rattle.cg_operations.specs.Operators.{on_one, on_two, width}
@@ -45,11 +48,11 @@ use Rattle.cg_typing.specs.Operators.{Sort, arithmetic, equality, order, logic, 
 use Rattle.cg_typing.specs.Parts.{is_bool, widens}
 use Rattle.cg_typing.specs.Rules.{type_at}
 use Rattle.cg_update.specs.Calls.{Program, types_of}
-use Rattle.cg_update.specs.Machines.{is_machine}
+use Rattle.cg_update.specs.Machines.{is_machine, is_type}
 use Rattle.cg_update.specs.Outcomes.{State, gives, bind}
 use Rattle.cg_update.specs.Updates.{Calls, Variables, place_of, update, update_shape}
 use Rattle.cg_lower_laws.specs.CTypes.{c_type, IsDeclared}
-use Rattle.cg_lower_laws.specs.Lowered.{Low, Whole, calling, function_name, joined, leaf, low_cast, low_operator, operating, place, set, word_of, low, low_shape}
+use Rattle.cg_lower_laws.specs.Lowered.{Low, Whole, arrow_number, call_operands, callee, calling, dispatch_name, function_name, joined, leaf, low_cast, low_operator, operating, place, set, word_of, low, low_shape}
 use Rattle.cg_lower_laws.specs.Places.{Place, number, held, argument, local, local_name, operand, path}
 use Rattle.cg_lower_laws.specs.Simulated.{as_run}
 use Rattle.cg_lower_laws.specs.Typed.{IsTyped}
@@ -57,14 +60,14 @@ use Rattle.cg_lower_laws.proofs.Frames.{Fresh, fresh_back, fresh_front, fresh_la
 use Rattle.cg_lower_laws.proofs.Inversions.{Bound, bind_is, on_is, same_rest, same_scalars, same_state}
 use Rattle.cg_lower_laws.proofs.Layouts.{machine_slots, size_slots}
 use Rattle.cg_lower_laws.proofs.Nodes.{Sim, node_is, leaf_node, more_left, numeral, recast, small_number}
-use Rattle.cg_lower_laws.proofs.Operands.{Reads, below_is, given_typed, machine_readable, reads, write_whole}
+use Rattle.cg_lower_laws.proofs.Operands.{Reads, below_is, given_typed, machine_readable, place_is as place_given, reads, write_whole}
 use Rattle.cg_lower_laws.proofs.Runs.{Answers, Runs, runs_call}
 use Rattle.cg_lower_laws.proofs.Terms.{lay_c, AreKept, kept_later, next_local, Ran, assign_ran, set_ran, Went, went_joined, went_leaf}
 
--- what a call does, where `left` of the budget was there and `rest` is left of it
-pub record Called (q : Linked) (f : List ℕ) (vs : List Value) (s s' : State) (result : Layout) (ws : List Scalar) (left rest : ℕ) : Type 0 where
+-- what a call does, where `left` of the budget was there and `rest` is left of it: so many steps beside 32 for each 1 that is spent
+pub record Called (q : Linked) (f : List ℕ) (vs : List Value) (s s' : State) (result : Layout) (ws : List Scalar) (more left rest : ℕ) : Type 0 where
   pub steps : ℕ
-  pub within : steps + 32 * rest ≤ 32 * left + 24
+  pub within : steps + 32 * rest ≤ 32 * left + more
   pub answers : Answers q f vs (as_run s) steps (of_layout result ws) (as_run s')
 
 -- the C functions of instances do what calls of these do
@@ -72,7 +75,15 @@ abbrev pub CallsRun : Program → Whole → Linked → Calls → Type 0
 CallsRun p whole q calls =
     (k : ℕ) (a b : Tau) (us ws : List Scalar) (s s' : State) (left rest : ℕ) (v : Value) → types_of p k ≡ Some (arrow a b) → calls k us s left ≡ gives ws s' rest
     → is_machine (types_of p) a us ≡ true → is_machine (types_of p) b ws ≡ true → give (lay_c q (c_type whole.numbered a)) v ≡ ok us
-    → Called q (function_name k) (v ∷ []) s s' (lay_c q (c_type whole.numbered b)) ws left rest
+    → Called q (function_name k) (v ∷ []) s s' (lay_c q (c_type whole.numbered b)) ws 24 left rest
+
+-- so does the C function of an arrow type that is listed, with the number of an instance of just this type
+abbrev pub ValuesRun : Program → Whole → Linked → Calls → Type 0
+ValuesRun p whole q calls =
+    (k : ℕ) (a b : Tau) (us ws : List Scalar) (s s' : State) (left rest : ℕ) (tag v : Value) → list_any (λ u. same_type u (arrow a b)) whole.arrows ≡ true
+    → types_of p k ≡ Some (arrow a b) → calls k us s left ≡ gives ws s' rest → is_machine (types_of p) a us ≡ true → is_machine (types_of p) b ws ≡ true
+    → give (cell U32) tag ≡ ok (NumberScalar k ∷ []) → give (lay_c q (c_type whole.numbered a)) v ≡ ok us
+    → Called q (dispatch_name (arrow_number whole.arrows (arrow a b))) (tag ∷ v ∷ []) s s' (lay_c q (c_type whole.numbered b)) ws 27 left rest
 
 -- ---- words
 
@@ -157,7 +168,7 @@ no_calls ops.Complement w to x y q c d m n l fr s b = refl
 no_calls o w to x y q c d m n l fr s b = refl
 
 -- a number is one scalar
-one_slot : (w : Word) (us : List Scalar) (n : ℕ) → us ≡ NumberScalar n ∷ [] → length us ≡ size (cell w)
+pub one_slot : (w : Word) (us : List Scalar) (n : ℕ) → us ≡ NumberScalar n ∷ [] → length us ≡ size (cell w)
 unfolding size
 one_slot w us n e = ap length e
 
@@ -339,7 +350,7 @@ module _ (p : Program) (whole : Whole) (q : Linked) (l : Layout) (calls : Calls)
       argument : Reads whole.numbered q.program.structs t.store r.frame (operand x.value) (lay_c q (c_type whole.numbered a)) ws
       argument = reads whole.numbered q.program.structs t.store r.frame x.value (lay_c q (c_type whole.numbered a)) ws r.keeps (machine_readable whole.numbered q.program.structs (types_of p) few a ws r.machine)
 
-      call : Called q (function_name i) (argument.value ∷ []) t s' lay_b us last rest
+      call : Called q (function_name i) (argument.value ∷ []) t s' lay_b us 24 last rest
       call = callees i a b ws us t s' last rest argument.value typed given r.machine machine argument.given
 
       runs : Runs q l (calling (function_name i) (x.value ∷ []) to) r.frame (as_run t) (suc call.steps) (with_scalars (local_name to) us r.frame) (as_run s')
@@ -414,6 +425,138 @@ module _ (p : Program) (whole : Whole) (q : Linked) (l : Layout) (calls : Calls)
       let n = node_is p calls note (app (term at (fun f args)) x) vs s left us s' rest e in
       subst (λ i. RanHere k fr s (low whole k os (term note (app (term at (fun f args)) x))) note.ty us s' i rest) (sym n.is)
       (app_named at f args x note.ty callees hx k g os vs fr s s' n.paid rest us typed.1.0.1 typed.1.1 typed.1.2 typed.0 kept fresh bound n.machine n.given)
+
+  -- ---- calls of function values
+
+  -- a type that passes the test is the one that is there
+  type_is : (o : Option Tau) (t : Tau) → is_type o t ≡ true → o ≡ Some t
+  type_is None t e = absurd (cc)
+  type_is (Some u) t e = ap Some (same_is u t e)
+
+  -- a machine value of an arrow type is the place of an instance of just this type
+  value_is : (a b : Tau) (us : List Scalar) → is_machine (types_of p) (arrow a b) us ≡ true → (i : ℕ) × (us ≡ NumberScalar i ∷ []) × (types_of p i ≡ Some (arrow a b))
+  unfolding is_machine
+  value_is a b us machine = let i = place_given (types_of p) (arrow a b) us machine in (i.0, i.1, type_is (types_of p i.0) (arrow a b) i.2)
+
+  -- a call of the function at a place that is kept, behind the statements of both parts
+  value_ran : (k i : ℕ) (fr fr2 : Frame) (s t s' : State) (a b : Tau) (e : Low) (v u : Place) (ws us : List Scalar) (steps left last rest : ℕ) → ValuesRun p whole q calls
+      → list_any (λ u. same_type u (arrow a b)) whole.arrows ≡ true → types_of p i ≡ Some (arrow a b) → calls i ws t last ≡ gives us s' rest
+      → is_machine (types_of p) a ws ≡ true → is_machine (types_of p) b us ≡ true → IsDeclared whole.numbered q.program.structs b
+      → Went q l k fr (as_run s) e steps fr2 (as_run t) → Keeps fr2 v (cell U32) (NumberScalar i ∷ []) → Keeps fr2 u (lay_c q (c_type whole.numbered a)) ws → steps + 32 * last ≤ 32 * left
+      → Fresh (lay_c q) fr k (e.locals ++ c_type whole.numbered b ∷ []) → k + length (e.locals ++ c_type whole.numbered b ∷ []) ≤ 2 ^ 64
+      → RanHere k fr s (set k (c_type whole.numbered b) e (calling (dispatch_name (arrow_number whole.arrows (arrow a b))) (v ∷ u ∷ []))) b us s' (suc left) rest
+  value_ran k i fr fr2 s t s' a b e v u ws us steps left last rest values listed typed given machine_a machine_b declared went keeps_v keeps_u within fresh bound =
+      set_ran q (types_of p) whole.numbered l k to fr fr2 (with_scalars (local_name to) us fr2) s s' (as_run t) e b us (calling name (v ∷ u ∷ [])) steps (suc call.steps) (suc left) rest refl went runs
+      (changes_set to (suc to) to fr2 us (omega arith) (omega arith))
+      (set_is fr2 (local_name to) lay_b (replicate (size lay_b) Unset) us is sized) machine_b (omega (arith, within, call.within))
+    where
+      to : ℕ
+      to = k + length e.locals
+
+      name : List ℕ
+      name = dispatch_name (arrow_number whole.arrows (arrow a b))
+
+      lay_b : Layout
+      lay_b = lay_c q (c_type whole.numbered b)
+
+      is : Is fr2 (local_name to) lay_b (replicate (size lay_b) Unset)
+      is = (next_local q l k to fr fr2 (as_run s) (as_run t) e (c_type whole.numbered b) [] steps refl bound fresh went).0
+
+      sized : length us ≡ size lay_b
+      sized = machine_slots (types_of p) b us machine_b ∙ sym (size_slots whole.numbered q.program.structs b declared)
+
+      tag : Reads whole.numbered q.program.structs t.store fr2 (operand v) (cell U32) (NumberScalar i ∷ [])
+      tag = reads whole.numbered q.program.structs t.store fr2 v (cell U32) (NumberScalar i ∷ []) keeps_v (i, refl, few i (arrow a b) typed)
+
+      argument : Reads whole.numbered q.program.structs t.store fr2 (operand u) (lay_c q (c_type whole.numbered a)) ws
+      argument = reads whole.numbered q.program.structs t.store fr2 u (lay_c q (c_type whole.numbered a)) ws keeps_u (machine_readable whole.numbered q.program.structs (types_of p) few a ws machine_a)
+
+      call : Called q name (tag.value ∷ argument.value ∷ []) t s' lay_b us 27 last rest
+      call = values i a b ws us t s' last rest tag.value argument.value listed typed given machine_a machine_b tag.given argument.given
+
+      runs : Runs q l (calling name (v ∷ u ∷ []) to) fr2 (as_run t) (suc call.steps) (with_scalars (local_name to) us fr2) (as_run s')
+      runs =
+          runs_call q l (path (local to) []) name (operand v ∷ operand u ∷ []) fr2 (as_run t) (as_run s') (tag.value ∷ argument.value ∷ []) (of_layout lay_b us) call.steps
+          (record { frame = with_scalars (local_name to) us fr2; store = s'.store })
+          (rw (tag.read, argument.read) refl) call.answers
+          (write_whole whole.numbered q.program.structs s'.store fr2 (local to) lay_b (replicate (size lay_b) Unset) us (of_layout lay_b us) is (given_typed lay_b us))
+
+  -- such a call, of what its parts give
+  app_value : (f x : Tree Note) (b : Tau) → ValuesRun p whole q calls → list_any (λ u. same_type u (type_at f)) whole.arrows ≡ true → Sim p whole q l calls f → Sim p whole q l calls x
+      → (k : ℕ) (g : List CTy) (os : List Place) (vs : Variables) (fr : Frame) (s s' : State) (left rest : ℕ) (us : List Scalar)
+      → IsTyped p.functions whole.numbered q.program.structs g f → IsTyped p.functions whole.numbered q.program.structs g x → type_at f ≡ arrow (type_at x) b
+      → IsDeclared whole.numbered q.program.structs b → AreKept q k fr g os vs
+      → Fresh (lay_c q) fr k (((low whole k os f).locals ++ (low whole (k + length (low whole k os f).locals) os x).locals) ++ c_type whole.numbered b ∷ [])
+      → k + length (((low whole k os f).locals ++ (low whole (k + length (low whole k os f).locals) os x).locals) ++ c_type whole.numbered b ∷ []) ≤ 2 ^ 64 → is_machine (types_of p) b us ≡ true
+      → bind (update p calls f vs s left) (λ ws t rest. bind (update p calls x vs t rest) (λ vs t last. calls (first_number ws) vs t last)) ≡ gives us s' rest
+      → RanHere k fr s (set k (c_type whole.numbered b) (joined (low whole k os f) (low whole (k + length (low whole k os f).locals) os x))
+      (calling (dispatch_name (arrow_number whole.arrows (type_at f))) ((low whole k os f).value ∷ (low whole (k + length (low whole k os f).locals) os x).value ∷ []))) b us s' (suc left) rest
+  app_value f x b values listed hf hx k g os vs fr s s' left rest us typed_f typed_x is_arrow declared kept fresh bound machine h =
+      subst (λ z. RanHere k fr s (set k (c_type whole.numbered b) both (calling (dispatch_name (arrow_number whole.arrows z)) (e.value ∷ a.value ∷ []))) b us s' (suc left) rest) (sym is_arrow)
+      (value_ran k i.0 fr y.frame s second.state s' (type_at x) b both e.value a.value second.scalars us (ran.steps + y.steps) left second.rest rest values
+      (subst (λ z. list_any (λ u. same_type u z) whole.arrows ≡ true) is_arrow listed) i.2
+      (subst (λ z. calls (first_number z) second.scalars second.state second.rest ≡ gives us s' rest) i.1 second.later) y.machine machine declared
+      (went_joined q l k next fr ran.frame y.frame (as_run s) (as_run first.state) (as_run second.state) e a ran.steps y.steps refl ran.went y.went)
+      (keeps_later next (next + length a.locals) ran.frame y.frame e.value (cell U32) (NumberScalar i.0 ∷ []) y.went.changes (omega (arith, len, all_few)) ran.under function) y.keeps
+      (omega (arith, ran.within, y.within)) fresh bound)
+    where
+      e : Low
+      e = low whole k os f
+
+      next : ℕ
+      next = k + length e.locals
+
+      a : Low
+      a = low whole next os x
+
+      both : Low
+      both = joined e a
+
+      len : length (e.locals ++ a.locals) ≡ length e.locals + length a.locals
+      len = length-append e.locals a.locals
+
+      all_fresh : Fresh (lay_c q) fr k (e.locals ++ a.locals)
+      all_fresh = fresh_front (lay_c q) fr k (e.locals ++ a.locals) (c_type whole.numbered b ∷ []) fresh
+
+      all_few : k + length (e.locals ++ a.locals) ≤ 2 ^ 64
+      all_few = omega (arith, bound, length-append (e.locals ++ a.locals) (c_type whole.numbered b ∷ []))
+
+      first : Bound (update p calls f vs s left) (λ ws t rest. bind (update p calls x vs t rest) (λ vs t last. calls (first_number ws) vs t last)) us s' rest
+      first = bind_is (update p calls f vs s left) (λ ws t rest. bind (update p calls x vs t rest) (λ vs t last. calls (first_number ws) vs t last)) us s' rest h
+
+      second : Bound (update p calls x vs first.state first.rest) (λ vs t last. calls (first_number first.scalars) vs t last) us s' rest
+      second = bind_is (update p calls x vs first.state first.rest) (λ vs t last. calls (first_number first.scalars) vs t last) us s' rest first.later
+
+      ran : RanHere k fr s e (type_at f) first.scalars first.state left first.rest
+      ran = hf k g os vs fr s first.state left first.rest first.scalars typed_f kept (fresh_front (lay_c q) fr k e.locals a.locals all_fresh) (omega (arith, len, all_few)) first.first
+
+      y : RanHere next ran.frame first.state a (type_at x) second.scalars second.state first.rest second.rest
+      y =
+          hx next g os vs ran.frame first.state second.state first.rest second.rest second.scalars typed_x
+          (kept_later q k next fr ran.frame g os vs (omega arith) (omega (arith, len, all_few)) ran.went.changes kept)
+          (fresh_later (lay_c q) k next next fr ran.frame a.locals ran.went.changes (omega arith) (omega (arith, len, all_few)) (fresh_back (lay_c q) fr k next e.locals a.locals refl all_fresh))
+          (omega (arith, len, all_few)) second.first
+
+      i : (i : ℕ) × (first.scalars ≡ NumberScalar i ∷ []) × (types_of p i ≡ Some (arrow (type_at x) b))
+      i = value_is (type_at x) b first.scalars (subst (λ z. is_machine (types_of p) z first.scalars ≡ true) is_arrow ran.machine)
+
+      function : Keeps ran.frame e.value (cell U32) (NumberScalar i.0 ∷ [])
+      function = subst (λ z. Keeps ran.frame e.value (cell U32) z) i.1 (subst (λ z. Keeps ran.frame e.value (lay_c q (c_type whole.numbered z)) first.scalars) is_arrow ran.keeps)
+
+  -- a call of a function value: the function of its type calls the one at its place
+  pub sim_app_value : (note : Note) (f x : Tree Note) → ValuesRun p whole q calls → list_any (λ u. same_type u (type_at f)) whole.arrows ≡ true
+      → callee whole f ≡ dispatch_name (arrow_number whole.arrows (type_at f)) → ((v u : Place) → call_operands whole f v u ≡ v ∷ u ∷ [])
+      → Sim p whole q l calls f → Sim p whole q l calls x → Sim p whole q l calls (term note (app f x))
+  unfolding update_shape low low_shape
+  sim_app_value note f x values listed named operands hf hx k g os vs fr s s' left rest us typed kept fresh bound h =
+      let n = node_is p calls note (app f x) vs s left us s' rest h in
+      let e = low whole k os f in
+      let a = low whole (k + length e.locals) os x in
+      subst (λ i. RanHere k fr s (low whole k os (term note (app f x))) note.ty us s' i rest) (sym n.is)
+      (subst (λ z. RanHere k fr s (set k (c_type whole.numbered note.ty) (joined e a) (calling z (call_operands whole f e.value a.value))) note.ty us s' (suc n.paid) rest) (sym named)
+      (subst (λ z. RanHere k fr s (set k (c_type whole.numbered note.ty) (joined e a) (calling (dispatch_name (arrow_number whole.arrows (type_at f))) z)) note.ty us s' (suc n.paid) rest)
+      (sym (operands e.value a.value))
+      (app_value f x note.ty values listed hf hx k g os vs fr s s' n.paid rest us typed.1.0 typed.1.1 typed.1.2 typed.0 kept fresh bound n.machine n.given)))
 
   -- ---- operators
 

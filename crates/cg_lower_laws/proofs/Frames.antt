@@ -175,7 +175,7 @@ keeps_later k n fr fr' (held (local j) steps) l us c b u h =
     part_later k n fr fr' (local_name j) (map step_name steps) l us c (outside_below k n j u b) h
 
 -- all of a variable's scalars
-whole : (l : Layout) (us : List Scalar) → length us ≡ size l → part_of (spot 0 l) us ≡ us
+pub whole : (l : Layout) (us : List Scalar) → length us ≡ size l → part_of (spot 0 l) us ≡ us
 whole l us e = take_all (size l) us (omega (arith, e))
 
 -- a variable as a place

@@ -1,6 +1,7 @@
 pub mod Bodies
 pub mod Choices
 pub mod Computing
+pub mod Dispatching
 pub mod Finding
 pub mod Frames
 pub mod Inversions

@@ -64,7 +64,7 @@ readable (pointer x) us r = rw r.1 refl
 readable (group x ms) us r = refl
 
 -- the place of an instance of a type is a number
-place_is : (types : ℕ → Option Tau) (t : Tau) (us : List Scalar) → is_place_of types t us ≡ true → (k : ℕ) × (us ≡ NumberScalar k ∷ []) × (is_type (types k) t ≡ true)
+pub place_is : (types : ℕ → Option Tau) (t : Tau) (us : List Scalar) → is_place_of types t us ≡ true → (k : ℕ) × (us ≡ NumberScalar k ∷ []) × (is_type (types k) t ≡ true)
 place_is types t [] e = absurd (cc)
 place_is types t (Unset ∷ us) e = absurd (cc)
 place_is types t (Address p ∷ us) e = absurd (cc)

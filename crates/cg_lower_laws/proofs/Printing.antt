@@ -6,6 +6,7 @@ use Rattle.cg_base.specs.declared.fun.Fun.{Fun}
 use Rattle.cg_base.specs.declared.fun.Fun.TheVariants.{User, Lib as OfLib}
 use Rattle.cg_base.specs.declared.kind.Kinds.{Kinds}
 use Rattle.cg_base.specs.declared.kind.Word.TheVariants.{U8, U16, U32, U64}
+use Rattle.cg_base.specs.Same.{same_type}
 use Rattle.cg_base.specs.Types as types
 use Rattle.cg_base.specs.Types.{Tau, Parts, part}
 use Rattle.cg_cgen.specs.Meanings.{takes_two}
@@ -13,10 +14,12 @@ use Rattle.cg_core.specs.declared.derivation.Mark.{Mark}
 use Rattle.cg_core.specs.Derivations.{Derivation, Derivations}
 use Rattle.cg_core.specs.Kernels.{Function}
 use Rattle.cg_core.specs.Terms.{Arg, Note, Tree, term, Shape, var, unit, bool, lit, fun, op, app, lets, let_bang, if_else, con, case_of, esac, struct, member, take_field, put, cast, annot, Trees, none, more, Named, end, field}
+use Rattle.cg_ctree.specs.declared.tree.COpnd.TheVariants.{Path}
+use Rattle.cg_ctree.specs.declared.tree.CRhs.TheVariants.{Call}
 use Rattle.cg_ctree.specs.declared.tree.CStruct.{CStruct}
 use Rattle.cg_ctree.specs.declared.tree.CTy.{CTy}
-use Rattle.cg_ctree.specs.Spells.{IsCName, IsPrintableBody, IsPrintableDecl, IsPrintableFunction, IsPrintableOpnd, IsPrintableStmt, IsPrintableType, SomeAll}
-use Rattle.cg_ctree.specs.Trees.{return'}
+use Rattle.cg_ctree.specs.Spells.{ArePrintableCases, IsCName, IsPrintableBlock, IsPrintableBody, IsPrintableDecl, IsPrintableFunction, IsPrintableOpnd, IsPrintablePath, IsPrintableStmt, IsPrintableType, SomeAll}
+use Rattle.cg_ctree.specs.Trees.{assign, return', switch}
 use Rattle.cg_heap.specs.declared.foreign.Link.{Link}
 use Rattle.cg_inst.specs.Lists.{same_instance}
 use Rattle.cg_operations.specs.Iterators.{is_iterator}
@@ -32,15 +35,16 @@ use Rattle.cg_update.specs.Calls.{Program}
 use Rattle.cg_update.specs.Turns.{field_type, place_in}
 use Rattle.cg_update.specs.Updates.{place_of, sigil_of}
 use Rattle.cg_lower_laws.specs.CTypes.{count, IsDeclared}
-use Rattle.cg_lower_laws.specs.Functions.{body_of, function_at, function_maybe, function_of, functions_at, locals_from, low_body, low_instance, low_outside, with_function}
+use Rattle.cg_lower_laws.specs.Functions.{Item, of_arrow, of_instance, body_of, function_maybe, function_of_item, function_of, functions_at, locals_from, low_body, low_instance, low_outside, with_function}
+use Rattle.cg_lower_laws.specs.Dispatch.{dispatch_body, dispatch_cases, dispatch_of, second_path, tags_from}
 use Rattle.cg_lower_laws.specs.LibraryCode.{low_library, whole_argument}
-use Rattle.cg_lower_laws.specs.Lowered.{Low, Whole, call_operands, callee, calling, injecting, joined, literal, low, low_fields, low_member, low_shape, remainder, place, typed, word_of}
-use Rattle.cg_lower_laws.specs.Places.{Place, number, payload, at, operand}
+use Rattle.cg_lower_laws.specs.Lowered.{Low, Whole, arrow_number, call_operands, callee, calling, function_name, injecting, joined, literal, low, low_fields, low_member, low_shape, remainder, place, typed, word_of}
+use Rattle.cg_lower_laws.specs.Places.{Place, argument, held, local, number, path, payload, at, operand}
 use Rattle.cg_lower_laws.specs.Printables.{AreShallow, LoweringIsPrintable, depth, depth_below, depth_of_fields}
 use Rattle.cg_lower_laws.specs.Simulated.{IsProgramOf}
-use Rattle.cg_lower_laws.proofs.PrintedNames.{FitsPlace, argument_named, at_fits, dispatch_named, function_named, local_named, operand_prints, type_prints}
+use Rattle.cg_lower_laws.proofs.PrintedNames.{FitsPlace, argument_named, at_fits, dispatch_named, function_named, local_named, operand_prints, path_prints, type_prints}
 use Rattle.cg_lower_laws.proofs.PrintedLibrary.{library_prints}
-use Rattle.cg_lower_laws.proofs.PrintedNodes.{leaf_prints, PrintLows, PrintsLow, all_append, block_prints, call_prints, case_prints, cast_prints, if_prints, inject_prints, joined_prints, member_prints, operator_prints, put_prints, remainder_fits, set_prints, struct_prints}
+use Rattle.cg_lower_laws.proofs.PrintedNodes.{leaf_prints, PrintLows, PrintsLow, all_append, assign_prints, block_prints, call_prints, case_prints, cast_prints, if_prints, inject_prints, joined_prints, member_prints, operator_prints, put_prints, remainder_fits, set_prints, struct_prints}
 use Rattle.cg_lower_laws.proofs.Typings.{all_back, all_front}
 
 -- ---- the numbers of a core
@@ -210,7 +214,7 @@ module _ (whole : Whole) (few : length whole.list ≤ 2 ^ 32) where
   -- what is called has a name, and an operand at least
   callee_named : (f : Tree Note) → IsCName (callee whole f)
   callee_named (term note (fun f args)) = function_named (place whole f args)
-  callee_named (term note shape) = dispatch_named (whole.arrows note.ty)
+  callee_named (term note shape) = dispatch_named (arrow_number whole.arrows note.ty)
 
   operands_called : (f : Tree Note) (v x : Place) → FitsPlace v → FitsPlace x → SomeAll IsPrintableOpnd (map operand (call_operands whole f v x))
   operands_called (term note (fun f args)) v x hv hx = (operand_prints x hx, tt)
@@ -345,7 +349,53 @@ body_prints a p = (
   block_prints most (a.code ++ return' (operand a.value) ∷ []) (all_append (IsPrintableStmt most) a.code _ p.code (return_prints most a.value p.value, tt)),
 )
 
-module _ (p : Program) (whole : Whole) (ss : List CStruct) (links : List Link) (order : List ℕ) (is : IsProgramOf p whole ss links order) (shallow : AreShallow p.entries) where
+-- ---- the functions of arrow types
+
+-- the places of instances fit
+tags_fit : (i : ℕ) (t : Tau) (es : List Entry) → i + length es ≤ 2 ^ 64 → AllByRecursion (λ k. k < 2 ^ 64) (tags_from i t es)
+tags_fit i t [] h = tt
+tags_fit i t (e ∷ es) h = by_test (same_type e.ty t) (tags_fit (suc i) t es (omega arith))
+  where
+    by_test : (b : Bool) → AllByRecursion (λ k. k < 2 ^ 64) (tags_from (suc i) t es) → AllByRecursion (λ k. k < 2 ^ 64) (cond b (i ∷ tags_from (suc i) t es) (tags_from (suc i) t es))
+    by_test true rest = (omega arith, rest)
+    by_test false rest = rest
+
+-- the argument of such a function
+second_prints : IsPrintablePath second_path
+second_prints = (argument_named 1, tt)
+
+-- a case for each
+cases_print : (ks : List ℕ) → AllByRecursion (λ k. k < 2 ^ 64) ks → ArePrintableCases most (dispatch_cases ks)
+unfolding ArePrintableCases
+cases_print [] h = tt
+cases_print (k ∷ ks) h = (
+  h.0,
+  block_prints 4094 (assign (path (local 0) []) (Call (function_name k) (Path second_path ∷ [])) ∷ return' (operand (held (local 0) [])) ∷ []) (
+    assign_prints 4094 (path (local 0) []) (Call (function_name k) (Path second_path ∷ [])) (path_prints (local 0) []) (function_named k, (second_prints, tt)),
+    (return_prints 4094 (held (local 0) []) tt, tt),
+  ),
+  cases_print ks h.1,
+)
+
+-- a body has a switch with a case at least, or no statement
+dispatch_body_prints : (whole : Whole) (t : Tau) (ks : List ℕ) → AllByRecursion (λ k. k < 2 ^ 64) ks → IsPrintableBody (Some (dispatch_body whole t ks))
+unfolding IsPrintableStmt IsPrintableBlock
+dispatch_body_prints whole t [] h = (tt, tt)
+dispatch_body_prints whole t (k ∷ ks) h = (
+  ((type_prints whole.numbered (given_by t), local_named 0), tt),
+  block_prints most (switch (Path (path argument [])) (dispatch_cases (k ∷ ks)) ∷ []) ((path_prints argument [], cases_print (k ∷ ks) h), tt),
+)
+
+-- the function of an arrow type
+dispatch_prints : (whole : Whole) (entries : List Entry) (j : ℕ) (t : Tau) → length entries ≤ 2 ^ 64 → IsPrintableFunction (dispatch_of whole entries j t)
+dispatch_prints whole entries j t few = (
+  type_prints whole.numbered (given_by t),
+  dispatch_named j,
+  ((tt, argument_named 0), ((type_prints whole.numbered (taken_by t), argument_named 1), tt)),
+  dispatch_body_prints whole t (tags_from 0 t entries) (tags_fit 0 t entries (omega (arith, few))),
+)
+
+module _ (p : Program) (whole : Whole) (ss : List CStruct) (links : List Link) (order : List Item) (is : IsProgramOf p whole ss links order) (shallow : AreShallow p.entries) where
   -- there are few instances
   few : length whole.list ≤ 2 ^ 32
   few = let e = ap length is.same_list in let h = is.few in omega (arith, e, h)
@@ -386,16 +436,25 @@ module _ (p : Program) (whole : Whole) (ss : List CStruct) (links : List Link) (
     instance_prints k x e hx he,
   )
 
-  -- the functions at some places
-  functions_print : (ks : List ℕ) → AllByRecursion IsPrintableFunction (functions_at (function_at whole p.entries) ks)
+  -- the functions of some items
+  functions_print : (items : List Item) → AllByRecursion IsPrintableFunction (functions_at (function_of_item whole p.entries) items)
   functions_print [] = tt
-  functions_print (k ∷ ks) = by_place (slice_get whole.list k) (slice_get p.entries k) (ap (λ l. slice_get l k) (sym is.same_list)) refl (functions_print ks)
+  functions_print (of_instance k ∷ items) = by_place (slice_get whole.list k) (slice_get p.entries k) (ap (λ l. slice_get l k) (sym is.same_list)) refl (functions_print items)
     where
-      by_place : (x : Option Instance) (e : Option Entry) → slice_get p.list k ≡ x → slice_get p.entries k ≡ e → AllByRecursion IsPrintableFunction (functions_at (function_at whole p.entries) ks)
-          → AllByRecursion IsPrintableFunction (with_function (function_maybe whole k x e) (functions_at (function_at whole p.entries) ks))
+      by_place : (x : Option Instance) (e : Option Entry) → slice_get p.list k ≡ x → slice_get p.entries k ≡ e → AllByRecursion IsPrintableFunction (functions_at (function_of_item whole p.entries) items)
+          → AllByRecursion IsPrintableFunction (with_function (function_maybe whole k x e) (functions_at (function_of_item whole p.entries) items))
       by_place None e hx he rest = rest
       by_place (Some x) None hx he rest = rest
       by_place (Some x) (Some e) hx he rest = (function_prints k x e hx he, rest)
+  functions_print (of_arrow j ∷ items) = by_arrow (slice_get whole.arrows j) (functions_print items)
+    where
+      entries_few : length p.entries ≤ 2 ^ 64
+      entries_few = omega (arith, is.instances.as_many, is.few)
+
+      by_arrow : (t : Option Tau) → AllByRecursion IsPrintableFunction (functions_at (function_of_item whole p.entries) items)
+          → AllByRecursion IsPrintableFunction (with_function (option_map (dispatch_of whole p.entries j) t) (functions_at (function_of_item whole p.entries) items))
+      by_arrow None rest = rest
+      by_arrow (Some t) rest = (dispatch_prints whole p.entries j t entries_few, rest)
 
 pub lowering_is_printable : LoweringIsPrintable
 lowering_is_printable p whole ss links order is structs shallow = (structs, functions_print p whole ss links order is shallow order)

@@ -1,22 +1,24 @@
 -- The C of small cores, computed.
-use Rattle.std.proofs.Common.{◌≡◌, ℕ, codes, List, [], ◌∷◌, Some, true, false, refl}
+use Rattle.std.proofs.Common.{◌≡◌, ℕ, codes, List, [], ◌∷◌, Some, None, true, false, refl}
 use Rattle.cg_base.specs.declared.kind.Sigil.TheVariants.{U, W}
 use Rattle.cg_base.specs.declared.kind.Word.TheVariants.{U8, U32}
 use Rattle.cg_base.specs.declared.place.Place.{Place}
-use Rattle.cg_base.specs.Types.{Tau, unit, word, fields, variant, part, end}
+use Rattle.cg_base.specs.Same.{same_type}
+use Rattle.cg_base.specs.Types.{Tau, unit, word, arrow, fields, variant, part, end}
 use Rattle.cg_core.specs.declared.at.At.{At}
 use Rattle.cg_core.specs.declared.op.Op.TheVariants as ops
-use Rattle.cg_core.specs.Terms.{Note, Tree, term, var, lit, op, con, case_of, esac, struct, take_field, put, more, none, end as no_fields, field as named}
+use Rattle.cg_core.specs.Terms.{Note, Tree, term, var, lit, op, app, con, case_of, esac, struct, take_field, put, more, none, end as no_fields, field as named}
 use Rattle.cg_ctree.specs.declared.tree.COp.TheVariants as cop
 use Rattle.cg_ctree.specs.declared.tree.COpnd.TheVariants.{Number, Path}
-use Rattle.cg_ctree.specs.declared.tree.CRhs.TheVariants.{Opnd, Binary}
+use Rattle.cg_ctree.specs.declared.tree.CRhs.TheVariants.{Opnd, Binary, Call}
 use Rattle.cg_ctree.specs.declared.tree.CTy.TheVariants as ty
 use Rattle.cg_ctree.specs.Trees.{assign, branch, to_block}
 use Rattle.cg_operations.specs.Positions.{position, position_among}
 use Rattle.cg_update.specs.Machines.{type_of_part}
 use Rattle.cg_lower_laws.specs.CTypes.{struct_name}
+use Rattle.cg_lower_laws.specs.Dispatch.{tags_from}
 use Rattle.cg_lower_laws.specs.LibraryCode.{whole_argument}
-use Rattle.cg_lower_laws.specs.Lowered.{Whole, low, low_fields}
+use Rattle.cg_lower_laws.specs.Lowered.{Whole, arrow_number, dispatch_name, low, low_fields}
 use Rattle.cg_lower_laws.specs.Places.{argument, arrow_path, field, held, local, path, payload, tag}
 
 abbrev place : Place
@@ -28,9 +30,9 @@ noted t = record { place = place; ty = t }
 abbrev at : List ℕ → At
 at x = record { place = place; name = x }
 
--- every struct is number 7
+-- every struct is number 7, and functions from a word to a word are called
 abbrev whole : Whole
-whole = record { numbered = λ t. 7; arrows = λ t. 0; list = [] }
+whole = record { numbered = λ t. 7; arrows = arrow (word U32) (word U32) ∷ []; list = [] }
 
 abbrev long : Tau
 long = word U32
@@ -122,3 +124,22 @@ put_in_copy : low whole 0 (whole_argument ∷ []) (term (noted two) (put (term (
 }
 unfolding low position position_among
 put_in_copy = refl
+
+-- ---- a call of a function value: `f 5`
+
+abbrev applied : Tree Note
+applied = term (noted long) (app (term (noted (arrow long long)) (var 0)) (term (noted long) (lit (Some 5))))
+
+-- x0 = d0(a0, 5ull); and the value is x0
+called_value : low whole 0 (whole_argument ∷ []) applied ≡ record {
+  value = held (local 0) [];
+  locals = ty.Word U32 ∷ [];
+  code = assign (path (local 0) []) (Call (dispatch_name 0) (Path (path argument []) ∷ Number 5 ∷ [])) ∷ [];
+}
+unfolding low arrow_number same_type
+called_value = refl
+
+-- the function of a type has a case for each instance of just this type
+one_case : tags_from 0 (arrow long long) (record { ty = arrow long (word U8); body = None } ∷ record { ty = arrow long long; body = None } ∷ []) ≡ 1 ∷ []
+unfolding same_type
+one_case = refl

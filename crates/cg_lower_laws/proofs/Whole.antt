@@ -3,10 +3,12 @@ use Rattle.std.proofs.Common.{◌≡◌, ℕ, zero, suc, ◌+◌, ◌*◌, ◌-�
 use Rattle.std.proofs.lemmas.Bool.{eq-eqb, eqb-true, le-ltb}
 use Rattle.std.proofs.lemmas.List.{append-nil}
 use Rattle.std.proofs.lemmas.Option.{slice_get_within}
+use Rattle.std.specs.List.{Contains}
 use Rattle.std.specs.Option.{option_map}
 use Rattle.cg_base.specs.declared.fun.Fun.{Fun}
 use Rattle.cg_base.specs.declared.fun.Fun.TheVariants.{User, Lib as OfLib}
 use Rattle.cg_base.specs.declared.fun.Lib.{Lib}
+use Rattle.cg_base.specs.Same.{same_type}
 use Rattle.cg_base.specs.Types.{Tau, arrow}
 use Rattle.cg_core.specs.Kernels as kernels
 use Rattle.cg_core.specs.Terms.{Note, Tree}
@@ -25,6 +27,7 @@ use Rattle.cg_heap.specs.declared.cell.Scalar.{Scalar}
 use Rattle.cg_heap.specs.declared.cell.Scalar.TheVariants.{Word as NumberScalar}
 use Rattle.cg_heap.specs.declared.foreign.Link.{Link}
 use Rattle.cg_heap.specs.Stored.{Stored}
+use Rattle.cg_inst.proofs.SameType.{same_self}
 use Rattle.cg_lawful.specs.Lawful.{library_arity}
 use Rattle.cg_machine.specs.Foreigns.{is_known}
 use Rattle.cg_typing.specs.Contexts.{look}
@@ -39,20 +42,22 @@ use Rattle.cg_update.specs.Outcomes.{State, starting, Outcome, no_result, gives,
 use Rattle.cg_update.specs.Updates as updates
 use Rattle.cg_update.specs.Updates.{Result, calls_within, entered, entered_by, given_outside, outcome, result_of, update, updated}
 use Rattle.cg_lower_laws.specs.CTypes.{c_type, declared, IsDeclared}
-use Rattle.cg_lower_laws.specs.Functions.{body_of, function_at, function_maybe, function_of, linked_in, low_body, low_instance, low_outside}
+use Rattle.cg_lower_laws.specs.Functions.{Item, of_arrow, of_instance, body_of, function_maybe, function_of, function_of_item, linked_in, low_body, low_instance, low_outside}
+use Rattle.cg_lower_laws.specs.Dispatch.{dispatch_of, tags_from}
 use Rattle.cg_lower_laws.specs.LibraryCode.{low_library, whole_argument}
-use Rattle.cg_lower_laws.specs.Lowered.{Low, Whole, function_name}
+use Rattle.cg_lower_laws.specs.Lowered.{Low, Whole, arrow_number, dispatch_name, function_name}
 use Rattle.cg_lower_laws.specs.Places.{argument, argument_name}
 use Rattle.cg_lower_laws.specs.Simulated.{as_run, IsProgramOf, IsReady, LoweringSimulates, Simulates}
 use Rattle.cg_lower_laws.specs.Typed.{IsTyped}
 use Rattle.cg_lower_laws.proofs.Bodies.{begins, begins_fresh, begins_is, BodyRan, bodied, body_answers, body_runs}
-use Rattle.cg_lower_laws.proofs.Computing.{Called, CallsRun}
-use Rattle.cg_lower_laws.proofs.Finding.{abstract_called, found_at, own_called}
+use Rattle.cg_lower_laws.proofs.Computing.{Called, CallsRun, ValuesRun}
+use Rattle.cg_lower_laws.proofs.Dispatching.{arrow_at, dispatch_answers, tagged}
+use Rattle.cg_lower_laws.proofs.Finding.{abstract_called, found_at, item_name, item_number, own_called}
 use Rattle.cg_lower_laws.proofs.Frames.{is_kept, Keeps}
 use Rattle.cg_lower_laws.proofs.Inversions.{on_is, pay_for_is, same_rest, same_scalars, same_state, where_is}
 use Rattle.cg_lower_laws.proofs.Layouts.{machine_slots, size_slots}
 use Rattle.cg_lower_laws.proofs.LibraryCalls.{library_ran}
-use Rattle.cg_lower_laws.proofs.Operands.{IsReadable, machine_readable, readable}
+use Rattle.cg_lower_laws.proofs.Operands.{IsReadable, given_typed, machine_readable, readable}
 use Rattle.cg_lower_laws.proofs.Runs.{Answers}
 use Rattle.cg_lower_laws.proofs.Simulating.{simulated}
 use Rattle.cg_lower_laws.proofs.Terms.{lay_c, Ran}
@@ -86,6 +91,15 @@ named_maybe whole k None None f h = absurd (cc)
 named_maybe whole k None (Some e) f h = absurd (cc)
 named_maybe whole k (Some x) None f h = absurd (cc)
 named_maybe whole k (Some x) (Some e) f h = let same : function_of whole k x e ≡ f = cc in sym (ap (λ z. z.name) same)
+
+-- and that of an arrow type has the name of its number
+named_arrow : (whole : Whole) (entries : List Entry) (j : ℕ) (t : Option Tau) (f : trees.Function) → option_map (dispatch_of whole entries j) t ≡ Some f → f.name ≡ dispatch_name j
+named_arrow whole entries j None f h = absurd (cc)
+named_arrow whole entries j (Some t) f h = let same : dispatch_of whole entries j t ≡ f = cc in sym (ap (λ z. z.name) same)
+
+named_item : (whole : Whole) (entries : List Entry) (i : Item) (f : trees.Function) → function_of_item whole entries i ≡ Some f → f.name ≡ item_name i
+named_item whole entries (of_instance k) f h = named_maybe whole k (slice_get whole.list k) (slice_get entries k) f h
+named_item whole entries (of_arrow j) f h = named_arrow whole entries j (slice_get whole.arrows j) f h
 
 -- ---- values
 
@@ -123,7 +137,7 @@ answer_is p (Some f) us m a h = by_test (is_known p.foreign f) h
     by_test true e = (f, refl, e)
     by_test false e = absurd (cc)
 
-module _ (p : Program) (whole : Whole) (ss : List CStruct) (links : List Link) (order : List ℕ) (is : IsProgramOf p whole ss links order) where
+module _ (p : Program) (whole : Whole) (ss : List CStruct) (links : List Link) (order : List Item) (is : IsProgramOf p whole ss links order) where
   abbrev q : Linked
   q = linked_in whole ss p links order
 
@@ -138,6 +152,11 @@ module _ (p : Program) (whole : Whole) (ss : List CStruct) (links : List Link) (
   few k t h =
       let e = entry_is (slice_get p.entries k) t h in
       let lt = slice_get_within p.entries k e.0 e.1 in omega (arith, lt, is.instances.as_many, is.few)
+
+  -- the numbers of items are few
+  small : (i : Item) → Contains order i → item_number i < 2 ^ 64
+  small (of_instance k) c = let lt = is.only (of_instance k) c in omega (arith, lt, is.few)
+  small (of_arrow j) c = let lt = is.only (of_arrow j) c in omega (arith, lt, is.few_arrows)
 
   -- a machine value has the size of its layout
   sized : (t : Tau) (us : List Scalar) → IsDeclared whole.numbered ss t → is_machine types t us ≡ true → length us ≡ size (lay_of t)
@@ -160,8 +179,7 @@ module _ (p : Program) (whole : Whole) (ss : List CStruct) (links : List Link) (
     -- its C function is found
     found : find (function_name k) q.program.functions ≡ Some (function_of whole k x e)
     found =
-        found_at (function_at whole p.entries) (λ j f. named_maybe whole j (slice_get whole.list j) (slice_get p.entries j) f) order k (function_of whole k x e)
-        (λ j c. let lt = is.only j c in omega (arith, lt, is.few))
+        found_at (function_of_item whole p.entries) (named_item whole p.entries) order (of_instance k) (function_of whole k x e) small
         (is.placed k (slice_get_within p.list k x listed))
         (ap (λ z. function_maybe whole k (slice_get z k) (slice_get p.entries k)) is.same_list ∙ ap (λ z. function_maybe whole k z (slice_get p.entries k)) listed ∙ ap (λ z. function_maybe whole k (Some x) z) entry)
 
@@ -189,7 +207,7 @@ module _ (p : Program) (whole : Whole) (ss : List CStruct) (links : List Link) (
 
     -- which is what a call of it does
     ended_called : (us ws : List Scalar) (s s' : State) (left rest : ℕ) (v : Value) → give (lay_of taken) v ≡ ok us → Ended us ws s s' left rest
-        → Called q (function_name k) (v ∷ []) s s' (lay_of result) ws left rest
+        → Called q (function_name k) (v ∷ []) s s' (lay_of result) ws 24 left rest
     ended_called us ws s s' left rest v g r =
         let f : find (function_name k) q.program.functions ≡ Some (bodied (function_name k) (c_type whole.numbered taken) (c_type whole.numbered result) r.low) =
         found_bodied r.low r.is_low in
@@ -225,13 +243,13 @@ module _ (p : Program) (whole : Whole) (ss : List CStruct) (links : List Link) (
         let d = derived_body core b in
         derived_typed whole.numbered ss p.functions [] (Some taken ∷ []) d.tree (Some result) core (c_type whole.numbered taken ∷ []) (agrees taken) d.derives (ready.nodes core b)
 
-    module _ (calls : updates.Calls) (callees : CallsRun p whole q calls) (us ws : List Scalar) (s s' : State) (left rest : ℕ) (machine : is_machine types taken us ≡ true) where
+    module _ (calls : updates.Calls) (callees : CallsRun p whole q calls) (values : ValuesRun p whole q calls) (us ws : List Scalar) (s s' : State) (left rest : ℕ) (machine : is_machine types taken us ≡ true) where
       -- its body runs in the frame that a call begins with
       core_ran : (core : Tree Note) → e.body ≡ Some core → update p calls core (us ∷ []) s left ≡ gives ws s' rest
           → Ran q types whole.numbered (lay_of result) 0 (begins q (c_type whole.numbered taken) us (low_body whole core).locals) s (low_body whole core) (type_at core) ws s' left rest
       core_ran core b h =
           let small = ready.few (low_body whole core) (ap (low_instance whole x) b) in
-          simulated p whole q (lay_of result) calls few is.same_list is.instances callees core (ready.named core b) 0 (c_type whole.numbered taken ∷ []) (whole_argument ∷ []) (us ∷ [])
+          simulated p whole q (lay_of result) calls few is.same_list is.instances callees values core (ready.listed core b) 0 (c_type whole.numbered taken ∷ []) (whole_argument ∷ []) (us ∷ [])
           (begins q (c_type whole.numbered taken) us (low_body whole core).locals) s s' left rest ws (core_typed core b) (
             is_kept (begins q (c_type whole.numbered taken) us (low_body whole core).locals) argument (lay_of taken) us
                 (begins_is q (c_type whole.numbered taken) us (low_body whole core).locals (sized taken us ready.argument machine)),
@@ -304,10 +322,10 @@ module _ (p : Program) (whole : Whole) (ss : List CStruct) (links : List Link) (
 
       -- as in the update semantics
       abstract_ends : (i : ℕ) (v : Value) → x.fun ≡ User i → e.body ≡ None → give (lay_of taken) v ≡ ok us → abstract p result i us s left ≡ gives ws s' rest
-          → Called q (function_name k) (v ∷ []) s s' (lay_of result) ws left rest
+          → Called q (function_name k) (v ∷ []) s s' (lay_of result) ws 24 left rest
       abstract_ends i v is_user b g h =
-          subst (λ z. Called q (function_name k) (v ∷ []) s z (lay_of result) ws left rest) (same_state a.out.result ws after s' (left - a.cost) rest paid.1)
-          (subst (λ z. Called q (function_name k) (v ∷ []) s after (lay_of result) z left rest) (same_scalars a.out.result ws after s' (left - a.cost) rest paid.1)
+          subst (λ z. Called q (function_name k) (v ∷ []) s z (lay_of result) ws 24 left rest) (same_state a.out.result ws after s' (left - a.cost) rest paid.1)
+          (subst (λ z. Called q (function_name k) (v ∷ []) s after (lay_of result) z 24 left rest) (same_scalars a.out.result ws after s' (left - a.cost) rest paid.1)
           (record {
             steps = a.cost;
             within = omega (arith, paid.0, same_rest a.out.result ws after s' (left - a.cost) rest paid.1);
@@ -339,7 +357,7 @@ module _ (p : Program) (whole : Whole) (ss : List CStruct) (links : List Link) (
 
       -- an instance without a body
       by_fun : (f : Fun) (v : Value) → x.fun ≡ f → e.body ≡ None → give (lay_of taken) v ≡ ok us → given_outside p calls f x.types e.ty us s left ≡ gives ws s' rest
-          → Called q (function_name k) (v ∷ []) s s' (lay_of result) ws left rest
+          → Called q (function_name k) (v ∷ []) s s' (lay_of result) ws 24 left rest
       by_fun (User i) v f b g h = abstract_ends i v f b g h
       by_fun (OfLib lib) v f b g h =
           ended_called us ws s s' left rest v g
@@ -350,7 +368,7 @@ module _ (p : Program) (whole : Whole) (ss : List CStruct) (links : List Link) (
 
       -- an instance with or without one
       by_body : (o : Option (Tree Note)) (v : Value) → e.body ≡ o → give (lay_of taken) v ≡ ok us → entered_by p calls x e.ty o us s left ≡ gives ws s' rest
-          → Called q (function_name k) (v ∷ []) s s' (lay_of result) ws left rest
+          → Called q (function_name k) (v ∷ []) s s' (lay_of result) ws 24 left rest
       by_body None v b g h = by_fun x.fun v refl b g h
       by_body (Some core) v b g h = ended_called us ws s s' left rest v g (core_ended core b h)
 
@@ -359,6 +377,46 @@ module _ (p : Program) (whole : Whole) (ss : List CStruct) (links : List Link) (
       → entered p calls (slice_get p.list k) (slice_get p.entries k) us s left ≡ gives ws s' rest → entered_by p calls x e.ty e.body us s left ≡ gives ws s' rest
   entered_is calls k x e us ws s s' left rest listed entry h =
       sym (ap (λ z. entered p calls z (slice_get p.entries k) us s left) listed ∙ ap (λ z. entered p calls (Some x) z us s left) entry) ∙ h
+
+  -- ---- calls of function values
+
+  -- a call of a listed type's function, by what the functions of instances do
+  values_run : (calls : updates.Calls) → CallsRun p whole q calls → ValuesRun p whole q calls
+  values_run calls callees k a b us ws s s' left rest tag v listed t h ma mb gt gv =
+      record {
+        steps = suc (suc (suc call.steps));
+        within = let w = call.within in omega (arith, w);
+        answers =
+            dispatch_answers q whole p.entries j k (arrow a b) us ws (as_run s) (as_run s') call.steps tag v (few k (arrow a b) t) (sized a us (is_declared.0) ma) (sized b ws (is_declared.1) mb)
+            (machine_readable whole.numbered ss types few a us ma) (machine_readable whole.numbered ss types few b ws mb) gt gv call.answers found_so among;
+      }
+    where
+      j : ℕ
+      j = arrow_number whole.arrows (arrow a b)
+
+      there_is : slice_get whole.arrows j ≡ Some (arrow a b)
+      there_is = arrow_at (arrow a b) whole.arrows listed
+
+      found_so : find (dispatch_name j) q.program.functions ≡ Some (dispatch_of whole p.entries j (arrow a b))
+      found_so =
+          found_at (function_of_item whole p.entries) (named_item whole p.entries) order (of_arrow j) (dispatch_of whole p.entries j (arrow a b)) small
+          (is.arrows_placed j (slice_get_within whole.arrows j (arrow a b) there_is)) (ap (option_map (dispatch_of whole p.entries j)) there_is)
+
+      e : (e : Entry) × (slice_get p.entries k ≡ Some e) × (e.ty ≡ arrow a b)
+      e = entry_is (slice_get p.entries k) (arrow a b) t
+
+      among : Contains (tags_from 0 (arrow a b) p.entries) k
+      among = tagged 0 k k (arrow a b) p.entries e.0 (omega arith) e.1 (subst (λ z. same_type z (arrow a b) ≡ true) (sym e.2) (same_self (arrow a b)))
+
+      is_declared : IsDeclared whole.numbered ss a × IsDeclared whole.numbered ss b
+      is_declared =
+          let lt = slice_get_within p.entries k e.0 e.1 in
+          let x = there p.list k (omega (arith, lt, is.instances.as_many)) in
+          let r = is.ready k x.0 e.0 x.1 e.1 in
+          (subst (λ z. IsDeclared whole.numbered ss (taken_by z)) e.2 r.argument, subst (λ z. IsDeclared whole.numbered ss (given_by z)) e.2 r.result)
+
+      call : Called q (function_name k) (typed (lay_of a) us ∷ []) s s' (lay_of b) ws 24 left rest
+      call = callees k a b us ws s s' left rest (typed (lay_of a) us) t h ma mb (given_typed (lay_of a) us)
 
   -- calls that are nested so deep
   calls_run : (depth : ℕ) → CallsRun p whole q (calls_within p depth)
@@ -369,8 +427,8 @@ module _ (p : Program) (whole : Whole) (ss : List CStruct) (links : List Link) (
       let lt = slice_get_within p.entries k e.0 e.1 in
       let x = there p.list k (omega (arith, lt, is.instances.as_many)) in
       let takes : taken_by e.0.ty ≡ a = ap taken_by e.2 in
-      subst (λ z. Called q (function_name k) (v ∷ []) s s' (lay_of (given_by z)) ws left rest) e.2
-      (by_body k x.0 e.0 x.1 e.1 (calls_within p depth) (calls_run depth) us ws s s' left rest (subst (λ z. is_machine types z us ≡ true) (sym takes) ma) e.0.body v refl
+      subst (λ z. Called q (function_name k) (v ∷ []) s s' (lay_of (given_by z)) ws 24 left rest) e.2
+      (by_body k x.0 e.0 x.1 e.1 (calls_within p depth) (calls_run depth) (values_run (calls_within p depth) (calls_run depth)) us ws s s' left rest (subst (λ z. is_machine types z us ≡ true) (sym takes) ma) e.0.body v refl
       (subst (λ z. give (lay_of z) v ≡ ok us) (sym takes) g)
       (entered_is (calls_within p depth) k x.0 e.0 us ws s s' left rest x.1 e.1 h))
 
@@ -413,7 +471,7 @@ module _ (p : Program) (whole : Whole) (ss : List CStruct) (links : List Link) (
 
       ran : Ended k x e listed entry us r.value (starting m) r.state n ends.left
       ran =
-          core_ended k x e listed entry (calls_within p n) (calls_run n) us r.value (starting m) r.state n ends.left machine core b
+          core_ended k x e listed entry (calls_within p n) (calls_run n) (values_run (calls_within p n) (calls_run n)) us r.value (starting m) r.state n ends.left machine core b
           (sym (ap (λ z. entered_by p (calls_within p n) x e.ty z us (starting m) n) b) ∙ given_so)
 
 pub lowering_simulates : LoweringSimulates

@@ -16,6 +16,7 @@ use Rattle.cg_typing.specs.Instances.{Entry, Instance}
 use Rattle.cg_typing.specs.Parts.{given_by, taken_by}
 use Rattle.cg_update.specs.Calls.{Program}
 use Rattle.cg_lower_laws.specs.CTypes.{declared}
+use Rattle.cg_lower_laws.specs.Dispatch.{dispatch_of}
 use Rattle.cg_lower_laws.specs.LibraryCode.{low_library, whole_argument}
 use Rattle.cg_lower_laws.specs.Lowered.{Low, Whole, function_name, low, typed}
 use Rattle.cg_lower_laws.specs.Places.{argument_name, local_name, operand}
@@ -59,19 +60,28 @@ module _ (whole : Whole) where
   abbrev pub function_at : List Entry → ℕ → Option trees.Function
   function_at entries k = function_maybe k (slice_get whole.list k) (slice_get entries k)
 
--- the functions of some places, in this order
+-- a function of a program: that of the instance at a place, or that of an arrow type
+pub data Item : Type 0 where
+  of_instance : ℕ → Item
+  of_arrow : ℕ → Item
+
+abbrev pub function_of_item : Whole → List Entry → Item → Option trees.Function
+function_of_item whole entries (of_instance k) = function_at whole entries k
+function_of_item whole entries (of_arrow j) = option_map (dispatch_of whole entries j) (slice_get whole.arrows j)
+
+-- the functions of some items, in this order
 abbrev pub with_function : Option trees.Function → List trees.Function → List trees.Function
 with_function None fs = fs
 with_function (Some f) fs = f ∷ fs
 
-abbrev pub functions_at : (ℕ → Option trees.Function) → List ℕ → List trees.Function
+abbrev pub functions_at : (Item → Option trees.Function) → List Item → List trees.Function
 functions_at at [] = []
-functions_at at (k ∷ ks) = with_function (at k) (functions_at at ks)
+functions_at at (i ∷ is) = with_function (at i) (functions_at at is)
 
 -- a C program with these structs, and its functions in this order
-abbrev pub program_in : Whole → List CStruct → List Entry → List ℕ → trees.Program
-program_in whole ss entries order = record { structs = ss; functions = functions_at (function_at whole entries) order }
+abbrev pub program_in : Whole → List CStruct → List Entry → List Item → trees.Program
+program_in whole ss entries order = record { structs = ss; functions = functions_at (function_of_item whole entries) order }
 
 -- with the abstract functions of a table
-abbrev pub linked_in : Whole → List CStruct → Program → List Link → List ℕ → Linked
+abbrev pub linked_in : Whole → List CStruct → Program → List Link → List Item → Linked
 linked_in whole ss p links order = record { program = program_in whole ss p.entries order; links = links; asked = p.on_heaps.asked }

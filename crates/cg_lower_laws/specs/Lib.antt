@@ -1,6 +1,7 @@
 pub mod CTypes
 pub mod Places
 pub mod Lowered
+pub mod Dispatch
 pub mod LibraryCode
 pub mod Functions
 pub mod Typed

@@ -1,11 +1,12 @@
 -- The C of a term. A node that computes something has a local of its own; parts of what is there already are paths, and no copies
 -- (docs/LANGUAGE.md, "The C of instances", forms).
-use Rattle.std.specs.Prelude.{ℕ, suc, ◌+◌, Bool, true, false, not, List, [], ◌∷◌, ◌++◌, length, get_or, map, nat_le, unwrap_or, Option, Some, None, if◌then◌else◌}
+use Rattle.std.specs.Prelude.{ℕ, zero, suc, ◌+◌, Bool, true, false, not, List, [], ◌∷◌, ◌++◌, length, get_or, map, nat_le, unwrap_or, Option, Some, None, if◌then◌else◌}
 use Rattle.cg_base.specs.declared.fun.Fun.{Fun}
 use Rattle.cg_base.specs.declared.kind.Sigil.{Sigil}
 use Rattle.cg_base.specs.declared.kind.Sigil.TheVariants.{R, W, U}
 use Rattle.cg_base.specs.declared.kind.Word.{Word}
 use Rattle.cg_base.specs.declared.kind.Word.TheVariants.{U8, U32}
+use Rattle.cg_base.specs.Same.{same_type}
 use Rattle.cg_base.specs.Types.{Tau, word}
 use Rattle.cg_cgen.specs.Code.{op_code}
 use Rattle.cg_cgen.specs.Meanings.{takes_two}
@@ -34,10 +35,15 @@ function_name k = name 102 k
 abbrev pub dispatch_name : ℕ → List ℕ
 dispatch_name j = name 100 j
 
--- what lowering knows of the whole: a number for each struct and for each arrow type, and the list of instances
+-- where an arrow type stands among those of calls through function values; past their end, where it doesn't
+unfoldable pub arrow_number : List Tau → Tau → ℕ
+arrow_number [] t = zero
+arrow_number (u ∷ us) t = if same_type u t then zero else suc (arrow_number us t)
+
+-- what lowering knows of the whole: a number for each struct, the arrow types of calls through function values, and the list of instances
 pub record Whole : Type 0 where
   pub numbered : Tau → ℕ
-  pub arrows : Tau → ℕ
+  pub arrows : List Tau
   pub list : List Instance
 
 -- a lowered term: where its value is kept, the types of its locals, and its statements
@@ -199,7 +205,7 @@ module _ (whole : Whole) where
   -- the function that is called, and what it is called with: one that is named, or the one of an arrow type, with the place of the instance
   abbrev pub callee : Tree Note → List ℕ
   callee (term note (fun f args)) = function_name (place f args)
-  callee t = dispatch_name (whole.arrows (type_at t))
+  callee t = dispatch_name (arrow_number whole.arrows (type_at t))
 
   abbrev pub call_operands : Tree Note → Place → Place → List Place
   call_operands (term note (fun f args)) v x = x ∷ []

@@ -7,7 +7,7 @@ use Rattle.cg_ctree.specs.Spells.{IsPrintable, IsPrintableStruct}
 use Rattle.cg_heap.specs.declared.foreign.Link.{Link}
 use Rattle.cg_typing.specs.Instances.{Entry}
 use Rattle.cg_update.specs.Calls.{Program}
-use Rattle.cg_lower_laws.specs.Functions.{program_in}
+use Rattle.cg_lower_laws.specs.Functions.{Item, program_in}
 use Rattle.cg_lower_laws.specs.Lowered.{Whole}
 use Rattle.cg_lower_laws.specs.Simulated.{IsProgramOf}
 
@@ -48,5 +48,5 @@ AreShallow entries = (k : ℕ) (e : Entry) (core : Tree Note) → slice_get entr
 -- the C of a list of instances whose bodies aren't too deep can be printed, where its structs can
 abbrev pub LoweringIsPrintable : Type 0
 LoweringIsPrintable =
-    (p : Program) (whole : Whole) (ss : List CStruct) (links : List Link) (order : List ℕ) → IsProgramOf p whole ss links order → AllByRecursion IsPrintableStruct ss → AreShallow p.entries
+    (p : Program) (whole : Whole) (ss : List CStruct) (links : List Link) (order : List Item) → IsProgramOf p whole ss links order → AllByRecursion IsPrintableStruct ss → AreShallow p.entries
     → IsPrintable (program_in whole ss p.entries order)
