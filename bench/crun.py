@@ -2,8 +2,8 @@
 """Times C texts, on one processor: reading one, and running its functions. Seconds and megabytes, and the ratio at each doubling.
 
 The program is the one that goes through cases (docs/CASES.md), on files of one case each. What a run's case costs without its run, with a
-budget of no steps, is taken off; what reading costs is told whole. Each time is the least of three. The stack is of 1 MiB, so nothing
-that is read or run stands on it.
+budget of no steps, is taken off; what reading costs is told whole. Each time is the least of three. The stack is of 8 MiB, as a program
+has it: nothing that is read or run stands on it, but statements that stand in one another are let go one from within another.
 
 usage: bench/crun.py [PROGRAM]     PROGRAM is the built program (crates/cg_cases/out/cg_cases by default)
 """
@@ -143,7 +143,7 @@ def bench(name, make, size, answers=0):
 
 
 def main():
-    resource.setrlimit(resource.RLIMIT_STACK, (1 << 20, 1 << 20))
+    resource.setrlimit(resource.RLIMIT_STACK, (8 << 20, 8 << 20))
     os.sched_setaffinity(0, {min(os.sched_getaffinity(0))})
     bench_read(1 << 20)
     bench("steps of a loop", numbers, 10_000_000)
