@@ -1,0 +1,5 @@
+mod Before
+mod BucketSteps
+mod Chains
+pub mod OrderSteps
+pub mod Standing
