@@ -47,7 +47,7 @@ null_read ss m fr o x r e = rw e refl
 
 module _ (q : Linked) (numbered : Tau → ℕ) (l : Layout) where
   -- a part of a local is set
-  runs_setting : (fr : Frame) (s : State) (j : ℕ) (steps : List Step) (v : Place) (whole part' : Layout) (old us after : List Scalar) (i : ℕ)
+  pub runs_setting : (fr : Frame) (s : State) (j : ℕ) (steps : List Step) (v : Place) (whole part' : Layout) (old us after : List Scalar) (i : ℕ)
       → Is fr (local_name j) whole old → walk (map step_name steps) whole ≡ Some (spot i part') → Keeps fr v part' us → IsReadable part' us
       → spliced (spot i part') us old ≡ after → Runs q l (setting j steps v ∷ []) fr s 1 (with_scalars (local_name j) after fr) s
   runs_setting fr s j steps v whole part' old us after i is leads k readable e =

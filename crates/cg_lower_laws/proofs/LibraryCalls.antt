@@ -500,9 +500,9 @@ cell_type : (t : Tau) → is_cell t ≡ true → (ps : Parts) × (t ≡ fields p
 cell_type (fields ps W) e = (ps, refl)
 cell_type t e = absurd (cc)
 
--- the type argument is what the function asks
-meets : (lib : Lib) (t : Tau) → IsTrue (are_good_arguments [] (asked_by_library lib) (as_arguments (t ∷ []))) → meets_asked [] (next_asked (asked_by_library lib)) t ≡ true
-meets lib t good = (and_parts (meets_asked [] (next_asked (asked_by_library lib)) t) _ (and_parts (has_word_arrays t) _ good).1).0
+-- the first type argument is what the function asks
+pub meets : (lib : Lib) (t : Tau) (ts : List Tau) → IsTrue (are_good_arguments [] (asked_by_library lib) (as_arguments (t ∷ ts))) → meets_asked [] (next_asked (asked_by_library lib)) t ≡ true
+meets lib t ts good = (and_parts (meets_asked [] (next_asked (asked_by_library lib)) t) _ (and_parts (has_word_arrays t) _ good).1).0
 
 -- the types are those of the function's arrow
 at_types : (lib : Lib) (args : List Tau) (x y a b : Tau) → arrow x y ≡ arrow a b → Claim lib args x y → Claim lib args a b
@@ -521,13 +521,13 @@ on_record lib x y t a b e is claim =
 claimed : (lib : Lib) (args : List Tau) (a b : Tau) → is_iterator lib ≡ false → library_type lib args ≡ arrow a b → length args ≡ library_arity lib
     → IsTrue (are_good_arguments [] (asked_by_library lib) (as_arguments args)) → Claim lib args a b
 unfolding bang
-claimed New (t ∷ []) a b n e one good = on_record New (λ t. state) (λ t. pair state (maybe (all_taken t))) t a b e (meets New t good) (λ ps. new_ran ps)
-claimed Free (t ∷ []) a b n e one good = on_record Free (λ t. pair state (all_taken t)) (λ t. state) t a b e (meets Free t good) (λ ps. free_ran (all_parts_taken ps) (fields ps W ∷ []))
-claimed Create (t ∷ []) a b n e one good = on_array Create (λ t. pair state (word U32)) (λ t. pair state (maybe (array t))) t a b e (meets Create t good) create_ran
-claimed FreeArray (t ∷ []) a b n e one good = on_array FreeArray (λ t. pair state (array t)) (λ t. state) t a b e (meets FreeArray t good) free_array_ran
-claimed Length (t ∷ []) a b n e one good = on_array Length (λ t. bang (array t)) (λ t. word U32) t a b e (meets Length t good) length_ran
-claimed Get (t ∷ []) a b n e one good = on_array Get (λ t. pair (bang (array t)) (word U32)) (λ t. t) t a b e (meets Get t good) get_ran
-claimed Put (t ∷ []) a b n e one good = on_array Put (λ t. triple (array t) (word U32) t) (λ t. array t) t a b e (meets Put t good) put_ran
+claimed New (t ∷ []) a b n e one good = on_record New (λ t. state) (λ t. pair state (maybe (all_taken t))) t a b e (meets New t [] good) (λ ps. new_ran ps)
+claimed Free (t ∷ []) a b n e one good = on_record Free (λ t. pair state (all_taken t)) (λ t. state) t a b e (meets Free t [] good) (λ ps. free_ran (all_parts_taken ps) (fields ps W ∷ []))
+claimed Create (t ∷ []) a b n e one good = on_array Create (λ t. pair state (word U32)) (λ t. pair state (maybe (array t))) t a b e (meets Create t [] good) create_ran
+claimed FreeArray (t ∷ []) a b n e one good = on_array FreeArray (λ t. pair state (array t)) (λ t. state) t a b e (meets FreeArray t [] good) free_array_ran
+claimed Length (t ∷ []) a b n e one good = on_array Length (λ t. bang (array t)) (λ t. word U32) t a b e (meets Length t [] good) length_ran
+claimed Get (t ∷ []) a b n e one good = on_array Get (λ t. pair (bang (array t)) (word U32)) (λ t. t) t a b e (meets Get t [] good) get_ran
+claimed Put (t ∷ []) a b n e one good = on_array Put (λ t. triple (array t) (word U32) t) (λ t. array t) t a b e (meets Put t [] good) put_ran
 claimed lib args a b n e one good = absurd (first_of (cc, omega (arith, one)))
 
 -- in a frame with the argument and unset locals, where the structs of both types are declared

@@ -18,7 +18,7 @@ use Rattle.cg_lower_laws.proofs.PrintedNames.{FitsPlace, create_named, free_arra
 use Rattle.cg_lower_laws.proofs.PrintedNodes.{leaf_prints, Print, PrintsLow, assign_prints, block_prints}
 
 -- what sets a part of a local to the value at a place
-setting_prints : (room j : ℕ) (steps : List Step) (v : Place) → FitsPlace v → IsPrintableStmt room (setting j steps v)
+pub setting_prints : (room j : ℕ) (steps : List Step) (v : Place) → FitsPlace v → IsPrintableStmt room (setting j steps v)
 setting_prints room j steps v h = assign_prints room (path (local j) steps) (Opnd (operand v)) (path_prints (local j) steps) (operand_prints v h)
 
 -- a cell that is asked for
@@ -51,7 +51,7 @@ asking_prints room make q h hq = (
 given_prints : (room : ℕ) (f : List ℕ) (v : Place) (vs : List Place) → IsCName f → AllByRecursion FitsPlace (v ∷ vs) → Print room (given_by_call f (v ∷ vs))
 given_prints room f v vs is h = (assign_prints room (path (local 0) []) _ (path_prints (local 0) []) (is, operands_print (v ∷ vs) h), tt)
 
-done_prints : (room : ℕ) (f : List ℕ) (vs : List Place) → IsCName f → AllByRecursion FitsPlace vs → Print room (done_by_call f vs)
+pub done_prints : (room : ℕ) (f : List ℕ) (vs : List Place) → IsCName f → AllByRecursion FitsPlace vs → Print room (done_by_call f vs)
 unfolding IsPrintableStmt
 done_prints room f vs is h = ((is, operands_print vs h), tt)
 

@@ -48,7 +48,7 @@ block_prints room (s ∷ code) h = (h.0, block_prints room code h.1)
 -- ---- operators
 
 -- operands are cast to words of 32 or 64 bits
-inner_is : (w : Word) → IsInner (inner w)
+pub inner_is : (w : Word) → IsInner (inner w)
 inner_is U8 = tt
 inner_is U16 = tt
 inner_is U32 = tt

@@ -37,12 +37,14 @@ use Rattle.cg_update.specs.Updates.{place_of, sigil_of}
 use Rattle.cg_lower_laws.specs.CTypes.{count, IsDeclared}
 use Rattle.cg_lower_laws.specs.Functions.{Item, of_arrow, of_instance, body_of, function_maybe, function_of_item, function_of, functions_at, locals_from, low_body, low_instance, low_outside, with_function}
 use Rattle.cg_lower_laws.specs.Dispatch.{dispatch_body, dispatch_cases, dispatch_of, second_path, tags_from}
+use Rattle.cg_lower_laws.specs.IteratorCode.{low_iterator}
 use Rattle.cg_lower_laws.specs.LibraryCode.{low_library, whole_argument}
 use Rattle.cg_lower_laws.specs.Lowered.{Low, Whole, arrow_number, call_operands, callee, calling, function_name, injecting, joined, literal, low, low_fields, low_member, low_shape, remainder, place, typed, word_of}
 use Rattle.cg_lower_laws.specs.Places.{Place, argument, held, local, number, path, payload, at, operand}
 use Rattle.cg_lower_laws.specs.Printables.{AreShallow, LoweringIsPrintable, depth, depth_below, depth_of_fields}
 use Rattle.cg_lower_laws.specs.Simulated.{IsProgramOf}
 use Rattle.cg_lower_laws.proofs.PrintedNames.{FitsPlace, argument_named, at_fits, dispatch_named, function_named, local_named, operand_prints, path_prints, type_prints}
+use Rattle.cg_lower_laws.proofs.PrintedIterators.{iterator_prints}
 use Rattle.cg_lower_laws.proofs.PrintedLibrary.{library_prints}
 use Rattle.cg_lower_laws.proofs.PrintedNodes.{leaf_prints, PrintLows, PrintsLow, all_append, assign_prints, block_prints, call_prints, case_prints, cast_prints, if_prints, inject_prints, joined_prints, member_prints, operator_prints, put_prints, remainder_fits, set_prints, struct_prints}
 use Rattle.cg_lower_laws.proofs.Typings.{all_back, all_front}
@@ -405,8 +407,8 @@ module _ (p : Program) (whole : Whole) (ss : List CStruct) (links : List Link) (
   outside_prints (User i) x = tt
   outside_prints (OfLib lib) x = by_test (is_iterator lib)
     where
-      by_test : (b : Bool) → IsPrintableBody (option_map body_of (cond b None (Some (low_library whole lib x.types))))
-      by_test true = tt
+      by_test : (b : Bool) → IsPrintableBody (option_map body_of (cond b (Some (low_iterator whole lib x.types)) (Some (low_library whole lib x.types))))
+      by_test true = body_prints (low_iterator whole lib x.types) (iterator_prints whole 4092 lib x.types)
       by_test false = body_prints (low_library whole lib x.types) (library_prints whole 4094 lib x.types)
 
   -- the body of the instance at a place

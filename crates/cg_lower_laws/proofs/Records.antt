@@ -74,7 +74,7 @@ writes numbered q l to step v lay t ws old fr s is leads fits keeps readable siz
     }
 
 -- a part that is written behind a front, at the start of what is behind it
-spliced_next : (d n : ℕ) (front old ws : List Scalar) (l : Layout) → size l ≡ n → length front ≡ d → spliced (spot d l) ws (front ++ old) ≡ (front ++ ws) ++ drop n old
+pub spliced_next : (d n : ℕ) (front old ws : List Scalar) (l : Layout) → size l ≡ n → length front ≡ d → spliced (spot d l) ws (front ++ old) ≡ (front ++ ws) ++ drop n old
 spliced_next d n front old ws l e h =
     ap (λ (m : ℕ). take d (front ++ old) ++ ws ++ drop (d + m) (front ++ old)) e
     ∙ subst (λ (m : ℕ). take m (front ++ old) ++ ws ++ drop (m + n) (front ++ old) ≡ (front ++ ws) ++ drop n old) h

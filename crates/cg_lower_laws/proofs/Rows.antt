@@ -1,5 +1,6 @@
 -- The C of small cores, computed.
 use Rattle.std.proofs.Common.{◌≡◌, ℕ, codes, List, [], ◌∷◌, Some, None, true, false, refl}
+use Rattle.cg_base.specs.declared.fun.Lib.TheVariants.{Fold}
 use Rattle.cg_base.specs.declared.kind.Sigil.TheVariants.{U, W}
 use Rattle.cg_base.specs.declared.kind.Word.TheVariants.{U8, U32}
 use Rattle.cg_base.specs.declared.place.Place.{Place}
@@ -12,11 +13,13 @@ use Rattle.cg_ctree.specs.declared.tree.COp.TheVariants as cop
 use Rattle.cg_ctree.specs.declared.tree.COpnd.TheVariants.{Number, Path}
 use Rattle.cg_ctree.specs.declared.tree.CRhs.TheVariants.{Opnd, Binary, Call}
 use Rattle.cg_ctree.specs.declared.tree.CTy.TheVariants as ty
-use Rattle.cg_ctree.specs.Trees.{assign, branch, to_block}
+use Rattle.cg_ctree.specs.Trees.{assign, branch, stop, to_block, while}
+use Rattle.cg_kinds.specs.Kinds.{bang}
 use Rattle.cg_operations.specs.Positions.{position, position_among}
 use Rattle.cg_update.specs.Machines.{type_of_part}
 use Rattle.cg_lower_laws.specs.CTypes.{struct_name}
 use Rattle.cg_lower_laws.specs.Dispatch.{tags_from}
+use Rattle.cg_lower_laws.specs.IteratorCode.{low_iterator}
 use Rattle.cg_lower_laws.specs.LibraryCode.{whole_argument}
 use Rattle.cg_lower_laws.specs.Lowered.{Whole, arrow_number, dispatch_name, low, low_fields}
 use Rattle.cg_lower_laws.specs.Places.{argument, arrow_path, field, held, local, path, payload, tag}
@@ -143,3 +146,35 @@ called_value = refl
 one_case : tags_from 0 (arrow long long) (record { ty = arrow long (word U8); body = None } ∷ record { ty = arrow long long; body = None } ∷ []) ≡ 1 ∷ []
 unfolding same_type
 one_case = refl
+
+-- ---- a fold over an array of bytes, which hands on a U32
+
+-- what its function takes
+abbrev turn : Tau
+turn = fields (part (codes "elem") (word U8) false (part (codes "acc") long false (part (codes "obsv") unit false end))) U
+
+abbrev over_turns : Whole
+over_turns = record { numbered = λ t. 7; arrows = arrow turn long ∷ []; list = [] }
+
+-- x0 = a0.m1; x1 = cg_w8_length(a0.m0); x2 = a0.m2 < x1; if (x2) { x1 = a0.m2; } x2 = x0 < x1; x3.m1 = a0.m4; x3.m2 = a0.m5;
+-- while (x2) { x3.m0 = cg_w8_get(a0.m0, x0); x3.m1 = d0(a0.m3, x3); x0 = x0 + 1; x2 = x0 < x1; } and the value is x3.m1, where casts are
+-- left out
+folded : low_iterator over_turns Fold (word U8 ∷ long ∷ unit ∷ []) ≡ record {
+  value = held (local 3) (field 1 ∷ []);
+  locals = ty.Word U32 ∷ ty.Word U32 ∷ ty.Word U8 ∷ ty.Struct (struct_name 7) ∷ [];
+  code =
+      assign (path (local 0) []) (Opnd (Path (path argument (field 1 ∷ []))))
+      ∷ assign (path (local 1) []) (Call (codes "cg_w8_length") (Path (path argument (field 0 ∷ [])) ∷ []))
+      ∷ assign (path (local 2) []) (Binary U8 U32 cop.Lt (Path (path argument (field 2 ∷ []))) (Path (path (local 1) [])))
+      ∷ branch (Path (path (local 2) [])) (to_block (assign (path (local 1) []) (Opnd (Path (path argument (field 2 ∷ [])))) ∷ [])) stop
+      ∷ assign (path (local 2) []) (Binary U8 U32 cop.Lt (Path (path (local 0) [])) (Path (path (local 1) [])))
+      ∷ assign (path (local 3) (field 1 ∷ [])) (Opnd (Path (path argument (field 4 ∷ []))))
+      ∷ assign (path (local 3) (field 2 ∷ [])) (Opnd (Path (path argument (field 5 ∷ []))))
+      ∷ while (Path (path (local 2) [])) (to_block (assign (path (local 3) (field 0 ∷ [])) (Call (codes "cg_w8_get") (Path (path argument (field 0 ∷ [])) ∷ Path (path (local 0) []) ∷ []))
+      ∷ assign (path (local 3) (field 1 ∷ [])) (Call (dispatch_name 0) (Path (path argument (field 3 ∷ [])) ∷ Path (path (local 3) []) ∷ []))
+      ∷ assign (path (local 0) []) (Binary U32 U32 cop.Add (Path (path (local 0) [])) (Number 1))
+      ∷ assign (path (local 2) []) (Binary U8 U32 cop.Lt (Path (path (local 0) [])) (Path (path (local 1) []))) ∷ []))
+      ∷ [];
+}
+unfolding type_of_part arrow_number same_type bang
+folded = refl

@@ -3,18 +3,19 @@ use Rattle.std.proofs.Common.{◌≡◌, ℕ, zero, suc, ◌+◌, ◌*◌, ◌-�
 use Rattle.std.proofs.lemmas.Bool.{eq-eqb, eqb-true, le-ltb}
 use Rattle.std.proofs.lemmas.List.{append-nil}
 use Rattle.std.proofs.lemmas.Option.{slice_get_within}
-use Rattle.std.specs.List.{Contains}
+use Rattle.std.specs.List.{Contains, list_any}
 use Rattle.std.specs.Option.{option_map}
 use Rattle.cg_base.specs.declared.fun.Fun.{Fun}
 use Rattle.cg_base.specs.declared.fun.Fun.TheVariants.{User, Lib as OfLib}
 use Rattle.cg_base.specs.declared.fun.Lib.{Lib}
+use Rattle.cg_base.specs.declared.kind.Word.TheVariants.{U32}
 use Rattle.cg_base.specs.Same.{same_type}
 use Rattle.cg_base.specs.Types.{Tau, arrow}
 use Rattle.cg_core.specs.Kernels as kernels
 use Rattle.cg_core.specs.Terms.{Note, Tree}
 use Rattle.cg_base.specs.Words.{bits}
 use Rattle.cg_crun.specs.Layouts.{Layout, cell, pointer, group, same_layout, size}
-use Rattle.cg_crun.specs.Operands.{Value, literal, typed, give, scalars_of}
+use Rattle.cg_crun.specs.Operands.{Frame, Value, literal, typed, give, scalars_of}
 use Rattle.cg_crun.specs.Outcomes as runs
 use Rattle.cg_crun.specs.Outcomes.{ok, no, done}
 use Rattle.cg_crun.specs.Runs.{Linked, call_abstract, find, state_behind}
@@ -30,8 +31,9 @@ use Rattle.cg_heap.specs.Stored.{Stored}
 use Rattle.cg_inst.proofs.SameType.{same_self}
 use Rattle.cg_lawful.specs.Lawful.{library_arity}
 use Rattle.cg_machine.specs.Foreigns.{is_known}
+use Rattle.cg_operations.specs.Iterators.{is_iterator}
 use Rattle.cg_typing.specs.Contexts.{look}
-use Rattle.cg_typing.specs.Functions.{are_good_arguments, arg_types, asked_by, fun_type}
+use Rattle.cg_typing.specs.Functions.{are_good_arguments, arg_types, asked_by, asked_by_library, fun_type}
 use Rattle.cg_typing.specs.Instances.{as_arguments, Entry, Instance, IsDerivedBody, IsDerivedMaybe, IsEntry, takes_as_many}
 use Rattle.cg_typing.specs.Library.{library_type}
 use Rattle.cg_typing.specs.Parts.{given_by, taken_by}
@@ -44,19 +46,22 @@ use Rattle.cg_update.specs.Updates.{Result, calls_within, entered, entered_by, g
 use Rattle.cg_lower_laws.specs.CTypes.{c_type, declared, IsDeclared}
 use Rattle.cg_lower_laws.specs.Functions.{Item, of_arrow, of_instance, body_of, function_maybe, function_of, function_of_item, linked_in, low_body, low_instance, low_outside}
 use Rattle.cg_lower_laws.specs.Dispatch.{dispatch_of, tags_from}
+use Rattle.cg_lower_laws.specs.IteratorCode.{function_type, low_iterator}
 use Rattle.cg_lower_laws.specs.LibraryCode.{low_library, whole_argument}
 use Rattle.cg_lower_laws.specs.Lowered.{Low, Whole, arrow_number, dispatch_name, function_name}
 use Rattle.cg_lower_laws.specs.Places.{argument, argument_name}
-use Rattle.cg_lower_laws.specs.Simulated.{as_run, IsProgramOf, IsReady, LoweringSimulates, Simulates}
+use Rattle.cg_lower_laws.specs.Simulated.{as_run, IsCallable, IsProgramOf, IsReady, LoweringSimulates, Simulates}
 use Rattle.cg_lower_laws.specs.Typed.{IsTyped}
 use Rattle.cg_lower_laws.proofs.Bodies.{begins, begins_fresh, begins_is, BodyRan, bodied, body_answers, body_runs}
 use Rattle.cg_lower_laws.proofs.Computing.{Called, CallsRun, ValuesRun}
 use Rattle.cg_lower_laws.proofs.Dispatching.{arrow_at, dispatch_answers, tagged}
 use Rattle.cg_lower_laws.proofs.Finding.{abstract_called, found_at, item_name, item_number, own_called}
-use Rattle.cg_lower_laws.proofs.Frames.{is_kept, Keeps}
+use Rattle.cg_lower_laws.proofs.Frames.{Is, is_kept, Keeps}
 use Rattle.cg_lower_laws.proofs.Inversions.{on_is, pay_for_is, same_rest, same_scalars, same_state, where_is}
 use Rattle.cg_lower_laws.proofs.Layouts.{machine_slots, size_slots}
-use Rattle.cg_lower_laws.proofs.LibraryCalls.{library_ran}
+use Rattle.cg_lower_laws.proofs.Iterating.{SourceRuns}
+use Rattle.cg_lower_laws.proofs.Iterators.{iterator_ran}
+use Rattle.cg_lower_laws.proofs.LibraryCalls.{LibraryRan, library_ran}
 use Rattle.cg_lower_laws.proofs.Operands.{IsReadable, given_typed, machine_readable, readable}
 use Rattle.cg_lower_laws.proofs.Runs.{Answers}
 use Rattle.cg_lower_laws.proofs.Simulating.{simulated}
@@ -137,6 +142,10 @@ answer_is p (Some f) us m a h = by_test (is_known p.foreign f) h
     by_test true e = (f, refl, e)
     by_test false e = absurd (cc)
 
+-- what is called in so many steps is called in more
+called_more : (q : Linked) (f : List ℕ) (vs : List Value) (s s' : State) (l : Layout) (ws : List Scalar) (n m left rest : ℕ) → n ≤ m → Called q f vs s s' l ws n left rest → Called q f vs s s' l ws m left rest
+called_more q f vs s s' l ws n m left rest h c = record { steps = c.steps; within = let w = c.within in omega (arith, w, h); answers = c.answers }
+
 module _ (p : Program) (whole : Whole) (ss : List CStruct) (links : List Link) (order : List Item) (is : IsProgramOf p whole ss links order) where
   abbrev q : Linked
   q = linked_in whole ss p links order
@@ -198,17 +207,17 @@ module _ (p : Program) (whole : Whole) (ss : List CStruct) (links : List Link) (
         h
 
     -- what the statements of its body do, where it has one
-    record Ended (us ws : List Scalar) (s s' : State) (left rest : ℕ) : Type 0 where
+    record Ended (us ws : List Scalar) (s s' : State) (more left rest : ℕ) : Type 0 where
       low : Low
       is_low : low_instance whole x e.body ≡ Some low
       steps : ℕ
-      within : steps + 32 * rest ≤ 32 * left + 16
+      within : steps + 32 * rest ≤ 32 * left + more
       ran : BodyRan q (lay_of result) low (begins q (c_type whole.numbered taken) us low.locals) (as_run s) (as_run s') ws steps
 
     -- which is what a call of it does
-    ended_called : (us ws : List Scalar) (s s' : State) (left rest : ℕ) (v : Value) → give (lay_of taken) v ≡ ok us → Ended us ws s s' left rest
-        → Called q (function_name k) (v ∷ []) s s' (lay_of result) ws 24 left rest
-    ended_called us ws s s' left rest v g r =
+    ended_called : (us ws : List Scalar) (s s' : State) (more left rest : ℕ) (v : Value) → give (lay_of taken) v ≡ ok us → Ended us ws s s' more left rest
+        → Called q (function_name k) (v ∷ []) s s' (lay_of result) ws (suc more) left rest
+    ended_called us ws s s' more left rest v g r =
         let f : find (function_name k) q.program.functions ≡ Some (bodied (function_name k) (c_type whole.numbered taken) (c_type whole.numbered result) r.low) =
         found_bodied r.low r.is_low in
         record {
@@ -243,7 +252,7 @@ module _ (p : Program) (whole : Whole) (ss : List CStruct) (links : List Link) (
         let d = derived_body core b in
         derived_typed whole.numbered ss p.functions [] (Some taken ∷ []) d.tree (Some result) core (c_type whole.numbered taken ∷ []) (agrees taken) d.derives (ready.nodes core b)
 
-    module _ (calls : updates.Calls) (callees : CallsRun p whole q calls) (values : ValuesRun p whole q calls) (us ws : List Scalar) (s s' : State) (left rest : ℕ) (machine : is_machine types taken us ≡ true) where
+    module _ (calls : updates.Calls) (callees : CallsRun p whole q calls) (values : ValuesRun p whole q calls) (sources : SourceRuns p whole q calls) (us ws : List Scalar) (s s' : State) (left rest : ℕ) (machine : is_machine types taken us ≡ true) where
       -- its body runs in the frame that a call begins with
       core_ran : (core : Tree Note) → e.body ≡ Some core → update p calls core (us ∷ []) s left ≡ gives ws s' rest
           → Ran q types whole.numbered (lay_of result) 0 (begins q (c_type whole.numbered taken) us (low_body whole core).locals) s (low_body whole core) (type_at core) ws s' left rest
@@ -258,8 +267,14 @@ module _ (p : Program) (whole : Whole) (ss : List CStruct) (links : List Link) (
           )
           (begins_fresh q (c_type whole.numbered taken) us (low_body whole core).locals small) (omega (arith, small)) h
 
-      -- and leaves its result to be read
-      core_ended : (core : Tree Note) → e.body ≡ Some core → update p calls core (us ∷ []) s left ≡ gives ws s' rest → Ended us ws s s' left rest
+      -- its result is of its type
+      core_formed : (core : Tree Note) → e.body ≡ Some core → update p calls core (us ∷ []) s left ≡ gives ws s' rest → is_machine types result ws ≡ true
+      core_formed core b h =
+          let d = derived_body core b in
+          subst (λ z. is_machine types z ws ≡ true) (checked_is p.functions [] (Some taken ∷ []) d.tree result core d.derives) (core_ran core b h).machine
+
+      -- and is left to be read
+      core_ended : (core : Tree Note) → e.body ≡ Some core → update p calls core (us ∷ []) s left ≡ gives ws s' rest → Ended us ws s s' 0 left rest
       core_ended core b h =
           let d = derived_body core b in
           let same : type_at core ≡ result = checked_is p.functions [] (Some taken ∷ []) d.tree result core d.derives in
@@ -273,7 +288,7 @@ module _ (p : Program) (whole : Whole) (ss : List CStruct) (links : List Link) (
               frame = r.frame;
               runs = r.went.runs;
               keeps = subst (λ z. Keeps r.frame (low_body whole core).value (lay_of z) ws) same r.keeps;
-              readable = machine_readable whole.numbered ss types few result ws (subst (λ z. is_machine types z ws ≡ true) same r.machine);
+              readable = machine_readable whole.numbered ss types few result ws (core_formed core b h);
             };
           }
 
@@ -286,23 +301,59 @@ module _ (p : Program) (whole : Whole) (ss : List CStruct) (links : List Link) (
           let same : library_type lib (arg_types (as_arguments x.types)) ≡ e.ty = cc in
           ap (library_type lib) (sym (types_back x.types)) ∙ same ∙ arrow_is e.ty derived.argument derived.result derived.is_arrow
 
-      -- it has the body of the function
-      library_low : (lib : Lib) → x.fun ≡ OfLib lib → e.body ≡ None → low_instance whole x e.body ≡ Some (low_library whole lib x.types)
-      library_low lib f b =
-          ap (low_instance whole x) b ∙ ap (λ z. low_outside whole z x) f ∙ ap (λ z. if z then None else Some (low_library whole lib x.types)) (ready.no_iterator lib f)
+      -- its type arguments are as many as it has, and what it asks
+      library_many : (lib : Lib) → x.fun ≡ OfLib lib → length x.types ≡ library_arity lib
+      library_many lib f = sym (eqb-true (library_arity lib) (length x.types) (subst (λ z. IsTrue (takes_as_many p.functions z (length x.types))) f ready.good.many))
 
-      -- which does what the library does
-      library_ended : (lib : Lib) → x.fun ≡ OfLib lib → e.body ≡ None → library lib x.types us s left ≡ gives ws s' rest → Ended us ws s s' left rest
-      library_ended lib f b h =
-          let many = subst (λ z. IsTrue (takes_as_many p.functions z (length x.types))) f ready.good.many in
-          let good = subst (λ z. IsTrue (are_good_arguments [] (asked_by p.functions z) (as_arguments x.types))) f ready.good.good in
-          let is_low = library_low lib f b in
+      library_good : (lib : Lib) → x.fun ≡ OfLib lib → IsTrue (are_good_arguments [] (asked_by_library lib) (as_arguments x.types))
+      library_good lib f = subst (λ z. IsTrue (are_good_arguments [] (asked_by p.functions z) (as_arguments x.types))) f ready.good.good
+
+      -- it has the body of the function
+      library_low : (lib : Lib) (b : Bool) → x.fun ≡ OfLib lib → e.body ≡ None → is_iterator lib ≡ b
+          → low_instance whole x e.body ≡ (if b then Some (low_iterator whole lib x.types) else Some (low_library whole lib x.types))
+      library_low lib b f n i =
+          ap (low_instance whole x) n ∙ ap (λ z. low_outside whole z x) f ∙ ap (λ z. if z then Some (low_iterator whole lib x.types) else Some (low_library whole lib x.types)) i
+
+      -- what the statements of a body do ends the function
+      library_ends : (a : Low) → low_instance whole x e.body ≡ Some a → LibraryRan q (lay_of result) a (begins q (c_type whole.numbered taken) us a.locals) s s' (lay_of result) ws left rest → Ended us ws s s' 16 left rest
+      library_ends a is_low r = record { low = a; is_low = is_low; steps = r.steps; within = r.within; ran = record { frame = r.frame; runs = r.runs; keeps = r.keeps; readable = r.readable } }
+
+      -- a function that takes none does what the library does
+      library_ended : (lib : Lib) → x.fun ≡ OfLib lib → e.body ≡ None → is_iterator lib ≡ false → library lib x.types us s left ≡ gives ws s' rest → Ended us ws s s' 16 left rest
+      library_ended lib f b none h =
+          let is_low = library_low lib false f b none in
           let a = low_library whole lib x.types in
-          let r =
-          library_ran q whole (lay_of result) types lib x.types taken result (begins q (c_type whole.numbered taken) us a.locals) s s' us ws left rest (ready.no_iterator lib f) (library_is lib f)
-          (sym (eqb-true (library_arity lib) (length x.types) many)) good ready.argument ready.result
-          (begins_is q (c_type whole.numbered taken) us a.locals (sized taken us ready.argument machine)) (begins_fresh q (c_type whole.numbered taken) us a.locals (ready.few a is_low)) machine h in
-          record { low = a; is_low = is_low; steps = r.steps; within = r.within; ran = record { frame = r.frame; runs = r.runs; keeps = r.keeps; readable = r.readable } }
+          library_ends a is_low
+          (library_ran q whole (lay_of result) types lib x.types taken result (begins q (c_type whole.numbered taken) us a.locals) s s' us ws left rest none (library_is lib f)
+          (library_many lib f) (library_good lib f) ready.argument ready.result
+          (begins_is q (c_type whole.numbered taken) us a.locals (sized taken us ready.argument machine)) (begins_fresh q (c_type whole.numbered taken) us a.locals (ready.few a is_low)) machine h)
+
+      -- an iterator does what it does in the update semantics
+      iterator_ended : (lib : Lib) → x.fun ≡ OfLib lib → e.body ≡ None → is_iterator lib ≡ true → updates.iterated p calls lib x.types (record { ty = taken; scalars = us }) s left ≡ gives ws s' rest → Ended us ws s s' 16 left rest
+      iterator_ended lib f b one h =
+          library_ends (low_iterator whole lib x.types) is_low
+          (subst (λ z. LibraryRan q (lay_of result) (low_iterator whole lib x.types) frame s s' (lay_of z) ws left rest) gives_so
+          (iterator_ran lib x.types one (library_many lib f) (library_good lib f) p whole q (lay_of result) calls frame s s' us ws left rest few sources
+          (subst (IsDeclared whole.numbered ss) (sym takes_so) ready.argument) (subst (IsDeclared whole.numbered ss) (sym gives_so) ready.result) callable.argument callable.result callable.listed
+          (subst (λ z. Is frame argument_name (lay_of z) us) (sym takes_so) (begins_is q (c_type whole.numbered taken) us (low_iterator whole lib x.types).locals (sized taken us ready.argument machine)))
+          (begins_fresh q (c_type whole.numbered taken) us (low_iterator whole lib x.types).locals (ready.few (low_iterator whole lib x.types) is_low))
+          (subst (λ z. is_machine types z us ≡ true) (sym takes_so) machine)
+          (subst (λ z. updates.iterated p calls lib x.types (record { ty = z; scalars = us }) s left ≡ gives ws s' rest) (sym takes_so) h)))
+        where
+          is_low : low_instance whole x e.body ≡ Some (low_iterator whole lib x.types)
+          is_low = library_low lib true f b one
+
+          frame : Frame
+          frame = begins q (c_type whole.numbered taken) us (low_iterator whole lib x.types).locals
+
+          callable : IsCallable whole ss (function_type whole lib x.types)
+          callable = ready.turned lib f one
+
+          takes_so : taken_by (library_type lib x.types) ≡ taken
+          takes_so = ap taken_by (library_is lib f)
+
+          gives_so : given_by (library_type lib x.types) ≡ result
+          gives_so = ap given_by (library_is lib f)
 
       -- ---- an abstract function
 
@@ -320,17 +371,25 @@ module _ (p : Program) (whole : Whole) (ss : List CStruct) (links : List Link) (
                 (sized result a.out.result ready.result m) (machine_readable whole.numbered ss types few result a.out.result m));
           }
 
+      -- what a call of a function of the source does: it gives a machine value of its type, and takes one step more at most
+      record SourceEnded (v : Value) : Type 0 where
+        called : Called q (function_name k) (v ∷ []) s s' (lay_of result) ws 1 left rest
+        is_fine : is_machine types result ws ≡ true
+
       -- as in the update semantics
-      abstract_ends : (i : ℕ) (v : Value) → x.fun ≡ User i → e.body ≡ None → give (lay_of taken) v ≡ ok us → abstract p result i us s left ≡ gives ws s' rest
-          → Called q (function_name k) (v ∷ []) s s' (lay_of result) ws 24 left rest
+      abstract_ends : (i : ℕ) (v : Value) → x.fun ≡ User i → e.body ≡ None → give (lay_of taken) v ≡ ok us → abstract p result i us s left ≡ gives ws s' rest → SourceEnded v
       abstract_ends i v is_user b g h =
-          subst (λ z. Called q (function_name k) (v ∷ []) s z (lay_of result) ws 24 left rest) (same_state a.out.result ws after s' (left - a.cost) rest paid.1)
-          (subst (λ z. Called q (function_name k) (v ∷ []) s after (lay_of result) z 24 left rest) (same_scalars a.out.result ws after s' (left - a.cost) rest paid.1)
-          (record {
-            steps = a.cost;
-            within = omega (arith, paid.0, same_rest a.out.result ws after s' (left - a.cost) rest paid.1);
-            answers = abstract_called_so i known.0 a v is_user b known.1 known.2 formed.0 g;
-          }))
+          record {
+            called =
+                subst (λ z. Called q (function_name k) (v ∷ []) s z (lay_of result) ws 1 left rest) (same_state a.out.result ws after s' (left - a.cost) rest paid.1)
+                (subst (λ z. Called q (function_name k) (v ∷ []) s after (lay_of result) z 1 left rest) (same_scalars a.out.result ws after s' (left - a.cost) rest paid.1)
+                (record {
+                  steps = a.cost;
+                  within = omega (arith, paid.0, same_rest a.out.result ws after s' (left - a.cost) rest paid.1);
+                  answers = abstract_called_so i known.0 a v is_user b known.1 known.2 formed.0 g;
+                }));
+            is_fine = subst (λ z. is_machine types result z ≡ true) (same_scalars a.out.result ws after s' (left - a.cost) rest paid.1) formed.0;
+          }
         where
           there_is : (a : Answer) × (answer_of p (slice_get p.functions i) us s.store ≡ Some a)
               × (where_true (is_machine types result a.out.result) (pay_for a.cost left (λ rest. given a.out s rest)) ≡ gives ws s' rest)
@@ -355,22 +414,31 @@ module _ (p : Program) (whole : Whole) (ss : List CStruct) (links : List Link) (
 
       -- ---- each instance
 
+      -- a function of the source, with a body or without one
+      source_ended : (i : ℕ) (o : Option (Tree Note)) (v : Value) → x.fun ≡ User i → e.body ≡ o → give (lay_of taken) v ≡ ok us → entered_by p calls x e.ty o us s left ≡ gives ws s' rest → SourceEnded v
+      source_ended i None v f b g h = abstract_ends i v f b g (subst (λ z. given_outside p calls z x.types e.ty us s left ≡ gives ws s' rest) f h)
+      source_ended i (Some core) v f b g h = record { called = ended_called us ws s s' 0 left rest v g (core_ended core b h); is_fine = core_formed core b h }
+
+      -- a function of the library
+      library_called : (lib : Lib) (b : Bool) (v : Value) → x.fun ≡ OfLib lib → e.body ≡ None → is_iterator lib ≡ b → give (lay_of taken) v ≡ ok us
+          → cond b (updates.iterated p calls lib x.types (record { ty = taken; scalars = us }) s left) (library lib x.types us s left) ≡ gives ws s' rest
+          → Called q (function_name k) (v ∷ []) s s' (lay_of result) ws 17 left rest
+      library_called lib true v f n i g h = ended_called us ws s s' 16 left rest v g (iterator_ended lib f n i h)
+      library_called lib false v f n i g h = ended_called us ws s s' 16 left rest v g (library_ended lib f n i h)
+
       -- an instance without a body
       by_fun : (f : Fun) (v : Value) → x.fun ≡ f → e.body ≡ None → give (lay_of taken) v ≡ ok us → given_outside p calls f x.types e.ty us s left ≡ gives ws s' rest
           → Called q (function_name k) (v ∷ []) s s' (lay_of result) ws 24 left rest
-      by_fun (User i) v f b g h = abstract_ends i v f b g h
+      by_fun (User i) v f b g h = called_more q (function_name k) (v ∷ []) s s' (lay_of result) ws 1 24 left rest (omega arith) (abstract_ends i v f b g h).called
       by_fun (OfLib lib) v f b g h =
-          ended_called us ws s s' left rest v g
-          (library_ended lib f b
-          (subst
-          (λ z. cond z (updates.iterated p calls lib x.types (record { ty = taken; scalars = us }) s left) (library lib x.types us s left) ≡ gives ws s' rest)
-          (ready.no_iterator lib f) h))
+          called_more q (function_name k) (v ∷ []) s s' (lay_of result) ws 17 24 left rest (omega arith) (library_called lib (is_iterator lib) v f b refl g h)
 
       -- an instance with or without one
       by_body : (o : Option (Tree Note)) (v : Value) → e.body ≡ o → give (lay_of taken) v ≡ ok us → entered_by p calls x e.ty o us s left ≡ gives ws s' rest
           → Called q (function_name k) (v ∷ []) s s' (lay_of result) ws 24 left rest
       by_body None v b g h = by_fun x.fun v refl b g h
-      by_body (Some core) v b g h = ended_called us ws s s' left rest v g (core_ended core b h)
+      by_body (Some core) v b g h =
+          called_more q (function_name k) (v ∷ []) s s' (lay_of result) ws 1 24 left rest (omega arith) (ended_called us ws s s' 0 left rest v g (core_ended core b h))
 
   -- what an instance that is called gives
   entered_is : (calls : updates.Calls) (k : ℕ) (x : Instance) (e : Entry) (us ws : List Scalar) (s s' : State) (left rest : ℕ) → slice_get p.list k ≡ Some x → slice_get p.entries k ≡ Some e
@@ -380,9 +448,12 @@ module _ (p : Program) (whole : Whole) (ss : List CStruct) (links : List Link) (
 
   -- ---- calls of function values
 
-  -- a call of a listed type's function, by what the functions of instances do
-  values_run : (calls : updates.Calls) → CallsRun p whole q calls → ValuesRun p whole q calls
-  values_run calls callees k a b us ws s s' left rest tag v listed t h ma mb gt gv =
+  -- a call of a listed type's function, by what the function of the instance does: it takes three steps more
+  dispatched : (k : ℕ) (a b : Tau) (us ws : List Scalar) (s s' : State) (more left rest : ℕ) (tag v : Value) → list_any (λ u. same_type u (arrow a b)) whole.arrows ≡ true → types k ≡ Some (arrow a b)
+      → is_machine types a us ≡ true → is_machine types b ws ≡ true → give (cell U32) tag ≡ ok (NumberScalar k ∷ []) → give (lay_of a) v ≡ ok us
+      → Called q (function_name k) (typed (lay_of a) us ∷ []) s s' (lay_of b) ws more left rest
+      → Called q (dispatch_name (arrow_number whole.arrows (arrow a b))) (tag ∷ v ∷ []) s s' (lay_of b) ws (more + 3) left rest
+  dispatched k a b us ws s s' more left rest tag v listed t ma mb gt gv call =
       record {
         steps = suc (suc (suc call.steps));
         within = let w = call.within in omega (arith, w);
@@ -415,22 +486,85 @@ module _ (p : Program) (whole : Whole) (ss : List CStruct) (links : List Link) (
           let r = is.ready k x.0 e.0 x.1 e.1 in
           (subst (λ z. IsDeclared whole.numbered ss (taken_by z)) e.2 r.argument, subst (λ z. IsDeclared whole.numbered ss (given_by z)) e.2 r.result)
 
-      call : Called q (function_name k) (typed (lay_of a) us ∷ []) s s' (lay_of b) ws 24 left rest
-      call = callees k a b us ws s s' left rest (typed (lay_of a) us) t h ma mb (given_typed (lay_of a) us)
+  -- so calls of function values do what calls of instances do
+  values_run : (calls : updates.Calls) → CallsRun p whole q calls → ValuesRun p whole q calls
+  values_run calls callees k a b us ws s s' left rest tag v listed t h ma mb gt gv =
+      dispatched k a b us ws s s' 24 left rest tag v listed t ma mb gt gv (callees k a b us ws s s' left rest (typed (lay_of a) us) t h ma mb (given_typed (lay_of a) us))
 
-  -- calls that are nested so deep
-  calls_run : (depth : ℕ) → CallsRun p whole q (calls_within p depth)
-  unfolding calls_within
-  calls_run zero k a b us ws s s' left rest v t h ma mb g = absurd (cc)
-  calls_run (suc depth) k a b us ws s s' left rest v t h ma mb g =
+  -- ---- calls that are nested
+
+  -- calls that go into the bodies of instances, where calls in them are these
+  abbrev inside : updates.Calls → updates.Calls
+  inside calls k us s left = entered p calls (slice_get p.list k) (slice_get p.entries k) us s left
+
+  -- what is proved of calls
+  record AllRun (calls : updates.Calls) : Type 0 where
+    callees : CallsRun p whole q calls
+    sources : SourceRuns p whole q calls
+
+  calls_inside : (calls : updates.Calls) → AllRun calls → CallsRun p whole q (inside calls)
+  calls_inside calls all k a b us ws s s' left rest v t h ma mb g =
       let e = entry_is (slice_get p.entries k) (arrow a b) t in
       let lt = slice_get_within p.entries k e.0 e.1 in
       let x = there p.list k (omega (arith, lt, is.instances.as_many)) in
       let takes : taken_by e.0.ty ≡ a = ap taken_by e.2 in
       subst (λ z. Called q (function_name k) (v ∷ []) s s' (lay_of (given_by z)) ws 24 left rest) e.2
-      (by_body k x.0 e.0 x.1 e.1 (calls_within p depth) (calls_run depth) (values_run (calls_within p depth) (calls_run depth)) us ws s s' left rest (subst (λ z. is_machine types z us ≡ true) (sym takes) ma) e.0.body v refl
+      (by_body k x.0 e.0 x.1 e.1 calls all.callees (values_run calls all.callees) all.sources us ws s s' left rest (subst (λ z. is_machine types z us ≡ true) (sym takes) ma) e.0.body v refl
       (subst (λ z. give (lay_of z) v ≡ ok us) (sym takes) g)
-      (entered_is (calls_within p depth) k x.0 e.0 us ws s s' left rest x.1 e.1 h))
+      (entered_is calls k x.0 e.0 us ws s s' left rest x.1 e.1 h))
+
+  -- one that is called is of the source
+  of_source : (f : Fun) (o : Outcome) (ws : List Scalar) (s : State) (rest : ℕ) → cond (updates.is_of_source f) o no_result ≡ gives ws s rest → (i : ℕ) × (f ≡ User i) × (o ≡ gives ws s rest)
+  of_source (User i) o ws s rest h = (i, refl, h)
+  of_source (OfLib lib) o ws s rest h = absurd (cc)
+
+  sources_inside : (calls : updates.Calls) → AllRun calls → SourceRuns p whole q (inside calls)
+  sources_inside calls all k a b us ws s s' left rest tag v listed t h ma gt gv =
+      record {
+        called = dispatched k a b us ws s s' 1 left rest tag v listed t ma formed gt gv (subst (λ z. Called q (function_name k) (typed (lay_of a) us ∷ []) s s' (lay_of z) ws 1 left rest) gives_so ended.called);
+        machine = formed;
+      }
+    where
+      e : (e : Entry) × (slice_get p.entries k ≡ Some e) × (e.ty ≡ arrow a b)
+      e = entry_is (slice_get p.entries k) (arrow a b) t
+
+      x : (x : Instance) × (slice_get p.list k ≡ Some x)
+      x = let lt = slice_get_within p.entries k e.0 e.1 in there p.list k (omega (arith, lt, is.instances.as_many))
+
+      takes_so : taken_by e.0.ty ≡ a
+      takes_so = ap taken_by e.2
+
+      gives_so : given_by e.0.ty ≡ b
+      gives_so = ap given_by e.2
+
+      source : (i : ℕ) × (x.0.fun ≡ User i) × (inside calls k us s left ≡ gives ws s' rest)
+      source = of_source x.0.fun (inside calls k us s left) ws s' rest (sym (ap (λ z. updates.calls_source p (inside calls) z k us s left) x.1) ∙ h)
+
+      ended : SourceEnded k x.0 e.0 x.1 e.1 calls all.callees (values_run calls all.callees) all.sources us ws s s' left rest (subst (λ z. is_machine types z us ≡ true) (sym takes_so) ma) (typed (lay_of a) us)
+      ended =
+          source_ended k x.0 e.0 x.1 e.1 calls all.callees (values_run calls all.callees) all.sources us ws s s' left rest (subst (λ z. is_machine types z us ≡ true) (sym takes_so) ma) source.0 e.0.body (typed (lay_of a) us) source.1 refl
+          (subst (λ z. give (lay_of z) (typed (lay_of a) us) ≡ ok us) (sym takes_so) (given_typed (lay_of a) us))
+          (entered_is calls k x.0 e.0 us ws s s' left rest x.1 e.1 source.2)
+
+      formed : is_machine types b ws ≡ true
+      formed = subst (λ z. is_machine types z ws ≡ true) gives_so ended.is_fine
+
+  -- calls that give nothing
+  no_calls : (calls : updates.Calls) → ((k : ℕ) (us : List Scalar) (s : State) (left : ℕ) → calls k us s left ≡ no_result) → AllRun calls
+  no_calls calls none = record {
+    callees = λ k a b us ws s s' left rest v t h ma mb g. absurd (let n = none k us s left in cc);
+    sources = λ k a b us ws s s' left rest tag v listed t h ma gt gv. absurd (nothing (slice_get p.list k) k us s left ws s' rest h);
+  }
+    where
+      nothing : (x : Option Instance) (k : ℕ) (us : List Scalar) (s : State) (left : ℕ) (ws : List Scalar) (s' : State) (rest : ℕ) → updates.calls_source p calls x k us s left ≡ gives ws s' rest → ⊥
+      nothing None k us s left ws s' rest h = absurd (cc)
+      nothing (Some x) k us s left ws s' rest h = let o = of_source x.fun (calls k us s left) ws s' rest h in let n = none k us s left in let m = o.2 in absurd (cc)
+
+  -- calls that are nested so deep
+  all_run : (depth : ℕ) → AllRun (calls_within p depth)
+  unfolding calls_within
+  all_run zero = no_calls (calls_within p zero) (λ k us s left. refl)
+  all_run (suc depth) = record { callees = calls_inside (calls_within p depth) (all_run depth); sources = sources_inside (calls_within p depth) (all_run depth) }
 
   -- ---- runs
 
@@ -469,9 +603,12 @@ module _ (p : Program) (whole : Whole) (ss : List CStruct) (links : List Link) (
       given_so : entered_by p (calls_within p n) x e.ty e.body us (starting m) n ≡ gives r.value r.state ends.left
       given_so = entered_is (calls_within p n) k x e us r.value (starting m) r.state n ends.left listed entry runs_so.1
 
-      ran : Ended k x e listed entry us r.value (starting m) r.state n ends.left
+      all : AllRun (calls_within p n)
+      all = all_run n
+
+      ran : Ended k x e listed entry us r.value (starting m) r.state 0 n ends.left
       ran =
-          core_ended k x e listed entry (calls_within p n) (calls_run n) (values_run (calls_within p n) (calls_run n)) us r.value (starting m) r.state n ends.left machine core b
+          core_ended k x e listed entry (calls_within p n) all.callees (values_run (calls_within p n) all.callees) all.sources us r.value (starting m) r.state n ends.left machine core b
           (sym (ap (λ z. entered_by p (calls_within p n) x e.ty z us (starting m) n) b) ∙ given_so)
 
 pub lowering_simulates : LoweringSimulates

@@ -17,6 +17,7 @@ use Rattle.cg_typing.specs.Parts.{given_by, taken_by}
 use Rattle.cg_update.specs.Calls.{Program}
 use Rattle.cg_lower_laws.specs.CTypes.{declared}
 use Rattle.cg_lower_laws.specs.Dispatch.{dispatch_of}
+use Rattle.cg_lower_laws.specs.IteratorCode.{low_iterator}
 use Rattle.cg_lower_laws.specs.LibraryCode.{low_library, whole_argument}
 use Rattle.cg_lower_laws.specs.Lowered.{Low, Whole, function_name, low, typed}
 use Rattle.cg_lower_laws.specs.Places.{argument_name, local_name, operand}
@@ -35,10 +36,10 @@ module _ (whole : Whole) where
   abbrev pub low_body : Tree Note → Low
   low_body core = low whole 0 (whole_argument ∷ []) core
 
-  -- what stands for an instance without a body: nothing for an abstract function, and not yet anything for an iterator
+  -- what stands for an instance without a body: nothing for an abstract function
   abbrev pub low_outside : Fun → Instance → Option Low
   low_outside (User i) x = None
-  low_outside (OfLib lib) x = if is_iterator lib then None else Some (low_library whole lib x.types)
+  low_outside (OfLib lib) x = if is_iterator lib then Some (low_iterator whole lib x.types) else Some (low_library whole lib x.types)
 
   abbrev pub low_instance : Instance → Option (Tree Note) → Option Low
   low_instance x (Some core) = Some (low_body core)

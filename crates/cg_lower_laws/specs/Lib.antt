@@ -3,6 +3,7 @@ pub mod Places
 pub mod Lowered
 pub mod Dispatch
 pub mod LibraryCode
+pub mod IteratorCode
 pub mod Functions
 pub mod Typed
 pub mod Simulated

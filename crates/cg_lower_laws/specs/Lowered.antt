@@ -40,7 +40,8 @@ unfoldable pub arrow_number : List Tau → Tau → ℕ
 arrow_number [] t = zero
 arrow_number (u ∷ us) t = if same_type u t then zero else suc (arrow_number us t)
 
--- what lowering knows of the whole: a number for each struct, the arrow types of calls through function values, and the list of instances
+-- what lowering knows of the whole: a number for each struct, the arrow types of calls through function values, those of iterators among
+-- them, and the list of instances
 pub record Whole : Type 0 where
   pub numbered : Tau → ℕ
   pub arrows : List Tau

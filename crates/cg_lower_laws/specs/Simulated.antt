@@ -1,5 +1,5 @@
 -- What the C of a list of instances promises (docs/LANGUAGE.md, "The C of instances").
-use Rattle.std.specs.Prelude.{◌≡◌, ℕ, ◌+◌, ◌*◌, ◌^◌, ◌<◌, ◌≤◌, true, false, List, length, slice_get, Some, None, Contains}
+use Rattle.std.specs.Prelude.{◌≡◌, ℕ, ◌+◌, ◌*◌, ◌^◌, ◌<◌, ◌≤◌, true, List, length, slice_get, Some, None, Contains}
 use Rattle.std.specs.List.{AllByRecursion, list_any}
 use Rattle.cg_base.specs.declared.fun.Fun.TheVariants.{User, Lib as OfLib}
 use Rattle.cg_base.specs.declared.fun.Lib.{Lib}
@@ -23,13 +23,14 @@ use Rattle.cg_update.specs.Outcomes.{State}
 use Rattle.cg_update.specs.Updates.{Result, updated}
 use Rattle.cg_lower_laws.specs.CTypes.{IsDeclared}
 use Rattle.cg_lower_laws.specs.Functions.{Item, of_arrow, of_instance, linked_in, low_instance}
+use Rattle.cg_lower_laws.specs.IteratorCode.{function_type}
 use Rattle.cg_lower_laws.specs.Lowered.{Low, Whole, function_name}
 
 -- a state of the update semantics as one of runs
 abbrev pub as_run : State → runs.State
 as_run s = record { store = s.store; made = s.made; freed = s.freed }
 
--- ---- which calls have C so far
+-- ---- what C asks of calls
 
 -- where a function value is called, its arrow type is among those of calls
 abbrev pub IsListed : List Tau → Tree Note → Type 0
@@ -40,20 +41,23 @@ abbrev pub CallsListed : List Tau → Tree Note → Type 0
 CallsListed arrows (term note (app f x)) = IsListed arrows f
 CallsListed arrows t = Unit {0}
 
-abbrev pub IsNoIterator : Instance → Type 0
-IsNoIterator x = (lib : Lib) → x.fun ≡ OfLib lib → is_iterator lib ≡ false
+-- The function that an iterator calls, by its type: the structs of what it takes and gives are declared, and the type is among those of calls.
+pub record IsCallable (whole : Whole) (ss : List CStruct) (t : Tau) : Type 0 where
+  pub argument : IsDeclared whole.numbered ss (taken_by t)
+  pub result : IsDeclared whole.numbered ss (given_by t)
+  pub listed : list_any (λ u. same_type u t) whole.arrows ≡ true
 
 -- ---- a whole program
 
--- what holds of the instance at a place: it is one of its function and no iterator, the arrow types of its calls through function values
--- are listed, the structs of its types and of all nodes are declared, and it has fewer than 2^64 locals
+-- what holds of the instance at a place: it is one of its function, the arrow types of its calls through function values are listed, the
+-- structs of its types and of all nodes are declared, of an iterator those of its function too, and it has fewer than 2^64 locals
 pub record IsReady (p : Program) (whole : Whole) (ss : List CStruct) (links : List Link) (k : ℕ) (x : Instance) (e : Entry) : Type 0 where
   pub good : IsGood p.functions x
-  pub no_iterator : IsNoIterator x
   pub argument : IsDeclared whole.numbered ss (taken_by e.ty)
   pub result : IsDeclared whole.numbered ss (given_by e.ty)
   pub nodes : (core : Tree Note) → e.body ≡ Some core → AllByRecursion (λ t. IsDeclared whole.numbered ss (type_at t)) (nodes_of core)
   pub listed : (core : Tree Note) → e.body ≡ Some core → AllByRecursion (CallsListed whole.arrows) (nodes_of core)
+  pub turned : (lib : Lib) → x.fun ≡ OfLib lib → is_iterator lib ≡ true → IsCallable whole ss (function_type whole lib x.types)
   pub few : (a : Low) → low_instance whole x e.body ≡ Some a → length a.locals < 2 ^ 64
   pub linked : (i : ℕ) (f : Function) → x.fun ≡ User i → e.body ≡ None → slice_get p.functions i ≡ Some f → linked_to (function_name k) links ≡ Some f.at.name
 
@@ -81,7 +85,7 @@ Simulates p linked =
     → slice_get p.list k ≡ Some x → slice_get p.entries k ≡ Some e → e.body ≡ Some core → updated p n k us m ≡ Some r
     → (left : ℕ) × (crun linked (32 * r.cost + 32) (function_name k) us m ≡ done r.value (as_run r.state) left)
 
--- the C of every list of instances without iterators does what the update semantics does
+-- the C of every list of instances does what the update semantics does
 abbrev pub LoweringSimulates : Type 0
 LoweringSimulates =
     (p : Program) (whole : Whole) (ss : List CStruct) (links : List Link) (order : List Item) → IsProgramOf p whole ss links order

@@ -3,9 +3,8 @@ ghost use Rattle.cg_lower_laws.specs.Printables.{LoweringIsPrintable};
 ghost use Rattle.cg_lower_laws.specs.Simulated.{LoweringSimulates};
 ghost use Rattle.cg_lower_laws.specs.Structs.{CoveredAreDeclared};
 
-/// The C of a list of instances without iterators simulates the update semantics: where an instance with a body
-/// gives a result at cost k on a heap, its C function ends within 32k + 32 steps, with the same scalars, heap, and addresses of the
-/// cells that were made and freed.
+/// The C of a list of instances simulates the update semantics: where an instance with a body gives a result at cost k on a heap, its C
+/// function ends within 32k + 32 steps, with the same scalars, heap, and addresses of the cells that were made and freed.
 pub fn lowering_simulates()
     ensures { LoweringSimulates }
 {}
