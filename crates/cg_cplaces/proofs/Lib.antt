@@ -1,0 +1,4 @@
+mod ArrowSteps
+mod HintSteps
+mod InstanceSteps
+mod KeySteps
