@@ -1,0 +1,17 @@
+//! The C of nodes, of their lowered parts. docs/LANGUAGE.md, "The C of instances", says it in words.
+#![tactic(auto)]
+
+mod nodes;
+mod parts;
+mod place;
+mod state;
+#[cfg(test)]
+mod tests;
+
+pub use nodes::{
+    called, cast, choose, filled, injected, operated_both, operated_once, put, read, read_at,
+    tagged,
+};
+pub use parts::{alternative_place, field_at, word_of};
+pub use place::{Base, Place, Step, numbered, path};
+pub use state::{Lowering, assign};

@@ -1,0 +1,3 @@
+mod FormSteps
+mod GroupSteps
+mod TermSteps
