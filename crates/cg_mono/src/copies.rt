@@ -24,6 +24,13 @@ pub struct Mono {
 impl Mono {
     ghost use Rattle.cg_mono.specs.Monos.{body_in, copies_in};
 
+    /// The copies, in the order of the list.
+    pub fn as_slice(&self) -> &[Copy]
+        ensures { result.now ≡ copies_in self.now }
+    {
+        self.copies.as_slice()
+    }
+
     /// How many instances there are.
     pub fn len(&self) -> usize
         ensures { result ≡ length (copies_in self.now) }

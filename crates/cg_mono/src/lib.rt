@@ -6,5 +6,5 @@ mod copies;
 mod cores;
 
 pub use build::mono;
-pub use copies::Mono;
+pub use copies::{Copy, Mono};
 pub use cores::specialise;

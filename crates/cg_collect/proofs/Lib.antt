@@ -1,0 +1,4 @@
+mod Apart
+pub mod CallSteps
+pub mod CollectSteps
+mod NodeSteps

@@ -1,0 +1,4 @@
+pub mod Collected
+pub mod Copies
+pub mod Calls
+pub mod Results
