@@ -1,0 +1,2 @@
+mod Typed
+mod Written

@@ -1,0 +1,2 @@
+mod CodeSteps
+mod TypeSteps
