@@ -1,0 +1,10 @@
+pub mod Arrows
+pub mod DispatchSteps
+pub mod FunctionSteps
+pub mod Lists
+mod MoveSteps
+pub mod Placed
+pub mod PrintedStructs
+pub mod ProgramSteps
+pub mod Programs
+pub mod Ready

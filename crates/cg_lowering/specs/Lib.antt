@@ -1,0 +1,4 @@
+pub mod Laws
+pub mod Lowerings
+pub mod Programs
+pub mod Promises
