@@ -1,9 +1,0 @@
-//! Tests of lowering: sources, lowered and run by the steps of their C.
-#![tactic(auto)]
-
-#[cfg(test)]
-mod cells;
-#[cfg(test)]
-mod runs;
-#[cfg(test)]
-mod sources;
