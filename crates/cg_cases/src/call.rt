@@ -6,6 +6,7 @@ use crate::evaluation::eval_text;
 use crate::instances::{copies_text, count_text};
 use crate::kernel::kernel_text;
 use crate::limit::limit_name;
+use crate::lowered::lowered_text;
 use crate::store::store_text;
 use cg_base::{Name, Place};
 use cg_declared::Declarations;
@@ -141,6 +142,7 @@ fn called(
         b"kernel" => resolve_text(alloc, source, true),
         b"instances" => count_text(alloc, source),
         b"mono" => copies_text(alloc, source),
+        b"lowered" => lowered_text(alloc, words, source),
         b"store" => store_text(alloc, words),
         _ => String::from_str(alloc, "no such call\n"),
     }

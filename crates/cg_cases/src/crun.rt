@@ -40,10 +40,21 @@ fn push_addresses(told: &mut String, name: &str, addresses: &[u64]) -> Result<()
     told.push('\n')
 }
 
-// Writes what a run gave: its steps, and the lines of its value and of the cells that it made and freed.
-fn push_ran(told: &mut String, ran: &Ran) -> Result<(), AllocError> {
-    let steps = ran.steps;
-    write!(told, "ok {steps}\nvalue:")?;
+/// Whether an answer says how many steps a run took.
+#[derive(Clone, Copy)]
+pub enum Steps {
+    Told,
+    Open,
+}
+
+// Writes what a run gave: its steps where they are told, and the lines of its value and of the cells that it made and freed.
+fn push_ran(told: &mut String, ran: &Ran, steps: Steps) -> Result<(), AllocError> {
+    told.push_str("ok")?;
+    if let Steps::Told = steps {
+        let steps = ran.steps;
+        write!(told, " {steps}")?;
+    }
+    told.push_str("\nvalue:")?;
     for scalar in ran.value.as_slice() {
         told.push(' ')?;
         push_scalar(told, *scalar)?;
@@ -54,9 +65,9 @@ fn push_ran(told: &mut String, ran: &Ran) -> Result<(), AllocError> {
 }
 
 // Writes how a run ended.
-fn push_end(told: &mut String, end: Result<Ran, RunFault>) -> Result<(), AllocError> {
+fn push_end(told: &mut String, end: Result<Ran, RunFault>, steps: Steps) -> Result<(), AllocError> {
     match end {
-        Ok(ran) => push_ran(told, &ran),
+        Ok(ran) => push_ran(told, &ran, steps),
         Err(RunFault::Stuck(why)) => {
             told.push_str(why_text(why))?;
             told.push('\n')
@@ -152,6 +163,7 @@ fn ran_text(
     function: &Name,
     budget: u64,
     words: &[String],
+    steps: Steps,
 ) -> Result<String, AllocError>
     requires { budget ≤ 70368744177664 }
 {
@@ -164,14 +176,19 @@ fn ran_text(
     let top = store.top();
     let mut told = String::new(alloc);
     let end = run_c(alloc, program, function, &begin.arg, &mut store, budget);
-    push_end(&mut told, end)?;
+    push_end(&mut told, end, steps)?;
     push_cells(&mut told, &store, begin.named.as_slice(), top)?;
     Ok(told)
 }
 
-/// What a run of a C text answers, by the words FUNCTION BUDGET and then the argument's scalars and the cells: how it ends, and the
-/// cells that are there afterwards.
-pub fn run_text(alloc: Global, words: &[String], text: &[u8]) -> Result<String, AllocError> {
+/// What a run of a C program answers, by the words FUNCTION BUDGET and then the argument's scalars and the cells: how it ends, and
+/// the cells that are there afterwards.
+pub fn run_program(
+    alloc: Global,
+    words: &[String],
+    program: &CProgram,
+    steps: Steps,
+) -> Result<String, AllocError> {
     let [function, budget, rest @ ..] = words else {
         return String::from_str(alloc, "no such call\n");
     };
@@ -179,11 +196,16 @@ pub fn run_text(alloc: Global, words: &[String], text: &[u8]) -> Result<String, 
         Some(budget) if budget <= MOST_STEPS => budget,
         _ => return String::from_str(alloc, "no such call\n"),
     };
-    let Ok(function) = Name::new(alloc, function.as_bytes()) else {
-        return Err(AllocError);
-    };
+    match Name::new(alloc, function.as_bytes()) {
+        Ok(function) => ran_text(alloc, program, &function, budget, rest, steps),
+        Err(_) => Err(AllocError),
+    }
+}
+
+/// What a run of a C text answers, with its steps.
+pub fn run_text(alloc: Global, words: &[String], text: &[u8]) -> Result<String, AllocError> {
     match read_c(alloc, text) {
-        Ok(program) => ran_text(alloc, &program, &function, budget, rest),
+        Ok(program) => run_program(alloc, words, &program, Steps::Told),
         Err(_) => String::from_str(alloc, "no program\n"),
     }
 }

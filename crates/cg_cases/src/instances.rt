@@ -16,8 +16,8 @@ fn fault_name(fault: InstFault) -> &'static str {
     }
 }
 
-// The list of instances of an accepted source, or what is said in its place.
-fn listed(alloc: Global, source: &[u8]) -> Result<(Checked, Instances), &'static str> {
+/// The list of instances of an accepted source, or what is said in its place.
+pub fn listed(alloc: Global, source: &[u8]) -> Result<(Checked, Instances), &'static str> {
     let Some(checked) = checked(alloc, source) else {
         return Err("not accepted\n");
     };

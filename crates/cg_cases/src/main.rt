@@ -13,6 +13,7 @@ mod evaluation;
 mod instances;
 mod kernel;
 mod limit;
+mod lowered;
 mod reader;
 mod store;
 mod text;
