@@ -1,0 +1,34 @@
+/* Times two ways of computing one thing, each with the least of five runs. */
+#ifndef TIMING_H
+#define TIMING_H
+
+#include <stdint.h>
+#include <stdio.h>
+#include <time.h>
+
+static double seconds(void)
+{
+    struct timespec now;
+    timespec_get(&now, TIME_UTC);
+    return (double)now.tv_sec + 1e-9 * (double)now.tv_nsec;
+}
+
+/* A run answers a number, which has to be the same both ways. Prints both times; the status for main. */
+static int compare(uint64_t (*cogent)(void), uint64_t (*hand)(void))
+{
+    double least[2] = {1e9, 1e9};
+    uint64_t given[2] = {0, 0};
+    for (int turn = 0; turn < 10; turn++) {
+        int way = turn % 2;
+        double start = seconds();
+        given[way] = way == 0 ? cogent() : hand();
+        double taken = seconds() - start;
+        if (taken < least[way]) {
+            least[way] = taken;
+        }
+    }
+    printf("%.6f %.6f\n", least[0], least[1]);
+    return given[0] == given[1] ? 0 : 1;
+}
+
+#endif
