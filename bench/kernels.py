@@ -3,7 +3,7 @@
 hand in C: the sum of bytes, insertion sort, the product of matrices, a record that is taken and put, and CRC-32 bit by bit.
 
 For each kernel two lines: with all functions of the text open to callers, and with all but the kernel's own static (native/prototypes),
-so that the compiler may inline them. Seconds by Cogent and by hand, each the least of five, and their ratio.
+so that the compiler may inline them. Seconds of processor time by Cogent and by hand, each the least of five, and their ratio.
 
 usage: bench/kernels.py [--cc COMPILER] [--texts FOLDER] [PROGRAM WORD ..]
     PROGRAM WORD ..   what `build FILE CFILE CERTFILE` is put behind (./cogent by default)

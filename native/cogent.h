@@ -24,6 +24,13 @@ struct SysState {
 /* The most elements that an array may have. */
 #define CG_MOST_ELEMENTS 1048576u
 
+/* Indices are mostly in range; compilers that take the hint lay out loops for that. */
+#ifdef __GNUC__
+#define CG_LIKELY(test) __builtin_expect(test, 1)
+#else
+#define CG_LIKELY(test) (test)
+#endif
+
 /* What values of a user's abstract types point to; whoever writes the abstract functions defines it. */
 struct Foreign;
 
@@ -89,12 +96,12 @@ static inline void cg_free(struct SysState *q, void *p)
                                                                                       \
     static inline uint##N##_t cg_w##N##_get(const struct W##N *p, uint32_t i)         \
     {                                                                                 \
-        return i < p->length ? p->elements[i] : 0;                                    \
+        return CG_LIKELY(i < p->length) ? p->elements[i] : 0;                         \
     }                                                                                 \
                                                                                       \
     static inline void cg_w##N##_put(struct W##N *p, uint32_t i, uint##N##_t v)       \
     {                                                                                 \
-        if (i < p->length) {                                                          \
+        if (CG_LIKELY(i < p->length)) {                                               \
             p->elements[i] = v;                                                       \
         }                                                                             \
     }
