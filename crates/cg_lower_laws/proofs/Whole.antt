@@ -133,14 +133,14 @@ abstract_gives q f name t r v us s a b b' params ty g asked e full reads =
 
 -- a table that answers knows a function of the source
 answer_is : (p : Program) (o : Option kernels.Function) (us : List Scalar) (m : Stored) (a : Answer) → answer_of p o us m ≡ Some a
-    → (f : kernels.Function) × (o ≡ Some f) × (p.on_heaps.asked f.at.name us m ≡ Some a)
+    → (f : kernels.Function) × (o ≡ Some f) × (is_known p.foreign f ≡ true) × (p.on_heaps.asked f.at.name us m ≡ Some a)
 answer_is p None us m a h = absurd (cc)
-answer_is p (Some f) us m a h = by_test (is_known p.foreign f) h
+answer_is p (Some f) us m a h = by_test (is_known p.foreign f) refl h
   where
-    by_test : (b : Bool) → cond b (p.on_heaps.asked f.at.name us m) None ≡ Some a
-        → (g : kernels.Function) × (Some f ≡ Some g) × (p.on_heaps.asked g.at.name us m ≡ Some a)
-    by_test true e = (f, refl, e)
-    by_test false e = absurd (cc)
+    by_test : (b : Bool) → is_known p.foreign f ≡ b → cond b (p.on_heaps.asked f.at.name us m) None ≡ Some a
+        → (g : kernels.Function) × (Some f ≡ Some g) × (is_known p.foreign g ≡ true) × (p.on_heaps.asked g.at.name us m ≡ Some a)
+    by_test true knows e = (f, refl, knows, e)
+    by_test false knows e = absurd (cc)
 
 -- what is called in so many steps is called in more
 called_more : (q : Linked) (f : List ℕ) (vs : List Value) (s s' : State) (l : Layout) (ws : List Scalar) (n m left rest : ℕ) → n ≤ m → Called q f vs s s' l ws n left rest → Called q f vs s s' l ws m left rest
@@ -358,12 +358,12 @@ module _ (p : Program) (whole : Whole) (ss : List CStruct) (links : List Link) (
       -- ---- an abstract function
 
       -- what the table answers is what a call gives
-      abstract_called_so : (i : ℕ) (f : kernels.Function) (a : Answer) (v : Value) → x.fun ≡ User i → e.body ≡ None → slice_get p.functions i ≡ Some f
+      abstract_called_so : (i : ℕ) (f : kernels.Function) (a : Answer) (v : Value) → x.fun ≡ User i → e.body ≡ None → slice_get p.functions i ≡ Some f → is_known p.foreign f ≡ true
           → p.on_heaps.asked f.at.name us s.store ≡ Some a → is_machine types result a.out.result ≡ true → give (lay_of taken) v ≡ ok us
           → Answers q (function_name k) (v ∷ []) (as_run s) a.cost (typed (lay_of result) a.out.result) (state_behind (as_run s) a.out)
-      abstract_called_so i f a v is_user b at asked m g =
+      abstract_called_so i f a v is_user b at knows asked m g =
           let no_body : (function_of whole k x e).body ≡ None = ap (option_map body_of) (ap (low_instance whole x) b ∙ ap (λ z. low_outside whole z x) is_user) in
-          let callee_is = abstract_called q k (function_of whole k x e) found f.at.name no_body (ready.linked i f is_user b at) in
+          let callee_is = abstract_called q k (function_of whole k x e) found f.at.name no_body (ready.linked i f is_user b at knows) in
           record {
             by = λ n c c' h le.
                 rw callee_is
@@ -386,7 +386,7 @@ module _ (p : Program) (whole : Whole) (ss : List CStruct) (links : List Link) (
                 (record {
                   steps = a.cost;
                   within = omega (arith, paid.0, same_rest a.out.result ws after s' (left - a.cost) rest paid.1);
-                  answers = abstract_called_so i known.0 a v is_user b known.1 known.2 formed.0 g;
+                  answers = abstract_called_so i known.0 a v is_user b known.1 known.2 known.3 formed.0 g;
                 }));
             is_fine = subst (λ z. is_machine types result z ≡ true) (same_scalars a.out.result ws after s' (left - a.cost) rest paid.1) formed.0;
           }
@@ -409,7 +409,7 @@ module _ (p : Program) (whole : Whole) (ss : List CStruct) (links : List Link) (
           paid : (a.cost ≤ left) × (given a.out s (left - a.cost) ≡ gives ws s' rest)
           paid = pay_for_is a.cost left (λ rest. given a.out s rest) ws s' rest formed.1
 
-          known : (f : kernels.Function) × (slice_get p.functions i ≡ Some f) × (p.on_heaps.asked f.at.name us s.store ≡ Some a)
+          known : (f : kernels.Function) × (slice_get p.functions i ≡ Some f) × (is_known p.foreign f ≡ true) × (p.on_heaps.asked f.at.name us s.store ≡ Some a)
           known = answer_is p (slice_get p.functions i) us s.store a there_is.1
 
       -- ---- each instance

@@ -14,6 +14,7 @@ use Rattle.cg_ctree.specs.declared.tree.CStruct.{CStruct}
 use Rattle.cg_heap.specs.declared.cell.Scalar.{Scalar}
 use Rattle.cg_heap.specs.declared.foreign.Link.{Link}
 use Rattle.cg_heap.specs.Stored.{Stored}
+use Rattle.cg_machine.specs.Foreigns.{is_known}
 use Rattle.cg_operations.specs.Iterators.{is_iterator}
 use Rattle.cg_typing.specs.Instances.{AreInstances, Entry, Instance, IsGood, nodes_of}
 use Rattle.cg_typing.specs.Parts.{given_by, taken_by}
@@ -59,7 +60,8 @@ pub record IsReady (p : Program) (whole : Whole) (ss : List CStruct) (links : Li
   pub listed : (core : Tree Note) → e.body ≡ Some core → AllByRecursion (CallsListed whole.arrows) (nodes_of core)
   pub turned : (lib : Lib) → x.fun ≡ OfLib lib → is_iterator lib ≡ true → IsCallable whole ss (function_type whole lib x.types)
   pub few : (a : Low) → low_instance whole x e.body ≡ Some a → length a.locals < 2 ^ 64
-  pub linked : (i : ℕ) (f : Function) → x.fun ≡ User i → e.body ≡ None → slice_get p.functions i ≡ Some f → linked_to (function_name k) links ≡ Some f.at.name
+  pub linked : (i : ℕ) (f : Function) → x.fun ≡ User i → e.body ≡ None → slice_get p.functions i ≡ Some f → is_known p.foreign f ≡ true
+      → linked_to (function_name k) links ≡ Some f.at.name
 
 -- an item is an instance of the list, or an arrow type of calls
 abbrev pub IsWithin : Program → Whole → Item → Type 0

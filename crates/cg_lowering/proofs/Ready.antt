@@ -126,5 +126,5 @@ module _ (copies : List Copy) (few : AreFew copies) where
       listed = calls_here;
       turned = λ lib f i. callable k x e here (function_type (whole_of copies) lib x.types) (turning lib f i);
       few = few_here k x e here;
-      linked = λ i f h b at. is.linked k i x e f hx he h b at;
+      linked = λ i f h b at knows. is.linked k i x e f hx he h b at knows;
     }

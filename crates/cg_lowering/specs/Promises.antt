@@ -1,5 +1,5 @@
 -- What the C program of a list of instances promises (docs/LANGUAGE.md, "The C of instances").
-use Rattle.std.specs.Prelude.{◌≡◌, ℕ, ◌^◌, ◌<◌, ◌≤◌, List, length, slice_get, Option, Some, None}
+use Rattle.std.specs.Prelude.{◌≡◌, ℕ, ◌^◌, ◌<◌, ◌≤◌, true, List, length, slice_get, Option, Some, None}
 use Rattle.std.specs.List.{AllByRecursion, flat_map}
 use Rattle.cg_base.specs.declared.fun.Fun.TheVariants.{User}
 use Rattle.cg_base.specs.Types.{Tau, fields, end}
@@ -14,6 +14,7 @@ use Rattle.cg_lower_laws.specs.Lowered.{Low, Whole, function_name}
 use Rattle.cg_lower_laws.specs.Printables.{AreShallow}
 use Rattle.cg_lower_laws.specs.Simulated.{Simulates}
 use Rattle.cg_lower_laws.specs.Structs.{IsCovered, IsTable}
+use Rattle.cg_machine.specs.Foreigns.{is_known}
 use Rattle.cg_typing.specs.Instances.{AreInstances, Entry, Instance, IsGood}
 use Rattle.cg_update.specs.Calls.{Program}
 
@@ -36,15 +37,15 @@ pub record AreFew (copies : List Copy) : Type 0 where
 
 -- ---- what is asked of a list of instances
 
--- a program of the update semantics is that of the copies: each is an instance of its function, and abstract functions are linked by the
--- names of their places
+-- a program of the update semantics is that of the copies: each is an instance of its function, and abstract functions that the table knows
+-- are linked by the names of their places
 pub record IsProgramOf (p : Program) (links : List Link) (copies : List Copy) : Type 0 where
   pub list : p.list ≡ list_of copies
   pub entries : p.entries ≡ entries_of copies
   pub instances : AreInstances p.functions p.list p.entries
   pub good : (k : ℕ) (x : Instance) → slice_get p.list k ≡ Some x → IsGood p.functions x
   pub linked : (k i : ℕ) (x : Instance) (e : Entry) (f : Function)
-      → slice_get p.list k ≡ Some x → slice_get p.entries k ≡ Some e → x.fun ≡ User i → e.body ≡ None → slice_get p.functions i ≡ Some f
+      → slice_get p.list k ≡ Some x → slice_get p.entries k ≡ Some e → x.fun ≡ User i → e.body ≡ None → slice_get p.functions i ≡ Some f → is_known p.foreign f ≡ true
       → linked_to (function_name k) links ≡ Some f.at.name
 
 -- the C program simulates the update semantics: an instance's result at cost k comes within 32k + 32 steps, with the same scalars, heap and

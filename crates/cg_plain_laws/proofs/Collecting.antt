@@ -93,7 +93,7 @@ module _ (functions : List Function) (cores : Cores) where
     entries = entries_same list;
     instances = instances;
     good = good;
-    linked = λ k i x e f h g is none there. absurd (has_body (copy_at n deepest functions cores list all k x e h g) none);
+    linked = λ k i x e f h g is none there known. absurd (has_body (copy_at n deepest functions cores list all k x e h g) none);
   }
     where
       has_body : {x : Instance} {e : Entry} → IsWordCopy n deepest list x e → e.body ≡ None → ⊥
