@@ -1,0 +1,4 @@
+pub mod Closed
+mod MentionSteps
+mod TypeSteps
+mod Users

@@ -1,0 +1,50 @@
+-- What the types of an entry and of its instances may hold (docs/LANGUAGE.md, "Entries").
+use Rattle.std.specs.Prelude.{ℕ, Bool, true, false, ◌&&◌, ◌||◌, not, List, codes}
+use Rattle.std.specs.Str.{bytes_eq}
+use Rattle.cg_base.specs.declared.kind.Sigil.{Sigil}
+use Rattle.cg_base.specs.declared.kind.Sigil.TheVariants.{U}
+use Rattle.cg_base.specs.Types.{Tau, arrow, abs, variant, fields, Taus, none, more, Parts, end, part}
+
+-- an abstract type is a user's where it isn't one of those that are declared beforehand
+abbrev pub is_users : List ℕ → Bool
+is_users name = not (bytes_eq name (codes "WordArray")) && not (bytes_eq name (codes "SysState"))
+
+abbrev mutual
+  -- a type holds a function type or a user's abstract type
+  pub holds_closed : Tau → Bool
+  holds_closed (arrow a b) = true
+  holds_closed (abs name ts sigil) = is_users name || have_closed ts
+  holds_closed (variant ps) = parts_hold_closed ps
+  holds_closed (fields ps sigil) = parts_hold_closed ps
+  holds_closed t = false
+
+  pub have_closed : Taus → Bool
+  have_closed none = false
+  have_closed (more t ts) = holds_closed t || have_closed ts
+
+  pub parts_hold_closed : Parts → Bool
+  parts_hold_closed end = false
+  parts_hold_closed (part name t taken ps) = holds_closed t || parts_hold_closed ps
+
+-- a function type takes and gives what holds neither function types nor users' abstract types
+abbrev pub is_first_order : Tau → Bool
+is_first_order (arrow a b) = not (holds_closed a) && not (holds_closed b)
+is_first_order t = false
+
+-- a record that is held behind a pointer
+abbrev pub is_boxed : Sigil → Bool
+is_boxed U = false
+is_boxed s = true
+
+abbrev mutual
+  -- a boxed record or an abstract type is in a type, also in what function types take and give
+  pub needs_cells : Tau → Bool
+  needs_cells (arrow a b) = needs_cells a || needs_cells b
+  needs_cells (abs name ts sigil) = true
+  needs_cells (variant ps) = parts_need_cells ps
+  needs_cells (fields ps sigil) = is_boxed sigil || parts_need_cells ps
+  needs_cells t = false
+
+  pub parts_need_cells : Parts → Bool
+  parts_need_cells end = false
+  parts_need_cells (part name t taken ps) = needs_cells t || parts_need_cells ps
