@@ -1,0 +1,12 @@
+pub mod Fronts
+pub mod Proper
+pub mod ProperNodes
+pub mod Instances
+pub mod Structs
+pub mod Depths
+pub mod Programs
+pub mod Printed
+pub mod Stable
+pub mod Unboxed
+pub mod Without
+pub mod Whole

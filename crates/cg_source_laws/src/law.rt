@@ -1,0 +1,23 @@
+// The laws of the C of sources.
+ghost use Rattle.cg_source_laws.specs.Laws.{FunctionsStand, SourcesArePrograms, SourcesPrint, UnboxedRun};
+
+/// A function without type variables has an instance in the list of a source.
+pub fn functions_stand()
+    ensures { FunctionsStand }
+{}
+
+/// The C program of the instances of a source can be printed, where no body is deeper than 2,048.
+pub fn sources_print()
+    ensures { SourcesPrint }
+{}
+
+/// The instances of a source make a program of the update semantics over no table, whose links may be none.
+pub fn sources_are_programs()
+    ensures { SourcesArePrograms }
+{}
+
+/// Where evaluation of a function from words to words gives a value on a word at cost k, and its instance stands among bodies without cells,
+/// the C function of this instance gives the same word within 32k + 32 steps, and makes and frees no cell.
+pub fn unboxed_run()
+    ensures { UnboxedRun }
+{}
