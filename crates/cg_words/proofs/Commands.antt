@@ -2,9 +2,9 @@
 use Rattle.std.proofs.Common.{◌≡◌, ◌∙◌, true, false, true≢false, refl, sym, ap, ap₂, List, [], ◌∷◌, Option, Some, None, option_map, codes}
 use Rattle.clap.specs.Words.{Row, Rule, Text, first_of}
 use Rattle.clap.specs.Simple.{built_leaf, inherited}
-use Rattle.cg_words.specs.Apps.{bare_app, check_app, recheck_app, run_app}
-use Rattle.cg_words.specs.Matches.{check_in, recheck_by, recheck_in, run_by, run_in}
-use Rattle.cg_words.specs.Words.{check, check_names, recheck_names, run_names}
+use Rattle.cg_words.specs.Apps.{bare_app, build_app, check_app, recheck_app, run_app}
+use Rattle.cg_words.specs.Matches.{build_by, build_in, check_in, recheck_by, recheck_in, run_by, run_in}
+use Rattle.cg_words.specs.Words.{build_names, check, check_names, recheck_names, run_names}
 use Rattle.cg_words.proofs.Rows.{Slot, value_in}
 use Rattle.cg_words.proofs.Rules.{Allowed, Expects, Given, IsLeaf, as_many, listed}
 
@@ -44,6 +44,55 @@ check_expects = record {
   reads = λ rows vs n a k g e. check_reads rows vs n a g;
   wrong = check_wrong;
   twice = check_twice;
+}
+
+-- ---- `build FILE CFILE CERTFILE`
+
+abbrev pub build_rules : List Rule
+build_rules = (built_leaf (inherited bare_app.top build_app.top)).rules
+
+pub build_is_leaf : IsLeaf false build_rules
+build_is_leaf = record { steps_long = λ e. no_steps e; steps_id = λ e. no_steps e; other = λ name e. refl; short = λ x. refl; bare = refl }
+
+abbrev build_ids : List Text
+build_ids = codes "file" ∷ codes "text" ∷ codes "certificate" ∷ []
+
+build_given : (rows : List Row) (file text certificate : Text) → Given rows build_ids (file ∷ text ∷ certificate ∷ []) → build_in rows ≡ build_by (Some file) (Some text) (Some certificate)
+build_given rows file text certificate g =
+    ap₂ (λ x y. build_by x y (first_of (codes "certificate") rows)) (value_in (codes "file") (Some file) rows g.0) (value_in (codes "text") (Some text) rows g.1.0)
+    ∙ ap (build_by (Some file) (Some text)) (value_in (codes "certificate") (Some certificate) rows g.1.1.0)
+
+build_reads : (rows : List Row) (vs : List Text) (n : Option Text) → Allowed false n → Given rows build_ids vs → build_in rows ≡ build_names vs (listed n)
+build_reads rows [] n a g = absurd g
+build_reads rows (file ∷ []) n a g = absurd g.1
+build_reads rows (file ∷ text ∷ []) n a g = absurd g.1.1
+build_reads rows (file ∷ text ∷ certificate ∷ []) None a g = build_given rows file text certificate g
+build_reads rows (file ∷ text ∷ certificate ∷ []) (Some s) a g = no_steps a
+build_reads rows (file ∷ text ∷ certificate ∷ v ∷ vs) n a g = absurd g.1.1.1
+
+build_wrong : (names values : List Text) → as_many build_ids names ≡ false → build_names names values ≡ None
+build_wrong [] values e = refl
+build_wrong (file ∷ []) values e = refl
+build_wrong (file ∷ text ∷ []) values e = refl
+build_wrong (file ∷ text ∷ certificate ∷ []) values e = absurd (true≢false e)
+build_wrong (file ∷ text ∷ certificate ∷ v ∷ names) values e = refl
+
+build_twice : (names : List Text) (a b : Text) (values : List Text) → build_names names (a ∷ b ∷ values) ≡ None
+build_twice [] a b values = refl
+build_twice (file ∷ []) a b values = refl
+build_twice (file ∷ text ∷ []) a b values = refl
+build_twice (file ∷ text ∷ certificate ∷ []) a b values = refl
+build_twice (file ∷ text ∷ certificate ∷ v ∷ names) a b values = refl
+
+pub build_expects : Expects false build_rules build_in build_ids 1 build_names []
+build_expects = record {
+  numbered = (refl, refl, (refl, refl, (refl, refl, refl)));
+  apart = refl;
+  no_steps = refl;
+  lacks = λ rows k. refl;
+  reads = λ rows vs n a k g e. build_reads rows vs n a g;
+  wrong = build_wrong;
+  twice = build_twice;
 }
 
 -- ---- `recheck FILE CERTFILE`

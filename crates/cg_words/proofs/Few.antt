@@ -5,7 +5,7 @@ use Rattle.std.specs.List.{list_all}
 use Rattle.std.proofs.lemmas.Bool.Decides.{nat_tests}
 use Rattle.cg_base.specs.Bytes.{digit}
 use Rattle.cg_base.specs.Numbers.{literal_of}
-use Rattle.cg_words.specs.Words.{Command, run, Sorted, in_range, steps_in, check_names, recheck_names, run_names, called, command_of, sorted, HasFewSteps}
+use Rattle.cg_words.specs.Words.{Command, build, run, Sorted, are_apart, in_range, steps_in, check_names, build_names, recheck_names, run_names, called, command_of, sorted, HasFewSteps}
 
 in_range_few : (o : Option ℕ) (n : ℕ) → in_range o ≡ Some n → n ≤ 2 ^ 40
 in_range_few None n e = absurd (cc)
@@ -43,6 +43,18 @@ check_few (f ∷ []) [] = tt
 check_few (f ∷ []) (s ∷ values) = tt
 check_few (f ∷ g ∷ names) values = tt
 
+build_few : (names values : List (List ℕ)) → HasFewSteps (build_names names values)
+build_few [] values = tt
+build_few (f ∷ []) values = tt
+build_few (f ∷ t ∷ []) values = tt
+build_few (f ∷ t ∷ c ∷ []) [] = go (are_apart f t c)
+  where
+    go : (b : Bool) → HasFewSteps (cond b (Some (build f t c)) None)
+    go true = tt
+    go false = tt
+build_few (f ∷ t ∷ c ∷ []) (s ∷ values) = tt
+build_few (f ∷ t ∷ c ∷ g ∷ names) values = tt
+
 recheck_few : (names values : List (List ℕ)) → HasFewSteps (recheck_names names values)
 recheck_few [] values = tt
 recheck_few (f ∷ []) values = tt
@@ -57,14 +69,16 @@ called_few command few (Some s) = few s.names s.values
 
 pub few : (words : List (List ℕ)) → HasFewSteps (command_of words)
 few [] = tt
-few (word ∷ rest) = go (bytes_eq (codes "check") word) (bytes_eq (codes "recheck") word) (bytes_eq (codes "run") word)
+few (word ∷ rest) = go (bytes_eq (codes "check") word) (bytes_eq (codes "build") word) (bytes_eq (codes "recheck") word) (bytes_eq (codes "run") word)
   where
-    go : (a b c : Bool)
-        → HasFewSteps (cond a (called check_names (sorted false false rest)) (cond b (called recheck_names (sorted false false rest)) (cond c (called run_names (sorted true false rest)) None)))
-    go true b c = called_few check_names check_few (sorted false false rest)
-    go false true c = called_few recheck_names recheck_few (sorted false false rest)
-    go false false true = called_few run_names run_few (sorted true false rest)
-    go false false false = tt
+    go : (a b c d : Bool)
+        → HasFewSteps (cond a (called check_names (sorted false false rest)) (cond b (called build_names (sorted false false rest))
+        (cond c (called recheck_names (sorted false false rest)) (cond d (called run_names (sorted true false rest)) None))))
+    go true b c d = called_few check_names check_few (sorted false false rest)
+    go false true c d = called_few build_names build_few (sorted false false rest)
+    go false false true d = called_few recheck_names recheck_few (sorted false false rest)
+    go false false false true = called_few run_names run_few (sorted true false rest)
+    go false false false false = tt
 
 pub few_as : (words : List (List ℕ)) (c : Option Command) → c ≡ command_of words → HasFewSteps c
 few_as words c e = subst HasFewSteps (sym e) (few words)

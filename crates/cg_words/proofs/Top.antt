@@ -8,9 +8,9 @@ use Rattle.clap.specs.Walk.{Names, Walk, idle, walked, nothing_held, rows_after}
 use Rattle.clap.specs.Faults.{entered_fault, walk_fault, defaults_fault, flags_fault}
 use Rattle.clap.specs.Simple.{entered, names_of}
 use Rattle.cg_words.specs.Apps.{cogent_app}
-use Rattle.cg_words.specs.Matches.{check_in, command_from, recheck_in, run_in}
+use Rattle.cg_words.specs.Matches.{build_in, check_in, command_from, recheck_in, run_in}
 use Rattle.cg_words.specs.Words.{Command, command_of}
-use Rattle.cg_words.proofs.Commands.{check_expects, check_is_leaf, check_rules, recheck_expects, recheck_is_leaf, recheck_rules, run_expects, run_is_leaf, run_rules}
+use Rattle.cg_words.proofs.Commands.{build_expects, build_is_leaf, build_rules, check_expects, check_is_leaf, check_rules, recheck_expects, recheck_is_leaf, recheck_rules, run_expects, run_is_leaf, run_rules}
 use Rattle.cg_words.proofs.Sorts.{AllUtf8, Sort, dashes, first_char, other, plain, short, sort_of, steps, steps_is}
 use Rattle.cg_words.proofs.Walking.{leaf_words, out, read_of, state}
 
@@ -52,6 +52,12 @@ to_check words = rw (kept (codes "check") [] words, calm (codes "check") [] word
     (nil_end (entered_fault (built cogent_app) (Some (codes "check", words))) (entered (built cogent_app) (Some (codes "check", words)))
     ∙ read_of (entered_fault (built cogent_app) (Some (codes "check", words))) (codes "check") (rows_after check_rules [] words))
 
+to_build : (words : List Text) → answer (codes "build" ∷ words) ≡ out (codes "build") build_rules build_in false (state (codes "build") build_rules build_in false nothing_held 1 false idle) words
+unfolding walked walk_fault defaults_fault
+to_build words = rw (kept (codes "build") [] words, calm (codes "build") [] words)
+    (nil_end (entered_fault (built cogent_app) (Some (codes "build", words))) (entered (built cogent_app) (Some (codes "build", words)))
+    ∙ read_of (entered_fault (built cogent_app) (Some (codes "build", words))) (codes "build") (rows_after build_rules [] words))
+
 to_recheck : (words : List Text) → answer (codes "recheck" ∷ words) ≡ out (codes "recheck") recheck_rules recheck_in false (state (codes "recheck") recheck_rules recheck_in false nothing_held 1 false idle) words
 unfolding walked walk_fault defaults_fault
 to_recheck words = rw (kept (codes "recheck") [] words, calm (codes "recheck") [] words)
@@ -67,23 +73,23 @@ to_run words = rw (kept (codes "run") [] words, calm (codes "run") [] words)
 -- ---- a word that is no command's name
 
 abbrev IsNoName : Text → Type 0
-IsNoName w = (bytes_eq (codes "check") w ≡ false) × (bytes_eq (codes "recheck") w ≡ false) × (bytes_eq (codes "run") w ≡ false)
+IsNoName w = (bytes_eq (codes "check") w ≡ false) × (bytes_eq (codes "build") w ≡ false) × (bytes_eq (codes "recheck") w ≡ false) × (bytes_eq (codes "run") w ≡ false)
 
 behind_dashes : (w : Text) (rest : List Text) → bytes_eq w (codes "--") ≡ true → IsNoName w → answer (w ∷ rest) ≡ None
 unfolding walked walk_fault defaults_fault
-behind_dashes w [] d n = rw (n.0, n.1, n.2, d) refl
-behind_dashes w (v ∷ rest) d n = rw (n.0, n.1, n.2, d) refl
+behind_dashes w [] d n = rw (n.0, n.1, n.2, n.3, d) refl
+behind_dashes w (v ∷ rest) d n = rw (n.0, n.1, n.2, n.3, d) refl
 
 unknown : (w : Text) (rest : List Text) → IsUtf8 w → Sort false w → IsNoName w → answer (w ∷ rest) ≡ None
 unfolding walked walk_fault flags_fault
 unknown _ rest u (dashes w d o) n = behind_dashes w rest d n
 unknown _ rest u (steps y) n = absurd (true≢false (sym y))
-unknown _ rest u (steps_is w v y d i o b l) n = rw (n.0, n.1, n.2, d, l) refl
-unknown _ rest u (other w q d i o b l m) n = rw (n.0, n.1, n.2, d, l) refl
+unknown _ rest u (steps_is w v y d i o b l) n = rw (n.0, n.1, n.2, n.3, d, l) refl
+unknown _ rest u (other w q d i o b l m) n = rw (n.0, n.1, n.2, n.3, d, l) refl
 unknown _ rest u (short w x xs d i o b l sh is) n =
     let c = first_char x xs (subst IsUtf8 is u) in
-    rw (n.0, n.1, n.2, d, l, sh, c.1) refl
-unknown _ rest u (plain w d i o l sh) n = rw (n.0, n.1, n.2, d, l, sh) refl
+    rw (n.0, n.1, n.2, n.3, d, l, sh, c.1) refl
+unknown _ rest u (plain w d i o l sh) n = rw (n.0, n.1, n.2, n.3, d, l, sh) refl
 
 same_name : (t w : Text) → bytes_eq t w ≡ true → t ≡ w
 same_name t w e = (bytes_eq-Decides t w).0 e
@@ -91,21 +97,27 @@ same_name t w e = (bytes_eq-Decides t w).0 e
 abbrev Means : List Text → Type 0
 Means words = answer words ≡ command_of words
 
-by_run : (w : Text) (rest : List Text) (y : Bool) → IsUtf8 w → AllUtf8 rest → bytes_eq (codes "check") w ≡ false → bytes_eq (codes "recheck") w ≡ false → bytes_eq (codes "run") w ≡ y
-    → Means (w ∷ rest)
-by_run w rest true u v a b c = subst (λ z. Means (z ∷ rest)) (same_name (codes "run") w c)
+by_run : (w : Text) (rest : List Text) (y : Bool) → IsUtf8 w → AllUtf8 rest → bytes_eq (codes "check") w ≡ false → bytes_eq (codes "build") w ≡ false → bytes_eq (codes "recheck") w ≡ false
+    → bytes_eq (codes "run") w ≡ y → Means (w ∷ rest)
+by_run w rest true u v a b c d = subst (λ z. Means (z ∷ rest)) (same_name (codes "run") w d)
     (to_run rest ∙ leaf_words (codes "run") run_rules run_in true run_is_leaf _ _ run_expects rest v)
-by_run w rest false u v a b c = unknown w rest u (sort_of false w) (a, b, c) ∙ rw (a, b, c) refl
+by_run w rest false u v a b c d = unknown w rest u (sort_of false w) (a, b, c, d) ∙ rw (a, b, c, d) refl
 
-by_recheck : (w : Text) (rest : List Text) (y : Bool) → IsUtf8 w → AllUtf8 rest → bytes_eq (codes "check") w ≡ false → bytes_eq (codes "recheck") w ≡ y → Means (w ∷ rest)
-by_recheck w rest true u v a b = subst (λ z. Means (z ∷ rest)) (same_name (codes "recheck") w b)
+by_recheck : (w : Text) (rest : List Text) (y : Bool) → IsUtf8 w → AllUtf8 rest → bytes_eq (codes "check") w ≡ false → bytes_eq (codes "build") w ≡ false → bytes_eq (codes "recheck") w ≡ y
+    → Means (w ∷ rest)
+by_recheck w rest true u v a b c = subst (λ z. Means (z ∷ rest)) (same_name (codes "recheck") w c)
     (to_recheck rest ∙ leaf_words (codes "recheck") recheck_rules recheck_in false recheck_is_leaf _ _ recheck_expects rest v)
-by_recheck w rest false u v a b = by_run w rest (bytes_eq (codes "run") w) u v a b refl
+by_recheck w rest false u v a b c = by_run w rest (bytes_eq (codes "run") w) u v a b c refl
+
+by_build : (w : Text) (rest : List Text) (y : Bool) → IsUtf8 w → AllUtf8 rest → bytes_eq (codes "check") w ≡ false → bytes_eq (codes "build") w ≡ y → Means (w ∷ rest)
+by_build w rest true u v a b = subst (λ z. Means (z ∷ rest)) (same_name (codes "build") w b)
+    (to_build rest ∙ leaf_words (codes "build") build_rules build_in false build_is_leaf _ _ build_expects rest v)
+by_build w rest false u v a b = by_recheck w rest (bytes_eq (codes "recheck") w) u v a b refl
 
 by_check : (w : Text) (rest : List Text) (y : Bool) → IsUtf8 w → AllUtf8 rest → bytes_eq (codes "check") w ≡ y → Means (w ∷ rest)
 by_check w rest true u v a = subst (λ z. Means (z ∷ rest)) (same_name (codes "check") w a)
     (to_check rest ∙ leaf_words (codes "check") check_rules check_in false check_is_leaf _ _ check_expects rest v)
-by_check w rest false u v a = by_recheck w rest (bytes_eq (codes "recheck") w) u v a refl
+by_check w rest false u v a = by_build w rest (bytes_eq (codes "build") w) u v a refl
 
 -- clap's answer is the definition's
 pub exact : (words : List Text) → AllUtf8 words → answer words ≡ command_of words

@@ -17,6 +17,9 @@ named word ids = record (new_app word) { top = record (new_app word).top { rules
 abbrev pub check_app : App
 check_app = named (codes "check") (codes "file" ∷ [])
 
+abbrev pub build_app : App
+build_app = named (codes "build") (codes "file" ∷ codes "text" ∷ codes "certificate" ∷ [])
+
 abbrev pub recheck_app : App
 recheck_app = named (codes "recheck") (codes "file" ∷ codes "certificate" ∷ [])
 
@@ -35,5 +38,9 @@ bare_app = record (new_app (codes "cogent")) {
   };
 }
 
+-- with its commands on a source alone, and with all
+abbrev pub source_app : App
+source_app = with_subcommand (with_subcommand bare_app check_app.top) build_app.top
+
 abbrev pub cogent_app : App
-cogent_app = with_subcommand (with_subcommand (with_subcommand bare_app check_app.top) recheck_app.top) run_app.top
+cogent_app = with_subcommand (with_subcommand source_app recheck_app.top) run_app.top

@@ -2,7 +2,12 @@
 use Rattle.std.specs.Prelude.{List, [], Option, Some, None, codes, if◌then◌else◌, option_map}
 use Rattle.std.specs.Str.{bytes_eq}
 use Rattle.clap.specs.Words.{Kinds, Row, Text, first_of}
-use Rattle.cg_words.specs.Words.{Command, check, recheck, run, default_steps, steps_in}
+use Rattle.cg_words.specs.Words.{Command, check, recheck, run, build_apart, default_steps, steps_in}
+
+-- `build`, by the names
+abbrev pub build_by : Option Text → Option Text → Option Text → Option Command
+build_by (Some file) (Some text) (Some certificate) = build_apart file text certificate
+build_by _ _ _ = None
 
 -- `recheck`, by the names
 abbrev pub recheck_by : Option Text → Option Text → Option Command
@@ -18,6 +23,9 @@ run_by _ _ _ _ = None
 abbrev pub check_in : List Row → Option Command
 check_in rows = option_map check (first_of (codes "file") rows)
 
+abbrev pub build_in : List Row → Option Command
+build_in rows = build_by (first_of (codes "file") rows) (first_of (codes "text") rows) (first_of (codes "certificate") rows)
+
 abbrev pub recheck_in : List Row → Option Command
 recheck_in rows = recheck_by (first_of (codes "file") rows) (first_of (codes "certificate") rows)
 
@@ -26,7 +34,7 @@ run_in rows = run_by (first_of (codes "file") rows) (first_of (codes "entry") ro
 
 -- the matches of the command with this name
 abbrev pub command_in : Text → List Row → Option Command
-command_in name rows = if bytes_eq name (codes "check") then check_in rows else if bytes_eq name (codes "recheck") then recheck_in rows else run_in rows
+command_in name rows = if bytes_eq name (codes "check") then check_in rows else if bytes_eq name (codes "build") then build_in rows else if bytes_eq name (codes "recheck") then recheck_in rows else run_in rows
 
 -- what clap's answer calls for, by the faults that it finds and the subcommand that it enters
 abbrev pub command_from : Kinds → Option (Text × List Row) → Option Command

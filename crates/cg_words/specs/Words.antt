@@ -1,5 +1,5 @@
 -- The commands, and the words that call for them (docs/LANGUAGE.md, "Commands").
-use Rattle.std.specs.Prelude.{ℕ, ◌^◌, ◌≤◌, ⊤, Bool, true, false, ◌==◌, ◌&&◌, nat_le, List, [], ◌∷◌, map, length, String, string_bytes, Option, Some, None, option_map, option_and_then, codes, if◌then◌else◌}
+use Rattle.std.specs.Prelude.{ℕ, ◌^◌, ◌≤◌, ⊤, Bool, true, false, ◌==◌, ◌&&◌, nat_le, not, List, [], ◌∷◌, map, length, String, string_bytes, Option, Some, None, option_map, option_and_then, codes, if◌then◌else◌}
 use Rattle.std.specs.declared.alloc.Global.{Global}
 use Rattle.std.specs.List.{list_all}
 use Rattle.std.specs.Str.{bytes_eq}
@@ -10,10 +10,11 @@ use Rattle.cg_base.specs.Numbers.{literal_of}
 abbrev pub texts : List (String Global) → List (List ℕ)
 texts words = map string_bytes words
 
--- a command: `check` of a file; `recheck` of a file and a certificate; `run` of a file, an entry and a heap file, with the number of steps at
+-- a command: `check` of a file; `build` of a file, into a C file and a certificate; `recheck` of a file and a certificate; `run` of a file, an entry and a heap file, with the number of steps at
 -- most
 pub data Command : Type 0 where
   check : List ℕ → Command
+  build : List ℕ → List ℕ → List ℕ → Command
   recheck : List ℕ → List ℕ → Command
   run : List ℕ → List ℕ → List ℕ → ℕ → Command
 
@@ -81,6 +82,18 @@ abbrev pub check_names : List (List ℕ) → List (List ℕ) → Option Command
 check_names (file ∷ []) [] = Some (check file)
 check_names _ _ = None
 
+-- no two of three names are one
+abbrev pub are_apart : List ℕ → List ℕ → List ℕ → Bool
+are_apart a b c = not (bytes_eq a b) && (not (bytes_eq a c) && not (bytes_eq b c))
+
+-- `build FILE CFILE CERTFILE`, of three names that are apart
+abbrev pub build_apart : List ℕ → List ℕ → List ℕ → Option Command
+build_apart file text certificate = if are_apart file text certificate then Some (build file text certificate) else None
+
+abbrev pub build_names : List (List ℕ) → List (List ℕ) → Option Command
+build_names (file ∷ text ∷ certificate ∷ []) [] = build_apart file text certificate
+build_names _ _ = None
+
 -- `recheck FILE CERTFILE`
 abbrev pub recheck_names : List (List ℕ) → List (List ℕ) → Option Command
 recheck_names (file ∷ certificate ∷ []) [] = Some (recheck file certificate)
@@ -102,6 +115,7 @@ abbrev pub command_of : List (List ℕ) → Option Command
 command_of [] = None
 command_of (word ∷ rest) =
     if bytes_eq (codes "check") word then called check_names (sorted false false rest)
+    else if bytes_eq (codes "build") word then called build_names (sorted false false rest)
     else if bytes_eq (codes "recheck") word then called recheck_names (sorted false false rest)
     else if bytes_eq (codes "run") word then called run_names (sorted true false rest)
     else None
@@ -110,5 +124,6 @@ command_of (word ∷ rest) =
 abbrev pub HasFewSteps : Option Command → Type 0
 HasFewSteps None = ⊤
 HasFewSteps (Some (check file)) = ⊤
+HasFewSteps (Some (build file text certificate)) = ⊤
 HasFewSteps (Some (recheck file certificate)) = ⊤
 HasFewSteps (Some (run file entry heap steps)) = steps ≤ 2 ^ 40

@@ -2,7 +2,7 @@
 ghost use Rattle.std.specs.Prelude.{◌≡◌, false, map, IfOk};
 ghost use Rattle.clap.specs.Words.{app_of, rule_of, shape_of};
 ghost use Rattle.clap.specs.declared.builder.command.Command.TheViews.{out-Command as fields_of};
-ghost use Rattle.cg_words.specs.Apps.{bare_app, cogent_app, name_rule, named, run_app};
+ghost use Rattle.cg_words.specs.Apps.{bare_app, cogent_app, name_rule, named, run_app, source_app};
 
 use clap::{Arg, Command};
 use std::alloc::{AllocError, Global};
@@ -49,12 +49,20 @@ fn bare<'a>(alloc: Global) -> Command<'a>
         .subcommand_required(true)
 }
 
+/// The command line with its commands on a source alone.
+fn on_sources<'a>(alloc: Global) -> Result<Command<'a>, AllocError>
+    ensures { IfOk result (λ c. app_of c ≡ source_app) }
+{
+    bare(alloc)
+        .subcommand(command(alloc, "check", &["file"])?)?
+        .subcommand(command(alloc, "build", &["file", "text", "certificate"])?)
+}
+
 /// The whole command line.
 pub(crate) fn cogent<'a>(alloc: Global) -> Result<Command<'a>, AllocError>
     ensures { IfOk result (λ c. app_of c ≡ cogent_app) }
 {
-    bare(alloc)
-        .subcommand(command(alloc, "check", &["file"])?)?
+    on_sources(alloc)?
         .subcommand(command(alloc, "recheck", &["file", "certificate"])?)?
         .subcommand(run(alloc)?)
 }

@@ -3,7 +3,7 @@ ghost use Rattle.std.specs.Prelude.{◌≡◌, IfOk};
 ghost use Rattle.std.specs.Option.{option_map};
 ghost use Rattle.clap.specs.Words.{fault_of, first_of, found_of, rows_of, subcommand_of};
 ghost use Rattle.cg_words.specs.Apps.{cogent_app};
-ghost use Rattle.cg_words.specs.Matches.{check_in, command_from, command_in, recheck_in, run_in};
+ghost use Rattle.cg_words.specs.Matches.{build_in, check_in, command_from, command_in, recheck_in, run_in};
 ghost use Rattle.cg_words.specs.Views.{command_view};
 ghost use Rattle.cg_words.specs.Words.{command_of, texts, HasFewSteps};
 
@@ -17,11 +17,16 @@ use std::alloc::Global;
 /// The number of steps where none is asked for.
 const DEFAULT_STEPS: u64 = 10_000_000;
 
-/// A command: `check FILE`, `recheck FILE CERTFILE`, or `run FILE ENTRY HEAPFILE [--steps N]` (docs/LANGUAGE.md, "Commands").
+/// A command: `check FILE`, `build FILE CFILE CERTFILE`, whose names are apart, `recheck FILE CERTFILE`, or `run FILE ENTRY HEAPFILE [--steps N]` (docs/LANGUAGE.md, "Commands").
 #[derive(Clone, Copy)]
 pub enum Command<'a> {
     Check {
         file: &'a str,
+    },
+    Build {
+        file: &'a str,
+        text: &'a str,
+        certificate: &'a str,
     },
     Recheck {
         file: &'a str,
@@ -50,6 +55,28 @@ fn read_check<'a>(matches: &ArgMatches<'a>) -> Option<Command<'a>>
         Some(file) => Some(Command::Check { file }),
         None => None,
     }
+}
+
+/// `build`, by what clap found.
+fn read_build<'a>(matches: &ArgMatches<'a>) -> Option<Command<'a>>
+    ensures { option_map command_view result ≡ build_in (rows_of (found_of matches.now)) }
+{
+    let names = (
+        text_of(matches, "file"),
+        text_of(matches, "text"),
+        text_of(matches, "certificate"),
+    );
+    let (Some(file), Some(text), Some(certificate)) = names else {
+        return None;
+    };
+    if file == text || file == certificate || text == certificate {
+        return None;
+    }
+    Some(Command::Build {
+        file,
+        text,
+        certificate,
+    })
 }
 
 /// `recheck`, by what clap found.
@@ -93,6 +120,8 @@ fn read<'a>(name: &str, matches: &ArgMatches<'a>) -> Option<Command<'a>>
 {
     if name == "check" {
         read_check(matches)
+    } else if name == "build" {
+        read_build(matches)
     } else if name == "recheck" {
         read_recheck(matches)
     } else {
