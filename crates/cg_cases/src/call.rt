@@ -1,4 +1,5 @@
 // What a case's call answers, as a text.
+use crate::built::built_text;
 use crate::case::{Called, Case};
 use crate::crun::run_text;
 use crate::ctext::read_c_text;
@@ -6,7 +7,6 @@ use crate::evaluation::eval_text;
 use crate::instances::{copies_text, count_text};
 use crate::kernel::kernel_text;
 use crate::limit::limit_name;
-use crate::lowered::lowered_text;
 use crate::store::store_text;
 use cg_base::{Name, Place};
 use cg_declared::Declarations;
@@ -99,6 +99,15 @@ fn words_text(alloc: Global, words: &[String]) -> Result<String, AllocError> {
     match read_words(alloc, words) {
         Ok(None) => String::from_str(alloc, "none\n"),
         Ok(Some(Command::Check { file })) => Ok(format!(in alloc; "check {file}\n")?),
+        Ok(
+            Some(
+                Command::Build {
+                    file,
+                    text,
+                    certificate,
+                },
+            ),
+        ) => Ok(format!(in alloc; "build {file} {text} {certificate}\n")?),
         Ok(Some(Command::Recheck { file, certificate })) => {
             Ok(format!(in alloc; "recheck {file} {certificate}\n")?)
         }
@@ -142,7 +151,7 @@ fn called(
         b"kernel" => resolve_text(alloc, source, true),
         b"instances" => count_text(alloc, source),
         b"mono" => copies_text(alloc, source),
-        b"lowered" => lowered_text(alloc, words, source),
+        b"built" => built_text(alloc, words, source),
         b"store" => store_text(alloc, words),
         _ => String::from_str(alloc, "no such call\n"),
     }

@@ -4,6 +4,7 @@
 
 mod accepted;
 mod answer;
+mod built;
 mod call;
 mod case;
 mod cells;
@@ -13,7 +14,6 @@ mod evaluation;
 mod instances;
 mod kernel;
 mod limit;
-mod lowered;
 mod reader;
 mod store;
 mod text;

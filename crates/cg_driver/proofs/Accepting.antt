@@ -2,12 +2,14 @@
 -- certificate spells a derivation of the source.
 use Rattle.std.proofs.Common.{◌≡◌, ◌∙◌, ◌+◌, ◌≤◌, ◌⊎◌, inl, inr, ℕ, List, [], ◌∷◌, ◌++◌, Option, Some, None, take, length, refl, sym, ap, subst, arith}
 use Rattle.std.proofs.lemmas.List.{take_all, length-take}
+use Rattle.std.specs.FinMap.{insert}
 use Rattle.cg_base.specs.declared.limit.Limit.TheVariants.{Nesting, Functions, Fields, Ty, Depth}
 use Rattle.cg_cert.specs.declared.cert.Cert.{Cert}
 use Rattle.cg_cert.specs.Texts.{CertText}
 use Rattle.cg_certcheck_laws.specs.Laws.{SpellsDerivation}
 use Rattle.cg_check.specs.Judged.{AreTypesWithin}
 use Rattle.cg_circles.specs.Circles.{NoCircle}
+use Rattle.cg_collect.specs.Collected.{Copy}
 use Rattle.cg_desugar.specs.Faults.{program_faults}
 use Rattle.cg_desugar.specs.Mentions.{mentions}
 use Rattle.cg_desugar.specs.Takes.{missing_fields, widest_part, largest_type}
@@ -17,26 +19,33 @@ use Rattle.cg_surface.specs.Programs.{Entry, program_depth}
 use Rattle.cg_typing.specs.Accepted.{IsAcceptedKernel}
 use Rattle.cg_core.specs.Kernels.{Function}
 use Rattle.cg_desugar.specs.Desugar.{functions_of, functions_limit, parts_limit, type_limit, term_limit, deepest_body}
-use Rattle.cg_outside.specs.Held.{Held, bytes_at}
+use Rattle.cg_outside.specs.Held.{Held, IsReadOf, bytes_at, with_file}
 use Rattle.cg_steps.specs.declared.status.Status.TheVariants.{Done}
 use Rattle.cg_steps.specs.World.{World, calm}
-use Rattle.cg_steps.specs.Steps.{goes, Step, Runs, Settles, WritesNone, judged_first}
+use Rattle.cg_steps.specs.Steps.{goes, Step, Runs, Settles, judged_first}
 use Rattle.cg_steps.specs.Scripts.{ComesTo}
 use Rattle.cg_steps.proofs.Joining.{judged_runs}
 use Rattle.cg_steps.proofs.Topping.{came_done}
-use Rattle.cg_words.specs.Words.{Command, check, recheck, run}
-use Rattle.cg_driver.specs.Accepted.{HasKernel, IsAcceptedSource, IsCertifiedSource}
-use Rattle.cg_driver.specs.Commands.{Judgement, spelled, within, acyclic, with_fields, written, certified, Judges, kernel_rules, resolving_rules, reading_rules, source_rules, certificate_rules, reads_source, certificate_steps, recheck_steps, script_of}
-use Rattle.cg_driver.specs.Found.{Found, nothing, with_source, with_program, with_certificate, with_cert, functions, source_limit, certificate_limit}
+use Rattle.cg_words.specs.Words.{Command, check, build, recheck, run}
+use Rattle.cg_driver.specs.Accepted.{BuildWrites, HasKernel, IsAcceptedSource, IsBuiltSource, IsCertifiedSource, WritesItsOwn}
+use Rattle.cg_driver.specs.Commands.{Judgement, spelled, within, acyclic, with_fields, written, certified, instanced, certifiable, Judges, kernel_rules, resolving_rules, reading_rules, source_rules, built_rules, certificate_rules, reads_source, build_steps, writes_both, certificate_steps, recheck_steps, script_of}
+use Rattle.cg_driver.specs.Found.{Found, nothing, with_source, with_program, with_copies, with_certificate, with_cert, functions, source_limit, certificate_limit}
+use Rattle.cg_driver.specs.Instanced.{HasInstances, certified_text, emitted}
 use Rattle.cg_driver.proofs.Judging.{ruling}
 use Rattle.cg_driver.proofs.Saying.{accepted_settles, reading_settles}
 
--- no command writes
-pub no_writes : (c : Option Command) → WritesNone (script_of c).steps
-no_writes None = tt
-no_writes (Some (check file)) = tt
-no_writes (Some (recheck file certificate)) = tt
-no_writes (Some (run file entry heap steps)) = tt
+-- `build` alone writes, and its own files
+pub own_writes : (c : Option Command) → WritesItsOwn c
+own_writes None = tt
+own_writes (Some (check file)) = tt
+own_writes (Some (build file text certificate)) = one_of
+  where
+    one_of : (name : List ℕ) → (name ≡ text) ⊎ ((name ≡ certificate) ⊎ ⊥) → (name ≡ text) ⊎ (name ≡ certificate)
+    one_of name (inl e) = inl e
+    one_of name (inr (inl e)) = inr e
+    one_of name (inr (inr e)) = absurd e
+own_writes (Some (recheck file certificate)) = tt
+own_writes (Some (run file entry heap steps)) = tt
 
 -- bytes within the limit were read whole
 whole : (most : ℕ) (bytes read : List ℕ) → read ≡ take (most + 1) bytes → length read ≤ most → read ≡ bytes
@@ -147,6 +156,65 @@ all_accepted held file a =
     let next = with_program a.1.program f in
     let settles = accepted_settles file (bytes_at held file) a.0 a.1 f (short_whole source_limit (bytes_at held file) a.1.short) in
     (goes next, held, inr (f, calm held, (bytes, refl, refl, refl), judged_runs Judges (source_rules file) [] f next (calm held) (calm held) (goes next) settles (refl, refl)), refl)
+
+-- ---- building
+
+-- the judgement of instances
+lists : (Q : Type 0) (js : List Judgement) (f n : Found)
+    → (⊥ × Q) ⊎ ((next : Found) × ((copies : List Copy) × (next ≡ with_copies copies f) × HasInstances (functions f) copies) × Settles Judges js next (goes n))
+    → (copies : List Copy) × HasInstances (functions f) copies × Settles Judges js (with_copies copies f) (goes n)
+lists Q js f n (inl r) = absurd r.0
+lists Q js f n (inr r) = (r.1.0, r.1.2, subst (λ x. Settles Judges js x (goes n)) r.1.1 r.2)
+
+-- both writes
+record AreWritten (held : Option Held) (text certificate : List ℕ) (m n : Found) (new : World) : Type 0 where
+  same : n ≡ m
+  files : new.held ≡ with_file (with_file held text (emitted m.copies)) certificate (certified_text (functions m))
+
+written_both : (text certificate : List ℕ) (m n : Found) (old new : World) → Runs Judges (writes_both text certificate) m old (goes n) new → AreWritten old.held text certificate m n new
+written_both text certificate m n old new (inl r) = absurd r.0
+written_both text certificate m n old new (inr (f, between, (same, first), inl r)) = absurd r.0
+written_both text certificate m n old new (inr (f, between, (same, first), inr (g, last, (same', second), (end, stay)))) =
+    let there : goes n ≡ goes g = end in
+    let is : n ≡ g = cc in
+    record {
+      same = is ∙ same' ∙ same;
+      files = ap (λ w. w.held) stay ∙ second.held ∙ ap (λ h. with_file h certificate (certified_text (functions f))) first.held
+          ∙ ap (λ x. with_file (with_file old.held text (emitted m.copies)) certificate (certified_text (functions x))) same;
+    }
+
+built_of : (held : Held) (file text certificate : List ℕ) (f n : Found) (old new : World) → old.held ≡ Some held → (length f.source ≤ source_limit → f.source ≡ bytes_at held file)
+    → Runs Judges (build_steps file text certificate) f old (goes n) new → IsBuiltSource held file text certificate n new
+built_of held file text certificate f n old new told source r =
+    let steps = parted_steps (built_rules file) (writes_both text certificate) f old new n r in
+    let m = steps.0 in
+    let rules = parted (source_rules file) (instanced ∷ certifiable ∷ []) f m steps.1 in
+    let g = rules.0 in
+    let accepted = accepted_of file f g rules.1 in
+    let listed = lists _ (certifiable ∷ []) g m rules.2 in
+    let h = with_copies listed.0 g in
+    let brief = stays (length (certified_text (functions h)) ≤ certificate_limit) _ [] h m listed.2 in
+    let end : goes m ≡ goes h = brief.1 in
+    let is : m ≡ h = cc in
+    let written = written_both text certificate m n old new steps.2 in
+    let last : n ≡ h = written.same ∙ is in
+    let whole_source = subst (λ x. IsAcceptedSource x (functions g)) (source accepted.short) accepted in
+    record {
+      accepted = subst (λ x. IsAcceptedSource (bytes_at held file) (functions x)) (sym last) whole_source;
+      instances = subst (λ x. HasInstances (functions x) x.copies) (sym last) listed.1;
+      brief = subst (λ x. length (certified_text (functions x)) ≤ certificate_limit) (sym last) brief.0;
+      files = written.files ∙ ap (λ o. with_file (with_file o text (emitted m.copies)) certificate (certified_text (functions m))) told
+          ∙ ap (λ x. Some (insert (insert held text (emitted x.copies)) certificate (certified_text (functions x)))) (sym written.same);
+    }
+
+pub built_source : BuildWrites
+built_source held file text certificate found old new told (inl r) = absurd r.0
+built_source held file text certificate found old new told (inr r) =
+    let is : r.0.source ≡ take (source_limit + 1) (bytes_at held file) = ap (λ f. f.source) r.2.2 ∙ read_is held old.held file r.2.0 told r.2.1 in
+    built_of held file text certificate r.0 found old new told (whole source_limit (bytes_at held file) r.0.source is) (subst (λ w. Runs Judges (build_steps file text certificate) r.0 w (goes found) new) r.2.3 r.3)
+  where
+    read_is : (held : Held) (o : Option Held) (file bytes : List ℕ) → o ≡ Some held → IsReadOf o file source_limit bytes → bytes ≡ take (source_limit + 1) (bytes_at held file)
+    read_is held o file bytes told read = subst (λ x. IsReadOf x file source_limit bytes) told read
 
 -- ---- certificates
 

@@ -8,7 +8,7 @@ use Rattle.cg_core.specs.Kernels.{Function, Body}
 use Rattle.cg_core.specs.Terms.{Note, Tree}
 use Rattle.cg_typing.specs.Kept.{IsKeptBody, IsKeptMaybe, IsKept, AreKept}
 use Rattle.cg_typing.specs.Accepted.{kinds_of_vars}
-use Rattle.cg_driver.specs.Run.{AreCores}
+use Rattle.cg_driver.specs.Instanced.{AreCores}
 
 none_kept : (functions : List Function) (vars : List Kinds) (a r : Tau) (c : Option (Tree Note)) (d : Option Derivation) → IsKeptMaybe functions vars a r None c d → c ≡ None
 none_kept functions vars a r None d k = refl

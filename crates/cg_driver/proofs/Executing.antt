@@ -1,29 +1,28 @@
 -- From the parts of the two runs of a function to what is said of them.
-use Rattle.std.proofs.Common.{◌≡◌, ℕ, zero, suc, true, List, [], ◌∷◌, inl, inr, Option, Some, Result, Ok, Err, length, map, refl, sym, ap, ◌∙◌, subst, rules}
-use Rattle.std.specs.Prelude.{IfOk, Vec, string_bytes}
-use Rattle.std.specs.declared.alloc.Global.{Global}
+use Rattle.std.proofs.Common.{◌≡◌, ◌<◌, ◌^◌, ◌&&◌, ℕ, zero, suc, Bool, true, false, true≢false, List, [], ◌∷◌, inl, inr, Option, Some, Result, Ok, Err, length, map, refl, sym, ap, ◌∙◌, subst, rules}
+use Rattle.std.specs.Prelude.{IfOk, string_bytes}
 use Rattle.cg_base.specs.declared.fun.Fun.TheVariants.{User}
-use Rattle.cg_base.specs.declared.kind.Word.TheVariants.{U32}
 use Rattle.cg_base.specs.declared.memory.Memory.{Memory}
 use Rattle.cg_base.specs.declared.place.Place.{Place}
+use Rattle.cg_collect.specs.Collected.{Copy}
 use Rattle.cg_core.specs.declared.term.Term.{Term}
 use Rattle.cg_core.specs.declared.term.Typed.{Typed}
-use Rattle.cg_core.specs.Kernels.{Function, kernel_of}
 use Rattle.cg_cread.specs.Answers.{Answers}
 use Rattle.cg_cread.specs.declared.fault.CFault.TheVariants.{Text}
-use Rattle.cg_ctext.specs.Printed.{printed}
 use Rattle.cg_ctree.specs.declared.tree.CProgram.{CProgram}
-use Rattle.cg_ctree.specs.Runs as old
 use Rattle.cg_ctree.specs.Spells.{CSpells}
 use Rattle.cg_ctree.specs.Trees.{Program, program_of}
+use Rattle.cg_inst.specs.Judged.{core_in}
+use Rattle.cg_lower_laws.specs.Lowered.{function_name}
+use Rattle.cg_lowering.specs.Promises.{IsSimulated}
 use Rattle.cg_machine.specs.Evaluation.{Table, evaluation, IsSpent}
 use Rattle.cg_machine.specs.Foreigns.{table_of, table_over}
-use Rattle.cg_lower.specs.Lowered.{lowered, function_name}
-use Rattle.cg_lower.specs.Plainly.{Simulates}
-use Rattle.cg_lower.specs.Ranks.{bodies_of}
 use Rattle.cg_plain.specs.Plain.{plain_kernel}
+use Rattle.cg_plain_laws.specs.Laws.{PlainRuns, are_monomorphic}
+use Rattle.cg_source_laws.specs.Laws.{copies_in}
 use Rattle.cg_typing.specs.declared.checked.Checked.{Checked}
-use Rattle.cg_typing.specs.Holds.{kernel_in, cores_in, kept_at}
+use Rattle.cg_typing.specs.Holds.{cores_in, kept_at}
+use Rattle.cg_typing.specs.Instances.{Instance}
 use Rattle.cg_typing.specs.Kept.{maybe_core}
 use Rattle.cg_value.specs.NoForeign.{no_foreign}
 use Rattle.cg_value.specs.declared.value.Value.{the_lemmas}
@@ -33,14 +32,15 @@ use Rattle.cg_steps.specs.declared.report.Report.{Report}
 use Rattle.cg_steps.specs.declared.status.Status.{Status}
 use Rattle.cg_steps.specs.declared.status.Status.TheVariants.{Done, Refused, Usage, ReadFault, WriteFault, Memory as NoMemory, StepLimit, HeapRefused, CertRefused, TooLarge}
 use Rattle.cg_steps.specs.Steps.{refuses, goes}
-use Rattle.cg_driver.specs.Executed.{cores_of, Writes, Emits, Gives, GivesAlike, Machines, Executes}
+use Rattle.cg_steps.specs.Parts.{IsLine, Reports, Rules}
+use Rattle.cg_driver.specs.Built.{IsListed, KeepsCopies}
+use Rattle.cg_driver.specs.Commands.{Judges, evaluated, is_plain, ran_lines}
+use Rattle.cg_driver.specs.Executed.{cores_of, Emits, Ends, Gives, Machines, Executes}
+use Rattle.cg_driver.specs.Found.{Found, functions, with_value}
+use Rattle.cg_driver.specs.Instanced.{IsMeant, bodies_in, emitted}
 use Rattle.cg_driver.specs.Judged.{functions_in, HoldsCores}
 use Rattle.cg_driver.specs.Lines.{report, step_limit_line}
-use Rattle.cg_steps.specs.Parts.{IsLine, Reports, Rules}
-use Rattle.cg_driver.specs.Commands.{Judges, evaluated, ran_lines}
-use Rattle.cg_driver.specs.Found.{Found, functions, with_value}
-use Rattle.cg_driver.specs.Run.{bodies_in, table_in, emitted, budget, RunsTo}
-use Rattle.cg_driver.proofs.OnWords.{runs_to}
+use Rattle.cg_driver.specs.Run.{RunsTo, budget, table_in}
 use Rattle.cg_driver.proofs.Saying.{line_says}
 
 -- ---- the cores of a checked source, as the code keeps them and as plain trees
@@ -50,49 +50,61 @@ body_same [] i = refl
 body_same (c ∷ cores) zero = refl
 body_same (c ∷ cores) (suc i) = body_same cores i
 
-bodies_same : (cores : List (Option (Term Typed))) → bodies_of cores ≡ bodies_in (map maybe_core cores)
-bodies_same cores = λ j i. body_same cores i j
+pub bodies_same : (checked : Checked) → core_in checked ≡ bodies_in (cores_of checked)
+bodies_same checked = λ j i. body_same (cores_in checked) i j
 
 table_same : (checked : Checked) → table_of no_foreign checked ≡ table_in (functions_in checked) (cores_of checked)
-table_same checked = ap (table_over no_foreign (functions_in checked)) (bodies_same (cores_in checked))
+table_same checked = ap (table_over no_foreign (functions_in checked)) (bodies_same checked)
 
 -- ---- the text
 
-emitted_is : (checked : Checked) (p : Program) (text : List ℕ) → p ≡ lowered (bodies_of (cores_in checked)) (length (kernel_of (kernel_in checked))) → text ≡ printed p
-    → text ≡ emitted (functions_in checked) (cores_of checked)
-emitted_is checked p text made exactly =
-    exactly ∙ ap printed made ∙ ap (λ b. printed (lowered b (length (kernel_of (kernel_in checked))))) (bodies_same (cores_in checked))
-
--- what is printed of the lowered source is its text
-pub writes : (checked : Checked) (p : Program) → p ≡ lowered (bodies_of (cores_in checked)) (length (functions_in checked)) → Simulates checked p
-    → (r : Result (Vec ℕ Global) Memory) → IfOk r (λ text. CSpells text.items p) → IfOk r (λ text. text.items ≡ printed p) → IfOk r (λ text. Writes checked text.items)
-writes checked p made simulates (Ok text) spelled exactly = record { program = p; made = made; simulates = simulates; spelled = spelled; exactly = exactly }
-writes checked p made simulates (Err e) spelled exactly = tt
-
--- a program that is the lowered source gives what evaluation gives
-gives_alike : (checked : Checked) (p : Program) → plain_kernel (functions_in checked) ≡ true → p ≡ lowered (bodies_of (cores_in checked)) (length (functions_in checked)) → Simulates checked p
-    → GivesAlike checked p
-gives_alike checked p plain made simulates at arg steps cost value there small gives =
-    let s = simulates plain at steps cost arg value there small gives in
-    let moved = subst (λ q. old.crun (budget cost) q (function_name at) (arg ∷ []) ≡ old.done (old.typed U32 s.0) s.3) made s.4 in (
-      s.0,
-      s.1,
-      s.3,
-      subst (λ q. RunsTo q (function_name at) arg (budget cost) s.0 s.3) (sym made)
-          (runs_to (bodies_of (cores_in checked)) (length (functions_in checked)) (budget cost) (function_name at) arg s.0 s.3 moved),
-    )
-
 -- the program that is read back is the one that was written
-pub emits : (checked : Checked) (read : CProgram) (text bytes : List ℕ) → plain_kernel (functions_in checked) ≡ true → Writes checked text → bytes ≡ text → Answers bytes (Ok read) → Emits checked read
-emits checked read text bytes plain w same answer =
-    let is : w.program ≡ program_of read = answer.1 w.program (subst (λ b. CSpells b w.program) (sym same) w.spelled) in
+pub emits : (copies : List Copy) (read : CProgram) (text bytes : List ℕ) → text ≡ emitted copies → IsMeant copies → bytes ≡ text → Answers bytes (Ok read) → Emits copies read
+emits copies read text bytes is m same answer =
     record {
-      spelled = subst (λ b. CSpells b (program_of read)) (same ∙ emitted_is checked w.program text w.made w.exactly) answer.0;
-      alike = subst (GivesAlike checked) is (gives_alike checked w.program plain w.made w.simulates);
+      spelled = subst (λ b. CSpells b (program_of read)) (same ∙ is) answer.0;
+      simulates = subst (IsSimulated copies) (answer.1 m.program (subst (λ b. CSpells b m.program) (sym (same ∙ is)) m.spelled)) m.simulates;
     }
 
-pub unreadable : (checked : Checked) (text bytes : List ℕ) (place : Place) → Writes checked text → bytes ≡ text → Answers bytes (Err (Text place)) → ⊥
-unreadable checked text bytes place w same answer = answer.4 w.program (subst (λ b. CSpells b w.program) (sym same) w.spelled)
+pub unreadable : (copies : List Copy) (text bytes : List ℕ) (place : Place) → text ≡ emitted copies → IsMeant copies → bytes ≡ text → Answers bytes (Err (Text place)) → ⊥
+unreadable copies text bytes place is m same answer = answer.4 m.program (subst (λ b. CSpells b m.program) (sym (same ∙ is)) m.spelled)
+
+-- ---- the run
+
+both_true : (a b : Bool) → (a && b) ≡ true → (a ≡ true) × (b ≡ true)
+both_true true b h = (refl, h)
+both_true false b h = absurd (true≢false (sym h))
+
+pub plain_of : (checked : Checked) → is_plain (functions_in checked) ≡ true → plain_kernel (functions_in checked) ≡ true
+plain_of checked plain = (both_true (plain_kernel (functions_in checked)) (are_monomorphic (functions_in checked)) plain).0
+
+-- the C of a function gives what evaluation gives
+pub runs_alike : PlainRuns → (checked : Checked) (list : List Instance) (program : CProgram) → is_plain (functions_in checked) ≡ true → IsListed checked list
+    → Emits (copies_in checked list) program → (at arg steps cost : ℕ) (value : Val) → at < length (functions_in checked) → arg < 2 ^ 32 → Gives checked at arg steps value cost
+    → (result : ℕ) × (value ≡ number result) × (left : ℕ) × RunsTo (program_of program) (function_name at) arg (budget cost) result left
+runs_alike law checked list program plain within e at arg steps cost value there small gives =
+    let p = both_true (plain_kernel (functions_in checked)) (are_monomorphic (functions_in checked)) plain in
+    let r = law checked list (program_of program) p.0 p.1 within.is e.simulates at steps cost arg value there small gives in
+    (r.0, r.1, r.3, r.4)
+
+-- two runs from one state end alike
+alike : (program : Program) (name : List ℕ) (arg most a b left rest : ℕ) → RunsTo program name arg most a left → RunsTo program name arg most b rest → a ≡ b
+alike program name arg most a b left rest r s = let both = sym r ∙ s in cc
+
+-- what the C of a function was seen to give is what evaluation gives
+pub machined : (checked : Checked) (list : List Instance) (program : CProgram) → Emits (copies_in checked list) program → (at arg cost : ℕ) (value : Val)
+    → (result : ℕ) × (value ≡ number result) × (left : ℕ) × RunsTo (program_of program) (function_name at) arg (budget cost) result left
+    → (name : List ℕ) → name ≡ function_name at → (r : Result (ℕ × ℕ) Memory) → IfOk r (λ r. Ends (program_of program) name arg (budget cost) r.0 r.1)
+    → IfOk r (λ r. Machines (copies_in checked list) at arg value cost r.0 r.1)
+machined checked list program e at arg cost value said name is (Err m) ends = tt
+machined checked list program e at arg cost value said name is (Ok r) ends =
+    let run = subst (λ n. Ends (program_of program) n arg (budget cost) r.0 r.1) is ends in
+    record {
+      program = program_of program;
+      spelled = e.spelled;
+      run = run;
+      equal = said.1 ∙ ap number (alike (program_of program) (function_name at) arg (budget cost) said.0 r.0 said.2 run.left said.3 run.ends);
+    }
 
 -- ---- what is said
 
@@ -100,11 +112,12 @@ unreadable checked text bytes place w same answer = answer.4 w.program (subst (�
 pub word_value : (n : ℕ) → value_of (Num n) ≡ number n
 word_value n = search (rules, the_lemmas)
 
-pub runs : (checked : Checked) (at arg : ℕ) (v : Val) (cost result taken n : ℕ) → HoldsCores checked → Machines checked at arg v cost result taken → ((m : ℕ) → v ≡ number m → n ≡ m)
-    → (r : Report) → IsLine Done (report (number n) (number result) cost taken [] [] []) r → (steps : ℕ) → Gives checked at arg steps v cost → Reports (Executes (functions_in checked) at arg steps) r
-runs checked at arg v cost result taken n cores m is r line steps gives =
+pub runs : (checked : Checked) (copies : List Copy) (at place arg : ℕ) (v : Val) (cost result taken n : ℕ) → HoldsCores checked → Machines copies place arg v cost result taken
+    → ((m : ℕ) → v ≡ number m → n ≡ m) → (r : Report) → IsLine Done (report (number n) (number result) cost taken [] [] []) r → (steps : ℕ) → Gives checked at arg steps v cost
+    → Reports (Executes (functions_in checked) copies at place arg steps) r
+runs checked copies at place arg v cost result taken n cores m is r line steps gives =
     let same : n ≡ result = is result m.equal in
-    line_says (Executes (functions_in checked) at arg steps) Done (report (number n) (number result) cost taken [] [] []) r line (
+    line_says (Executes (functions_in checked) copies at place arg steps) Done (report (number n) (number result) cost taken [] [] []) r line (
       n,
       cost,
       record {
@@ -113,8 +126,6 @@ runs checked at arg v cost result taken n cores m is r line steps gives =
         gives = ap (λ (t : Table). evaluation t steps (function (User at) []) (number arg)) (sym (table_same checked)) ∙ gives ∙ ap (λ x. Some (x, cost)) (m.equal ∙ ap number (sym same));
       },
       record {
-        cores = cores_of checked;
-        derived = cores;
         program = m.program;
         spelled = m.spelled;
         result = result;
@@ -127,9 +138,9 @@ runs checked at arg v cost result taken n cores m is r line steps gives =
       },
     )
 
-pub runs_out : (checked : Checked) (at arg steps : ℕ) → HoldsCores checked → IsSpent (table_of no_foreign checked) steps (function (User at) []) (value_of (Num arg))
-    → Executes (functions_in checked) at arg steps StepLimit (step_limit_line steps)
-runs_out checked at arg steps cores out = (
+pub runs_out : (checked : Checked) (copies : List Copy) (at place arg steps : ℕ) → HoldsCores checked → IsSpent (table_of no_foreign checked) steps (function (User at) []) (value_of (Num arg))
+    → Executes (functions_in checked) copies at place arg steps StepLimit (step_limit_line steps)
+runs_out checked copies at place arg steps cores out = (
   record {
     cores = cores_of checked;
     derived = cores;
@@ -139,16 +150,19 @@ runs_out checked at arg steps cores out = (
 )
 
 -- what both runs say is what the last judgement of `run` comes to
-pub executed : (fs : List Function) (at arg steps : ℕ) (f : Found) → functions f ≡ fs → f.at ≡ at → f.argument ≡ arg → (r : Result Report Memory) → IfOk r (Reports (Executes fs at arg steps))
-    → Rules Judges ran_lines (evaluated steps ∷ []) f r
-executed fs at arg steps f same there given (Err e) h = tt
-executed fs at arg steps f same there given (Ok r) h = from r.status refl (moved h)
+pub executed : (checked : Checked) (list : List Instance) (at arg steps : ℕ) (f : Found) → KeepsCopies checked list f → f.at ≡ at → f.argument ≡ arg → (r : Result Report Memory)
+    → IfOk r (Reports (Executes (functions_in checked) (copies_in checked list) at at arg steps)) → Rules Judges ran_lines (evaluated steps ∷ []) f r
+executed checked list at arg steps f kept there given (Err e) h = tt
+executed checked list at arg steps f kept there given (Ok r) h = from r.status refl (moved h)
   where
-    moved : Executes fs at arg steps r.status (string_bytes r.text) → Executes (functions f) f.at f.argument steps r.status (string_bytes r.text)
-    moved h = subst (λ x. Executes x f.at f.argument steps r.status (string_bytes r.text)) (sym same) (subst (λ x. Executes fs x f.argument steps r.status (string_bytes r.text)) (sym there)
-        (subst (λ x. Executes fs at x steps r.status (string_bytes r.text)) (sym given) h))
+    moved : Executes (functions_in checked) (copies_in checked list) at at arg steps r.status (string_bytes r.text) → Executes (functions f) f.copies f.at f.at f.argument steps r.status (string_bytes r.text)
+    moved h =
+        subst (λ x. Executes x f.copies f.at f.at f.argument steps r.status (string_bytes r.text)) (sym kept.same)
+        (subst (λ x. Executes (functions_in checked) x f.at f.at f.argument steps r.status (string_bytes r.text)) (sym kept.copies)
+        (subst (λ x. Executes (functions_in checked) (copies_in checked list) x x f.argument steps r.status (string_bytes r.text)) (sym there)
+        (subst (λ x. Executes (functions_in checked) (copies_in checked list) at at x steps r.status (string_bytes r.text)) (sym given) h)))
 
-    from : (s : Status) → r.status ≡ s → Executes (functions f) f.at f.argument steps s (string_bytes r.text) → Rules Judges ran_lines (evaluated steps ∷ []) f (Ok r)
+    from : (s : Status) → r.status ≡ s → Executes (functions f) f.copies f.at f.at f.argument steps s (string_bytes r.text) → Rules Judges ran_lines (evaluated steps ∷ []) f (Ok r)
     from Done is h = (goes (with_value h.0 h.1 f), inr (with_value h.0 h.1 f, (h.0, h.1, refl, h.2), refl), (is, h.3))
     from StepLimit is h = (refuses StepLimit (string_bytes r.text), inl (tt, (refl, h.1, h.0)), (is, refl))
     from Refused is h = absurd h

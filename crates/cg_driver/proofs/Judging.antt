@@ -8,10 +8,10 @@ use Rattle.cg_cert.proofs.Complete.{one as one_certificate}
 use Rattle.cg_cert.proofs.OneByte.{one_byte, no_byte}
 use Rattle.cg_check.specs.Judged.{AreTypesWithin}
 use Rattle.cg_check_laws.proofs.OneFault.{one_fault}
+use Rattle.cg_collect.specs.Collected.{Copy}
 use Rattle.cg_core.specs.Kernels.{Function}
 use Rattle.cg_cread.proofs.One.{one_program as one_text}
 use Rattle.cg_crun.specs.Outcomes.{State, Outcome as Ended, done}
-use Rattle.cg_ctree.specs.Spells.{CSpells}
 use Rattle.cg_desugar.specs.Desugar.{entry_at as name_at}
 use Rattle.cg_desugar.specs.Faults.{NameFault, program_faults}
 use Rattle.cg_machine.specs.Evaluation.{evaluation}
@@ -24,7 +24,7 @@ use Rattle.cg_heap.specs.declared.cell.Scalar.{Scalar}
 use Rattle.cg_heap.specs.declared.cell.Scalar.TheVariants.{Word}
 use Rattle.cg_heaptext.proofs.Reading.{one_argument}
 use Rattle.cg_lawful.specs.Lawful.{IsLawfulKernel}
-use Rattle.cg_lower.specs.Lowered.{function_name}
+use Rattle.cg_lower_laws.specs.Lowered.{function_name}
 use Rattle.cg_names.specs.Says.{IsFirst}
 use Rattle.cg_parser.specs.Answers.{NoProgram, Answers as Parses}
 use Rattle.cg_parser.specs.declared.fault.ParseFault.{ParseFault}
@@ -41,13 +41,15 @@ use Rattle.cg_surface.specs.Programs.{Entry}
 use Rattle.cg_takes.specs.Says as takes
 use Rattle.cg_typing.specs.Accepted.{IsAcceptedKernel}
 use Rattle.cg_value.specs.Values.{Val, number, function}
-use Rattle.cg_words.specs.Words.{Command, check, recheck, run}
-use Rattle.cg_driver.specs.Commands.{Judgement, no_command, within, spelled, named, acyclic, with_fields, typed, written, certified, plain, has_entry, heap_spelled, in_range, evaluated, RefusesSyntax, unknown_byte, open_comment, unexpected, wrong_bar, RefusesTyping, RefusesType, Judges, script_of}
-use Rattle.cg_driver.specs.Found.{Found, with_program, with_cert, with_entry, with_argument, with_value, functions}
+use Rattle.cg_words.specs.Words.{Command, check, build, recheck, run}
+use Rattle.cg_driver.specs.Commands.{Judgement, no_command, within, spelled, named, acyclic, with_fields, typed, written, certified, instanced, certifiable, plain, has_entry, heap_spelled, in_range, evaluated, RefusesSyntax, unknown_byte, open_comment, unexpected, wrong_bar, RefusesTyping, RefusesType, Judges, script_of}
+use Rattle.cg_driver.specs.Found.{Found, with_program, with_copies, with_cert, with_entry, with_argument, with_value, functions}
 use Rattle.cg_driver.specs.Lines.{fault_line, name_rule, rule_line, byte_line, limit_line, report}
-use Rattle.cg_driver.specs.Run.{table_in, emitted, budget, RunsTo, Evaluates, RunsOut, IsReport}
+use Rattle.cg_driver.specs.Instanced.{emitted}
+use Rattle.cg_driver.specs.Run.{table_in, budget, RunsTo, Evaluates, RunsOut, IsReport}
 use Rattle.cg_driver.proofs.Certifying.{one_node, none_misfits, node_ruling, node_not_usage}
 use Rattle.cg_driver.proofs.Cores.{one_list}
+use Rattle.cg_driver.proofs.Instancing.{not_passed, one_copies, one_passed}
 
 abbrev the_refusal : Status → List ℕ → Outcome Found
 the_refusal s t = refuses s t
@@ -216,6 +218,14 @@ single (certified file) f (refuses s t) (refuses s' t') d d' = one_node file (fu
 single (certified file) f (refuses s t) (goes n) d d' = absurd (none_misfits file (functions f) f.cert s t d.0 d.1 d'.1 d'.2)
 single (certified file) f (goes n) (refuses s t) d d' = absurd (none_misfits file (functions f) f.cert s t d'.0 d'.1 d.1 d.2)
 single (certified file) f (goes n) (goes n') d d' = ap goes (d.0 ∙ sym d'.0)
+single instanced f (refuses s t) (refuses s' t') d d' = refused_same s s' TooLarge t t' d.0 d'.0 (one_passed (functions f) t t' d.1 d'.1)
+single instanced f (refuses s t) (goes n) d d' = absurd (not_passed (functions f) t d'.0 d'.2 d.1)
+single instanced f (goes n) (refuses s t) d d' = absurd (not_passed (functions f) t d.0 d.2 d'.1)
+single instanced f (goes n) (goes n') d d' = ap goes (d.1 ∙ ap (λ c. with_copies c f) (one_copies (functions f) d.0 d'.0 d.2 d'.2) ∙ sym d'.1)
+single certifiable f (refuses s t) (refuses s' t') d d' = refused_same s s' TooLarge t t' d.0 d'.0 (d.1 ∙ sym d'.1)
+single certifiable f (refuses s t) (goes n) d d' = let x = d.2 in let y = d'.1 in absurd (omega (arith, x, y))
+single certifiable f (goes n) (refuses s t) d d' = let x = d'.2 in let y = d.1 in absurd (omega (arith, x, y))
+single certifiable f (goes n) (goes n') d d' = ap goes (d.0 ∙ sym d'.0)
 single (plain file) f (refuses s t) (refuses s' t') d d' = refused_same s s' Refused t t' d.0 d'.0 (d.1 ∙ sym d'.1)
 single (plain file) f (refuses s t) (goes n) d d' = let x = d.2 in let y = d'.1 in absurd (cc)
 single (plain file) f (goes n) (refuses s t) d d' = let x = d'.2 in let y = d.1 in absurd (cc)
@@ -265,6 +275,8 @@ ruling (typed file) f s t (inl d) = subst IsRuling (sym d.0) tt
 ruling (typed file) f s t (inr d) = subst IsRuling (sym d.0) tt
 ruling (written file) f s t d = subst IsRuling (sym d.1) tt
 ruling (certified file) f s t d = node_ruling file (functions f) f.cert s t d.1
+ruling instanced f s t d = subst IsRuling (sym d.0) tt
+ruling certifiable f s t d = subst IsRuling (sym d.0) tt
 ruling (plain file) f s t d = subst IsRuling (sym d.0) tt
 ruling (has_entry file name) f s t d = subst IsRuling (sym d.0) tt
 ruling (heap_spelled heap) f s t d = subst IsRuling (sym d.0) tt
@@ -290,6 +302,8 @@ not_usage (typed file) f s t of (inl d) = λ e. let x = d.0 in absurd (cc)
 not_usage (typed file) f s t of (inr d) = λ e. let x = d.0 in absurd (cc)
 not_usage (written file) f s t of d = λ e. let x = d.1 in absurd (cc)
 not_usage (certified file) f s t of d = node_not_usage file (functions f) f.cert s t d.1
+not_usage instanced f s t of d = λ e. let x = d.0 in absurd (cc)
+not_usage certifiable f s t of d = λ e. let x = d.0 in absurd (cc)
 not_usage (plain file) f s t of d = λ e. let x = d.0 in absurd (cc)
 not_usage (has_entry file name) f s t of d = λ e. let x = d.0 in absurd (cc)
 not_usage (heap_spelled heap) f s t of d = λ e. let x = d.0 in absurd (cc)
@@ -305,10 +319,9 @@ record SameRun (r r' l l' : ℕ) : Type 0 where
 run_same : (r r' l l' : ℕ) (s : State) (o : Ended (List Scalar)) → o ≡ done (Word r ∷ []) s l → o ≡ done (Word r' ∷ []) s l' → SameRun r r' l l'
 run_same r r' l l' s o a b = record { result = cc; left = cc }
 
-report_once : (fs : List Function) (at arg value cost : ℕ) (t t' : List ℕ) → IsReport fs at arg value cost t → IsReport fs at arg value cost t' → t ≡ t'
-report_once fs at arg value cost t t' a b =
-    let same : b.cores ≡ a.cores = one_list fs b.cores a.cores b.derived a.derived in
-    let program : b.program ≡ a.program = one_text (emitted fs a.cores) b.program a.program (subst (λ c. CSpells (emitted fs c) b.program) same b.spelled) a.spelled in
+report_once : (copies : List Copy) (at arg value cost : ℕ) (t t' : List ℕ) → IsReport copies at arg value cost t → IsReport copies at arg value cost t' → t ≡ t'
+report_once copies at arg value cost t t' a b =
+    let program : b.program ≡ a.program = one_text (emitted copies) b.program a.program b.spelled a.spelled in
     let ends : RunsTo a.program (function_name at) arg (budget cost) b.result b.left = subst (λ p. RunsTo p (function_name at) arg (budget cost) b.result b.left) program b.ends in
     let e = run_same a.result b.result a.left b.left _ _ a.ends ends in
     let left : a.left ≡ b.left = e.left in
@@ -320,5 +333,6 @@ report_once fs at arg value cost t t' a b =
 pub once : (c : Option Command) (f : Found) (t t' : List ℕ) → (script_of c).line f t → (script_of c).line f t' → t ≡ t'
 once None f t t' a b = absurd a
 once (Some (check file)) f t t' a b = a ∙ sym b
+once (Some (build file text certificate)) f t t' a b = a.0 ∙ sym b.0
 once (Some (recheck file certificate)) f t t' a b = a ∙ sym b
-once (Some (run file entry heap steps)) f t t' a b = report_once (functions f) f.at f.argument f.value f.cost t t' a b
+once (Some (run file entry heap steps)) f t t' a b = report_once f.copies f.at f.argument f.value f.cost t t' a b

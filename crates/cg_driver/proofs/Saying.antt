@@ -7,18 +7,19 @@ use Rattle.cg_base.specs.declared.limit.Limit.TheVariants as limits
 use Rattle.cg_base.specs.declared.memory.Memory.{Memory}
 use Rattle.cg_base.specs.declared.place.Place.{Place}
 use Rattle.cg_base.specs.Places.{most}
+use Rattle.cg_cert.specs.Laws.{AreNamed}
 use Rattle.cg_check.specs.declared.refusal.Refusal.TheVariants.{Limit as Beyond}
 use Rattle.cg_check.specs.Judged.{AreTypesWithin, IsChecked, Refuses}
+use Rattle.cg_check_laws.specs.Kept.{function_tree}
 use Rattle.cg_core.specs.declared.kernel.KFun.{KFun}
 use Rattle.cg_core.specs.declared.kernel.Kernel.{Kernel}
 use Rattle.cg_core.specs.Kernels.{Function, function_of, kernel_of}
-use Rattle.cg_desugar.specs.Desugar.{functions_of, functions_limit, NamesStand, WithinLimits}
+use Rattle.cg_desugar.specs.Desugar.{deepest_body, functions_of, functions_limit, term_limit, NamesStand, WithinLimits}
 use Rattle.cg_desugar.specs.Faults.{NameFault, program_faults}
 use Rattle.cg_desugar.specs.Mentions.{mentions}
 use Rattle.cg_desugar.specs.Order.{AreOrdered, AreGrowing}
 use Rattle.cg_desugar.specs.Takes.{missing_fields}
 use Rattle.cg_circles.specs.Circles.{NoCircle}
-use Rattle.cg_plain.specs.Plain.{plain_kernel}
 use Rattle.cg_faults.specs.declared.rule.Rule.{Rule}
 use Rattle.cg_faults.specs.Fails.{Fails}
 use Rattle.cg_faults.specs.Rule.{rule, type_limit}
@@ -30,6 +31,7 @@ use Rattle.cg_parser.specs.Grammar.{Spells}
 use Rattle.cg_parser.specs.Answers.{depth_limit}
 use Rattle.cg_parser_laws.proofs.ItemFaults.{spelled_ordered}
 use Rattle.cg_parser_laws.proofs.ItemTakes.{spelled_growing}
+use Rattle.cg_parser_laws.proofs.Spelling.{spelled_named}
 use Rattle.cg_resolve.specs.Answers.{IsCircleAt, Passes}
 use Rattle.cg_steps.specs.declared.report.Report.{Report}
 use Rattle.cg_steps.specs.declared.report.Step.{Step}
@@ -45,7 +47,7 @@ use Rattle.cg_typing.specs.declared.checked.Checked.{Checked}
 use Rattle.cg_typing.specs.Holds.{kernel_in, cores_in, trees_in}
 use Rattle.cg_typing.specs.Kept.{AreKept, maybe_core, maybe_tree}
 use Rattle.cg_driver.specs.Accepted.{HasKernel, IsAcceptedSource}
-use Rattle.cg_driver.specs.Commands.{Judgement, RefusesSyntax, Judges, kernel_rules, resolving_rules, reading_rules, source_rules, entry_rules, heap_rules, entry_at}
+use Rattle.cg_driver.specs.Commands.{Judgement, RefusesSyntax, Judges, kernel_rules, resolving_rules, reading_rules, source_rules, entry_rules, heap_rules, entry_at, is_plain}
 use Rattle.cg_driver.specs.Found.{Found, with_program, with_entry, with_argument, functions, source_limit, heap_limit}
 use Rattle.cg_driver.specs.Judged.{functions_in, IsCheckedKernel, IsCheckedSource, IsKernelOf, IsReadSource, Keeps, RefusesKernel, RefusesProgram, RefusesReading, RefusesSource, RefusesEntry, RefusesBytes, IsEntry, IsArgument}
 use Rattle.cg_driver.specs.Lines.{fault_line, name_rule, rule_line, not_built_line, no_entry_line, no_heap_text_line, out_of_range_line, limit_name, limit_line}
@@ -89,6 +91,11 @@ kernel_kept kernel checked c =
         map maybe_tree (trees_in checked),
         subst (λ k. AreKept (kernel_of k) (kernel_of k) (map maybe_core (cores_in checked)) (map maybe_tree (trees_in checked))) (sym c.same) c.kept,
       );
+      marks = record {
+        are = subst (λ k. map maybe_tree (trees_in checked) ≡ map (function_tree (kernel_of k)) (kernel_of k)) (sym c.same) c.trees;
+        kept = subst (λ k. AreKept (kernel_of k) (kernel_of k) (map maybe_core (cores_in checked)) (map (function_tree (kernel_of k)) (kernel_of k))) (sym c.same)
+            (subst (AreKept (kernel_of kernel) (kernel_of kernel) (map maybe_core (cores_in checked))) c.trees c.kept);
+      };
     }
 
 -- one of which a rule fails
@@ -288,6 +295,11 @@ source_checked source kernel r checked c =
         kernel = c.same ∙ r.same;
       };
       cores = c.cores;
+      ready = record {
+        marks = c.marks;
+        named = subst AreNamed (sym (c.same ∙ r.same)) (spelled_named source r.program r.resolved.spelled);
+        shallow = subst (λ fs. deepest_body fs ≤ term_limit) (sym (c.same ∙ r.same)) r.resolved.limits.3;
+      };
       few = subst (λ fs. length fs ≤ functions_limit) (sym (c.same ∙ r.same)) r.resolved.limits.0;
     }
 
@@ -321,14 +333,14 @@ entry_found name checked kernel fs o k f e =
     sym (e ∙ ap (position (λ f. bytes_eq f.at.name name)) f ∙ entry_mapped name kernel.funs ∙ ap (λ x. entry_at name (kernel_of x)) k)
 
 -- whether a source is plain
-pub plain_is : (checked : Checked) (kernel : Kernel) (b r : Bool) → kernel ≡ kernel_in checked → r ≡ plain_kernel (kernel_of kernel) → r ≡ b → plain_kernel (functions_in checked) ≡ b
-plain_is checked kernel b r k e f = sym (ap (λ x. plain_kernel (kernel_of x)) k) ∙ sym e ∙ f
+pub plain_is : (checked : Checked) (kernel : Kernel) (b r : Bool) → kernel ≡ kernel_in checked → r ≡ is_plain (kernel_of kernel) → r ≡ b → is_plain (functions_in checked) ≡ b
+plain_is checked kernel b r k e f = sym (ap (λ x. is_plain (kernel_of x)) k) ∙ sym e ∙ f
 
-pub unplain_refused : (file entry : List ℕ) (fs : List Function) → plain_kernel fs ≡ false → RefusesEntry file entry fs Refused (not_built_line file)
-unplain_refused file entry fs is f same = inl (tt, (refl, refl, ap plain_kernel same ∙ is))
+pub unplain_refused : (file entry : List ℕ) (fs : List Function) → is_plain fs ≡ false → RefusesEntry file entry fs Refused (not_built_line file)
+unplain_refused file entry fs is f same = inl (tt, (refl, refl, ap is_plain same ∙ is))
 
-pub absent_refused : (file entry : List ℕ) (fs : List Function) → plain_kernel fs ≡ true → entry_at entry fs ≡ None → RefusesEntry file entry fs Refused (no_entry_line file)
-absent_refused file entry fs is none f same = inr (f, (refl, ap plain_kernel same ∙ is), inl (tt, (refl, refl, ap (entry_at entry) same ∙ none)))
+pub absent_refused : (file entry : List ℕ) (fs : List Function) → is_plain fs ≡ true → entry_at entry fs ≡ None → RefusesEntry file entry fs Refused (no_entry_line file)
+absent_refused file entry fs is none f same = inr (f, (refl, ap is_plain same ∙ is), inl (tt, (refl, refl, ap (entry_at entry) same ∙ none)))
 
 -- a state in which the entry was found
 pub record HasEntry (fs : List Function) (at : ℕ) (next : Found) : Type 0 where
@@ -341,7 +353,7 @@ entry_judged file entry fs f same r said =
     steps_judged (IsEntry entry fs) (RefusesEntry file entry fs) (λ at next. HasEntry fs at next) (entry_rules file entry) f
     (λ at e. (
       with_entry at f,
-      inr (f, (refl, ap plain_kernel same ∙ e.plain), inr (with_entry at f, (at, refl, ap (entry_at entry) same ∙ e.named), refl)),
+      inr (f, (refl, ap is_plain same ∙ e.plain), inr (with_entry at f, (at, refl, ap (entry_at entry) same ∙ e.named), refl)),
       record { same = same; found = refl },
     ))
     (λ s text j. j f same) r said

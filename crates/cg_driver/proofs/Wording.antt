@@ -11,7 +11,7 @@ use Rattle.cg_steps.specs.Steps.{refuses, goes, Each}
 use Rattle.cg_steps.specs.Scripts.{IsSaid, Says, Answers, printed, unprinted, no_memory, IsVerdict}
 use Rattle.cg_steps.specs.Parts.{IsLine, Concludes}
 use Rattle.cg_steps.proofs.Deciding.{Refuses, by_read, by_write, by_judgement, refused_by}
-use Rattle.cg_words.specs.Words.{Command, check, recheck, run}
+use Rattle.cg_words.specs.Words.{Command, check, build, recheck, run}
 use Rattle.cg_driver.specs.Commands.{Judges, script_of}
 use Rattle.cg_driver.specs.Lines.{usage_text}
 use Rattle.cg_driver.proofs.Judging.{IsOfCommand, IsNotUsage, not_usage}
@@ -26,8 +26,9 @@ or_memory P s no_read no_write verdict = inl (verdict tt)
 -- the steps of the commands judge no words
 of_command : (c : Command) → Each IsOfCommand (script_of (Some c)).steps
 of_command (check file) = (tt, (tt, (tt, (tt, (tt, (tt, (tt, (tt, (tt, (tt, (tt, tt)))))))))))
+of_command (build file text certificate) = (tt, (tt, (tt, (tt, (tt, (tt, (tt, (tt, (tt, (tt, (tt, (tt, (tt, tt)))))))))))))
 of_command (recheck file certificate) = (tt, (tt, (tt, (tt, (tt, (tt, (tt, (tt, (tt, (tt, (tt, (tt, (tt, tt)))))))))))))
-of_command (run file entry heap steps) = (tt, (tt, (tt, (tt, (tt, (tt, (tt, (tt, (tt, (tt, (tt, (tt, (tt, (tt, (tt, (tt, (tt, tt)))))))))))))))))
+of_command (run file entry heap steps) = (tt, (tt, (tt, (tt, (tt, (tt, (tt, (tt, (tt, (tt, (tt, (tt, (tt, (tt, (tt, (tt, (tt, (tt, tt))))))))))))))))))
 
 module _ (old new : World) where
   -- no command says the usage text

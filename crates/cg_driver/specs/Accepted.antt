@@ -1,5 +1,6 @@
 -- Which sources are accepted, and which certificates.
-use Rattle.std.specs.Prelude.{◌≡◌, ℕ, ◌≤◌, List, length, map}
+use Rattle.std.specs.FinMap.{insert}
+use Rattle.std.specs.Prelude.{◌≡◌, ◌⊎◌, ℕ, ◌≤◌, List, length, map, Option, Some}
 use Rattle.cg_cert.specs.Certificates.{certificate}
 use Rattle.cg_cert.specs.declared.cert.Cert.{Cert}
 use Rattle.cg_cert.specs.Texts.{CertText, text as text_of}
@@ -14,7 +15,13 @@ use Rattle.cg_typing.specs.Accepted.{IsAcceptedKernel}
 use Rattle.cg_typing.specs.declared.checked.Checked.{Checked}
 use Rattle.cg_typing.specs.Holds.{kernel_in, trees_in}
 use Rattle.cg_typing.specs.Kept.{maybe_tree}
-use Rattle.cg_driver.specs.Found.{certificate_limit, source_limit}
+use Rattle.cg_outside.specs.Held.{Held, bytes_at}
+use Rattle.cg_steps.specs.Steps.{Runs, Writes, WritesNone, goes}
+use Rattle.cg_steps.specs.World.{World}
+use Rattle.cg_words.specs.Words.{Command, build}
+use Rattle.cg_driver.specs.Commands.{Judges, script_of}
+use Rattle.cg_driver.specs.Found.{Found, certificate_limit, functions, source_limit}
+use Rattle.cg_driver.specs.Instanced.{HasInstances, certified_text, emitted}
 
 -- the source spells a program within the depth whose names are in order, and in which all that is written is within its limits
 pub record HasKernel (source : List ℕ) (p : List Entry) : Type 0 where
@@ -48,6 +55,27 @@ pub record IsCertifiedSource (source text : List ℕ) : Type 0 where
 -- the text of the certificate of what is kept of a source
 abbrev pub certificate_text : Checked → List ℕ
 certificate_text checked = text_of (certificate (kernel_of (kernel_in checked)) (map maybe_tree (trees_in checked)))
+
+-- ---- what `build` writes
+
+-- the steps of `build` write the two files that it names for that, and those of other commands none
+abbrev pub WritesItsOwn : Option Command → Type 0
+WritesItsOwn (Some (build file text certificate)) = (name : List ℕ) → Writes (script_of (Some (build file text certificate))).steps name → (name ≡ text) ⊎ (name ≡ certificate)
+WritesItsOwn c = WritesNone (script_of c).steps
+
+-- a source was built: it is accepted, these are its instances, within the limits, and the files hold its C text and its certificate
+pub record IsBuiltSource (held : Held) (file text certificate : List ℕ) (found : Found) (new : World) : Type 0 where
+  pub accepted : IsAcceptedSource (bytes_at held file) (functions found)
+  pub instances : HasInstances (functions found) found.copies
+  pub brief : length (certified_text (functions found)) ≤ certificate_limit
+  pub files : new.held ≡ Some (insert (insert held text (emitted found.copies)) certificate (certified_text (functions found)))
+
+-- whatever counts rise, the steps of `build` go through only so
+abbrev pub BuildWrites : Type 0
+BuildWrites =
+    (held : Held) (file text certificate : List ℕ) (found : Found) (old new : World) → old.held ≡ Some held
+    → Runs Judges (script_of (Some (build file text certificate))).steps (script_of (Some (build file text certificate))).start old (goes found) new
+    → IsBuiltSource held file text certificate found new
 
 -- What is printed of a source that the checker keeps is a certificate of it, where it is within the limit.
 abbrev pub PrintedIsCertified : Type 0

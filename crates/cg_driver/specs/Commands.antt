@@ -1,6 +1,6 @@
 -- The judgements of the commands' steps, what each comes to, and the commands as lists of steps (docs/LANGUAGE.md, "Commands"): a new command
 -- is a line of `script_of`, with the judgements of its own steps.
-use Rattle.std.specs.Prelude.{◌≡◌, ◌⊎◌, ℕ, ◌<◌, ◌≤◌, ◌^◌, ◌++◌, true, false, List, [], ◌∷◌, position, Option, Some, None, Err, String, codes, bytes_eq}
+use Rattle.std.specs.Prelude.{◌≡◌, ◌⊎◌, ℕ, ◌<◌, ◌≤◌, ◌^◌, ◌++◌, Bool, true, false, ◌&&◌, List, [], ◌∷◌, length, position, Option, Some, None, Err, String, codes, bytes_eq}
 use Rattle.std.specs.declared.alloc.Global.{Global}
 use Rattle.cg_base.specs.declared.limit.Limit.{Limit}
 use Rattle.cg_base.specs.declared.limit.Limit.TheVariants.{Source, Nesting, Functions, Fields, Ty, Depth, Heap, Certificate}
@@ -13,12 +13,14 @@ use Rattle.cg_certcheck_laws.specs.Events.{cert_events, first_failing}
 use Rattle.cg_certcheck_laws.specs.Laws.{SpellsDerivation}
 use Rattle.cg_check.specs.Judged.{AreTypesWithin}
 use Rattle.cg_circles.specs.Circles.{NoCircle}
+use Rattle.cg_collect.specs.Collected.{Copy}
 use Rattle.cg_core.specs.Kernels.{Function}
 use Rattle.cg_desugar.specs.Faults.{NameFault, program_faults}
 use Rattle.cg_desugar.specs.Mentions.{mentions}
 use Rattle.cg_desugar.specs.Order.{AreOrdered, AreGrowing}
 use Rattle.cg_desugar.specs.Takes.{missing_fields}
 use Rattle.cg_plain.specs.Plain.{plain_kernel}
+use Rattle.cg_plain_laws.specs.Laws.{are_monomorphic}
 use Rattle.cg_faults.specs.declared.rule.Rule.{Rule}
 use Rattle.cg_faults.specs.Fails.{Fails}
 use Rattle.cg_faults.specs.Rule.{rule, type_limit}
@@ -31,14 +33,15 @@ use Rattle.cg_parser.specs.declared.fault.ParseFault.TheVariants.{S1, S2, S3, S4
 use Rattle.cg_resolve.specs.Answers.{IsCircleAt}
 use Rattle.cg_steps.specs.declared.status.Status.TheVariants.{Refused, Usage, StepLimit, HeapRefused, CertRefused, TooLarge}
 use Rattle.cg_steps.specs.declared.status.Status.{Status}
-use Rattle.cg_steps.specs.Steps.{Outcome, refuses, goes, Step, reads, judged_first}
+use Rattle.cg_steps.specs.Steps.{Outcome, refuses, goes, Step, reads, writes, judged_first}
 use Rattle.cg_steps.specs.Scripts.{Script}
 use Rattle.cg_surface.specs.Programs.{Entry}
 use Rattle.cg_takes.specs.Says as takes
 use Rattle.cg_typing.specs.Accepted.{IsAcceptedKernel}
-use Rattle.cg_words.specs.Words.{Command, check, recheck, run, texts, command_of}
-use Rattle.cg_driver.specs.Found.{Found, nothing, with_source, with_program, with_certificate, with_cert, with_entry, with_heap, with_argument, with_value, functions, source_limit, certificate_limit, heap_limit, bound, quantity}
-use Rattle.cg_driver.specs.Lines.{usage_text, ok_line, fault_line, name_rule, rule_line, rechecked_line as accepted_text, byte_line, node_line, not_built_line, no_entry_line, no_heap_text_line, out_of_range_line, limit_name, limit_line, step_limit_line}
+use Rattle.cg_words.specs.Words.{Command, check, build, recheck, run, texts, command_of}
+use Rattle.cg_driver.specs.Found.{Found, nothing, with_source, with_program, with_copies, with_certificate, with_cert, with_entry, with_heap, with_argument, with_value, functions, source_limit, certificate_limit, heap_limit, bound, quantity}
+use Rattle.cg_driver.specs.Lines.{usage_text, ok_line, built_line as written_line, fault_line, name_rule, rule_line, rechecked_line as accepted_text, byte_line, node_line, not_built_line, no_entry_line, no_heap_text_line, out_of_range_line, limit_name, limit_line, step_limit_line}
+use Rattle.cg_driver.specs.Instanced.{HasInstances, PassesInstances, IsMeant, IsProved, emitted, certified_text}
 use Rattle.cg_driver.specs.Run.{Evaluates, RunsOut, IsReport}
 
 -- The judgements, in the order of the steps; each has the names that it prints. The words are no command; a quantity is within its limit; the
@@ -47,6 +50,7 @@ use Rattle.cg_driver.specs.Run.{Evaluates, RunsOut, IsReport}
 -- condition that fails in the order of reading is told, which is a rule (K1 to K7, T1 to T14) with its place, or that limit (`type`); the
 -- certificate file holds the text of a certificate (C1), and that spells a derivation of the kernel, and no type of a node passes the
 -- limit: else the first condition that fails in the order of nodes is told, which is C2 or C3 with its node, or that limit (`type`); the
+-- instances are within all their limits, else the first that they pass is told; the certificate that would be written is within its own; the
 -- source is one of those that can be run so far (F1), and has the entry (E1); the heap file holds a number (H1), which is a word (H5);
 -- evaluation ends within the steps.
 pub data Judgement : Type 0 where
@@ -59,6 +63,8 @@ pub data Judgement : Type 0 where
   typed : List ℕ → Judgement
   written : List ℕ → Judgement
   certified : List ℕ → Judgement
+  instanced : Judgement
+  certifiable : Judgement
   plain : List ℕ → Judgement
   has_entry : List ℕ → List ℕ → Judgement
   heap_spelled : List ℕ → Judgement
@@ -123,6 +129,10 @@ pub data RefusesNode (file : List ℕ) (fs : List Function) (cert : Cert) (statu
 abbrev pub entry_at : List ℕ → List Function → Option ℕ
 entry_at name functions = position (λ f. bytes_eq f.at.name name) functions
 
+-- a source is plain: its kernel is, and no function has type variables
+abbrev pub is_plain : List Function → Bool
+is_plain functions = plain_kernel functions && are_monomorphic functions
+
 -- what each judgement comes to
 abbrev pub Judges : Judgement → Found → Outcome Found → Type 0
 Judges no_command found (refuses status text) = (status ≡ Usage) × (text ≡ usage_text)
@@ -144,8 +154,13 @@ Judges (written file) found (refuses status text) = (byte : ℕ) × (status ≡ 
 Judges (written file) found (goes next) = (cert : Cert) × (next ≡ with_cert cert found) × CertText found.certificate cert
 Judges (certified file) found (refuses status text) = IsLawfulKernel (functions found) × RefusesNode file (functions found) found.cert status text
 Judges (certified file) found (goes next) = (next ≡ found) × SpellsDerivation (functions found) found.cert × AreTypesWithin (functions found)
-Judges (plain file) found (refuses status text) = (status ≡ Refused) × (text ≡ not_built_line file) × (plain_kernel (functions found) ≡ false)
-Judges (plain file) found (goes next) = (next ≡ found) × (plain_kernel (functions found) ≡ true)
+Judges instanced found (refuses status text) = (status ≡ TooLarge) × PassesInstances (functions found) text
+Judges instanced found (goes next) = (copies : List Copy) × (next ≡ with_copies copies found) × HasInstances (functions found) copies
+Judges certifiable found (refuses status text) =
+    (status ≡ TooLarge) × (text ≡ limit_line (limit_name Certificate)) × (certificate_limit < length (certified_text (functions found)))
+Judges certifiable found (goes next) = (next ≡ found) × (length (certified_text (functions found)) ≤ certificate_limit)
+Judges (plain file) found (refuses status text) = (status ≡ Refused) × (text ≡ not_built_line file) × (is_plain (functions found) ≡ false)
+Judges (plain file) found (goes next) = (next ≡ found) × (is_plain (functions found) ≡ true)
 Judges (has_entry file name) found (refuses status text) = (status ≡ Refused) × (text ≡ no_entry_line file) × (entry_at name (functions found) ≡ None)
 Judges (has_entry file name) found (goes next) = (at : ℕ) × (next ≡ with_entry at found) × (entry_at name (functions found) ≡ Some at)
 Judges (heap_spelled heap) found (refuses status text) = (status ≡ HeapRefused) × (text ≡ no_heap_text_line heap) × ((n : ℕ) → HeapText found.heap n → ⊥)
@@ -169,6 +184,10 @@ reading_rules file = within Source ∷ spelled file ∷ within Nesting ∷ resol
 
 abbrev pub source_rules : List ℕ → List Judgement
 source_rules file = reading_rules file ++ kernel_rules file
+
+-- those of `build` behind these
+abbrev pub built_rules : List ℕ → List Judgement
+built_rules file = source_rules file ++ instanced ∷ certifiable ∷ []
 
 -- those of `recheck`, once the certificate file was read
 abbrev pub text_rules : List ℕ → List Judgement
@@ -197,15 +216,30 @@ reads_certificate certificate = reads certificate certificate_limit with_certifi
 abbrev pub reads_heap : List ℕ → Step Judgement Found
 reads_heap heap = reads heap heap_limit with_heap
 
--- what is printed at status 0: how many functions there are; that the certificate is in order; the seven lines of a run
+-- what is printed at status 0: how many functions there are; how many instances there are too, whose C text means what they do,
+-- and the certificate is one of the source; that the certificate is in order; the seven lines of a run
 abbrev pub checked_line : Found → List ℕ → Type 0
 checked_line found text = text ≡ ok_line (functions found)
+
+abbrev pub built_line : Found → List ℕ → Type 0
+built_line found text = (text ≡ written_line (functions found) (length found.copies)) × IsMeant found.copies × IsProved (functions found)
 
 abbrev pub rechecked_line : Found → List ℕ → Type 0
 rechecked_line found text = text ≡ accepted_text
 
 abbrev pub ran_lines : Found → List ℕ → Type 0
-ran_lines found text = IsReport (functions found) found.at found.argument found.value found.cost text
+ran_lines found text = IsReport found.copies found.at found.argument found.value found.cost text
+
+-- the writes of `build`: the C text, and then the certificate
+abbrev pub writes_certificate : List ℕ → List (Step Judgement Found)
+writes_certificate certificate = writes certificate (λ f. certified_text (functions f)) ∷ []
+
+abbrev pub writes_both : List ℕ → List ℕ → List (Step Judgement Found)
+writes_both text certificate = writes text (λ f. emitted f.copies) ∷ writes_certificate certificate
+
+-- the steps of `build` behind the read of the source
+abbrev pub build_steps : List ℕ → List ℕ → List ℕ → List (Step Judgement Found)
+build_steps file text certificate = judged_first (built_rules file) (writes_both text certificate)
 
 -- the steps of `recheck` from the certificate file on, and all behind the read of the source
 abbrev pub certificate_steps : List ℕ → List (Step Judgement Found)
@@ -219,12 +253,13 @@ abbrev pub heap_steps : List ℕ → ℕ → List (Step Judgement Found)
 heap_steps heap steps = reads_heap heap ∷ judged_first (run_rules heap steps) []
 
 abbrev pub run_steps : List ℕ → List ℕ → List ℕ → ℕ → List (Step Judgement Found)
-run_steps file entry heap steps = judged_first (source_rules file ++ entry_rules file entry) (heap_steps heap steps)
+run_steps file entry heap steps = judged_first (source_rules file ++ entry_rules file entry ++ instanced ∷ []) (heap_steps heap steps)
 
 -- the commands; other words are refused
 abbrev pub script_of : Option Command → Script Judgement Found
 script_of None = record { steps = judged_first (no_command ∷ []) []; start = nothing; line = λ found text. ⊥ }
 script_of (Some (check file)) = record { steps = reads_source file ∷ judged_first (source_rules file) []; start = nothing; line = checked_line }
+script_of (Some (build file text certificate)) = record { steps = reads_source file ∷ build_steps file text certificate; start = nothing; line = built_line }
 script_of (Some (recheck file certificate)) = record { steps = reads_source file ∷ recheck_steps file certificate; start = nothing; line = rechecked_line }
 script_of (Some (run file entry heap steps)) = record { steps = reads_source file ∷ run_steps file entry heap steps; start = nothing; line = ran_lines }
 

@@ -1,17 +1,16 @@
 -- What the two runs of a function give, as the code has them.
-use Rattle.std.specs.Prelude.{◌≡◌, ◌<◌, ◌^◌, ℕ, ◌+◌, List, [], length, map, Option, Some}
+use Rattle.std.specs.Prelude.{◌≡◌, ℕ, ◌+◌, List, [], map, Option, Some}
 use Rattle.cg_base.specs.declared.fun.Fun.TheVariants.{User}
+use Rattle.cg_collect.specs.Collected.{Copy}
 use Rattle.cg_core.specs.Kernels.{Function}
 use Rattle.cg_core.specs.Terms.{Note, Tree}
 use Rattle.cg_ctree.specs.declared.tree.CProgram.{CProgram}
-use Rattle.cg_ctext.specs.Printed.{printed}
 use Rattle.cg_ctree.specs.Spells.{CSpells}
 use Rattle.cg_ctree.specs.Trees.{Program, program_of}
+use Rattle.cg_lower_laws.specs.Lowered.{function_name}
+use Rattle.cg_lowering.specs.Promises.{IsSimulated}
 use Rattle.cg_machine.specs.Evaluation.{evaluation}
 use Rattle.cg_machine.specs.Foreigns.{table_of}
-use Rattle.cg_lower.specs.Lowered.{lowered, function_name}
-use Rattle.cg_lower.specs.Plainly.{Simulates}
-use Rattle.cg_lower.specs.Ranks.{bodies_of}
 use Rattle.cg_typing.specs.declared.checked.Checked.{Checked}
 use Rattle.cg_typing.specs.Holds.{cores_in}
 use Rattle.cg_typing.specs.Kept.{maybe_core}
@@ -19,36 +18,22 @@ use Rattle.cg_value.specs.NoForeign.{no_foreign}
 use Rattle.cg_value.specs.Values.{Val, number, function}
 use Rattle.cg_steps.specs.declared.status.Status.{Status}
 use Rattle.cg_steps.specs.declared.status.Status.TheVariants.{Done, StepLimit}
-use Rattle.cg_driver.specs.Judged.{functions_in}
+use Rattle.cg_driver.specs.Instanced.{emitted}
 use Rattle.cg_driver.specs.Lines.{step_limit_line}
-use Rattle.cg_driver.specs.Run.{emitted, budget, RunsTo, Evaluates, RunsOut, IsReport}
+use Rattle.cg_driver.specs.Run.{budget, RunsTo, Evaluates, RunsOut, IsReport}
 
 -- the cores of a checked source
 abbrev pub cores_of : Checked → List (Option (Tree Note))
 cores_of checked = map maybe_core (cores_in checked)
 
--- the text is that of the lowered source, which gives what evaluation gives
-pub record Writes (checked : Checked) (text : List ℕ) : Type 0 where
-  pub program : Program
-  pub made : program ≡ lowered (bodies_of (cores_in checked)) (length (functions_in checked))
-  pub simulates : Simulates checked program
-  pub spelled : CSpells text program
-  pub exactly : text ≡ printed program
-
 -- evaluation gives this value at this cost, within the steps
 abbrev pub Gives : Checked → ℕ → ℕ → ℕ → Val → ℕ → Type 0
 Gives checked at arg steps value cost = evaluation (table_of no_foreign checked) steps (function (User at) []) (number arg) ≡ Some (value, cost)
 
--- a program gives what evaluation gives on a word, within the budget
-abbrev pub GivesAlike : Checked → Program → Type 0
-GivesAlike checked program =
-    (at arg steps cost : ℕ) (value : Val) → at < length (functions_in checked) → arg < 2 ^ 32 → Gives checked at arg steps value cost
-    → (result : ℕ) × (value ≡ number result) × (left : ℕ) × RunsTo program (function_name at) arg (budget cost) result left
-
--- the program is the one that the C text spells, and gives what evaluation gives
-pub record Emits (checked : Checked) (program : CProgram) : Type 0 where
-  pub spelled : CSpells (emitted (functions_in checked) (cores_of checked)) (program_of program)
-  pub alike : GivesAlike checked (program_of program)
+-- the program is the one that the C text of the instances spells, and simulates the update semantics
+pub record Emits (copies : List Copy) (program : CProgram) : Type 0 where
+  pub spelled : CSpells (emitted copies) (program_of program)
+  pub simulates : IsSimulated copies (program_of program)
 
 -- a run within a budget ends with this number, after so many steps
 pub record Ends (program : Program) (name : List ℕ) (arg most result taken : ℕ) : Type 0 where
@@ -57,14 +42,14 @@ pub record Ends (program : Program) (name : List ℕ) (arg most result taken : �
   pub counted : taken + left ≡ most
 
 -- the run of the C text ends within its budget with this number, which is what evaluation gave
-pub record Machines (checked : Checked) (at arg : ℕ) (value : Val) (cost result taken : ℕ) : Type 0 where
+pub record Machines (copies : List Copy) (place arg : ℕ) (value : Val) (cost result taken : ℕ) : Type 0 where
   pub program : Program
-  pub spelled : CSpells (emitted (functions_in checked) (cores_of checked)) program
-  pub run : Ends program (function_name at) arg (budget cost) result taken
+  pub spelled : CSpells (emitted copies) program
+  pub run : Ends program (function_name place) arg (budget cost) result taken
   pub equal : value ≡ number result
 
 -- what both runs say
-abbrev pub Executes : List Function → ℕ → ℕ → ℕ → Status → List ℕ → Type 0
-Executes functions at arg steps Done text = (value : ℕ) × (cost : ℕ) × Evaluates functions at arg steps value cost × IsReport functions at arg value cost text
-Executes functions at arg steps StepLimit text = RunsOut functions at arg steps × (text ≡ step_limit_line steps)
-Executes functions at arg steps _ text = ⊥
+abbrev pub Executes : List Function → List Copy → ℕ → ℕ → ℕ → ℕ → Status → List ℕ → Type 0
+Executes functions copies at place arg steps Done text = (value : ℕ) × (cost : ℕ) × Evaluates functions at arg steps value cost × IsReport copies place arg value cost text
+Executes functions copies at place arg steps StepLimit text = RunsOut functions at arg steps × (text ≡ step_limit_line steps)
+Executes functions copies at place arg steps _ text = ⊥

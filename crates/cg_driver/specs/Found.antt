@@ -3,18 +3,20 @@ use Rattle.std.specs.Prelude.{ℕ, List, [], length}
 use Rattle.cg_base.specs.declared.limit.Limit.{Limit}
 use Rattle.cg_base.specs.declared.limit.Limit.TheVariants.{Source, Nesting, Functions, Fields, Ty, Depth, Instances, Core, Heap, Certificate}
 use Rattle.cg_cert.specs.declared.cert.Cert.{Cert}
+use Rattle.cg_collect.specs.Collected.{Copy}
 use Rattle.cg_core.specs.Kernels.{Function}
 use Rattle.cg_desugar.specs.Desugar.{functions_of, functions_limit, parts_limit, type_limit, term_limit, deepest_body}
 use Rattle.cg_desugar.specs.Takes.{widest_part, largest_type}
 use Rattle.cg_parser.specs.Answers.{depth_limit}
 use Rattle.cg_surface.specs.Programs.{Entry, program_depth}
 
--- the bytes of the source, the program that they spell, the bytes of the certificate file, the certificate whose text they are, the position
--- of the entry among the program's functions, the bytes of the heap file, the argument that they hold, and the value and the cost that
+-- the bytes of the source, the program that they spell, its instances with their types and bodies, the bytes of the certificate file, the
+-- certificate whose text they are, the position of the entry among the program's functions, the bytes of the heap file, the argument that they hold, and the value and the cost that
 -- evaluation gives
 pub record Found : Type 0 where
   pub source : List ℕ
   pub program : List Entry
+  pub copies : List Copy
   pub certificate : List ℕ
   pub cert : Cert
   pub at : ℕ
@@ -25,13 +27,16 @@ pub record Found : Type 0 where
 
 -- before the first step
 abbrev pub nothing : Found
-nothing = record { source = []; program = []; certificate = []; cert = record { funs = [] }; at = 0; heap = []; argument = 0; value = 0; cost = 0 }
+nothing = record { source = []; program = []; copies = []; certificate = []; cert = record { funs = [] }; at = 0; heap = []; argument = 0; value = 0; cost = 0 }
 
 abbrev pub with_source : List ℕ → Found → Found
 with_source bytes f = record f { source = bytes }
 
 abbrev pub with_program : List Entry → Found → Found
 with_program p f = record f { program = p }
+
+abbrev pub with_copies : List Copy → Found → Found
+with_copies copies f = record f { copies = copies }
 
 abbrev pub with_certificate : List ℕ → Found → Found
 with_certificate bytes f = record f { certificate = bytes }

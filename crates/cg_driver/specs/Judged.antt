@@ -1,15 +1,16 @@
 -- What the checker's answer and the parts of a run say, as the code has them.
 use Rattle.std.specs.Prelude.{◌≡◌, ℕ, ◌<◌, ◌≤◌, ◌^◌, true, List, [], ◌∷◌, length, map, Some}
 use Rattle.cg_cert.specs.declared.cert.Cert.{Cert}
+use Rattle.cg_cert.specs.Laws.{AreNamed}
 use Rattle.cg_cert.specs.Texts.{CertText}
+use Rattle.cg_check_laws.specs.Kept.{function_tree}
 use Rattle.cg_check.specs.Judged.{AreTypesWithin}
 use Rattle.cg_core.specs.declared.kernel.Kernel.{Kernel}
 use Rattle.cg_core.specs.Kernels.{Function, kernel_of}
-use Rattle.cg_desugar.specs.Desugar.{functions_of, functions_limit, NamesStand, WithinLimits}
+use Rattle.cg_desugar.specs.Desugar.{deepest_body, functions_of, functions_limit, term_limit, NamesStand, WithinLimits}
 use Rattle.cg_desugar.specs.Faults.{program_faults}
 use Rattle.cg_desugar.specs.Order.{AreOrdered, AreGrowing}
 use Rattle.cg_desugar.specs.Takes.{missing_fields}
-use Rattle.cg_plain.specs.Plain.{plain_kernel}
 use Rattle.cg_heaptext.specs.HeapText.{HeapText}
 use Rattle.cg_lawful.specs.Lawful.{IsLawfulKernel}
 use Rattle.cg_steps.specs.declared.status.Status.{Status}
@@ -17,12 +18,12 @@ use Rattle.cg_steps.specs.Steps.{refuses, Settles}
 use Rattle.cg_surface.specs.Programs.{Entry}
 use Rattle.cg_typing.specs.Accepted.{IsAcceptedKernel}
 use Rattle.cg_typing.specs.declared.checked.Checked.{Checked}
-use Rattle.cg_typing.specs.Holds.{kernel_in, cores_in}
-use Rattle.cg_typing.specs.Kept.{maybe_core}
+use Rattle.cg_typing.specs.Holds.{kernel_in, cores_in, trees_in}
+use Rattle.cg_typing.specs.Kept.{AreKept, maybe_core, maybe_tree}
 use Rattle.cg_driver.specs.Accepted.{HasKernel, IsAcceptedSource}
-use Rattle.cg_driver.specs.Commands.{Judges, certified, kernel_rules, resolving_rules, reading_rules, source_rules, text_rules, entry_rules, heap_rules, entry_at}
+use Rattle.cg_driver.specs.Commands.{Judges, certified, kernel_rules, resolving_rules, reading_rules, source_rules, text_rules, entry_rules, heap_rules, entry_at, is_plain}
 use Rattle.cg_driver.specs.Found.{Found, functions, source_limit, certificate_limit, heap_limit}
-use Rattle.cg_driver.specs.Run.{AreCores}
+use Rattle.cg_driver.specs.Instanced.{AreCores}
 
 -- the functions of a checked source
 abbrev pub functions_in : Checked → List Function
@@ -32,12 +33,24 @@ functions_in checked = kernel_of (kernel_in checked)
 abbrev pub HoldsCores : Checked → Type 0
 HoldsCores checked = AreCores (functions_in checked) (map maybe_core (cores_in checked))
 
+-- its derivations are those with the occurrence marks
+pub record HoldsMarks (checked : Checked) : Type 0 where
+  pub are : map maybe_tree (trees_in checked) ≡ map (function_tree (functions_in checked)) (functions_in checked)
+  pub kept : AreKept (functions_in checked) (functions_in checked) (map maybe_core (cores_in checked)) (map (function_tree (functions_in checked)) (functions_in checked))
+
+-- so they make a certificate, the names of functions can be written in it, and no body is deep
+pub record CanBeBuilt (checked : Checked) : Type 0 where
+  pub marks : HoldsMarks checked
+  pub named : AreNamed (functions_in checked)
+  pub shallow : deepest_body (functions_in checked) ≤ term_limit
+
 -- a kernel is accepted within the limits, and kept so
 pub record IsCheckedKernel (functions : List Function) (checked : Checked) : Type 0 where
   pub accepted : IsAcceptedKernel functions
   pub within : AreTypesWithin functions
   pub same : functions_in checked ≡ functions
   pub cores : HoldsCores checked
+  pub marks : HoldsMarks checked
 
 -- a program has its names in order and is within the limits, and this is its kernel
 pub record IsKernelOf (p : List Entry) (kernel : Kernel) : Type 0 where
@@ -54,10 +67,11 @@ pub record IsReadSource (source : List ℕ) (kernel : Kernel) : Type 0 where
   pub same : kernel_of kernel ≡ functions_of program
   pub lawful : IsLawfulKernel (kernel_of kernel)
 
--- a source is accepted, and its kernel is kept so, which has few functions
+-- a source is accepted, and its kernel is kept so, which has few functions and can be built
 pub record IsCheckedSource (source : List ℕ) (checked : Checked) : Type 0 where
   pub accepted : IsAcceptedSource source (functions_in checked)
   pub cores : HoldsCores checked
+  pub ready : CanBeBuilt checked
   pub few : length (functions_in checked) ≤ functions_limit
 
 -- a state's functions are those of a checked source
@@ -70,13 +84,6 @@ pub record Keeps (checked : Checked) (found : Found) : Type 0 where
 pub record KeepsKernel (kernel : Kernel) (found : Found) : Type 0 where
   pub same : functions found ≡ kernel_of kernel
   pub lawful : IsLawfulKernel (kernel_of kernel)
-
--- the same, and the entry stands at this position in plain functions
-pub record KeepsEntry (checked : Checked) (at : ℕ) (found : Found) : Type 0 where
-  pub kept : Keeps checked found
-  pub entry : found.at ≡ at
-  pub plain : plain_kernel (functions_in checked) ≡ true
-  pub there : at < length (functions_in checked)
 
 -- what the rules say of a kernel, a program, a source, the bytes of a certificate file, a certificate, an entry and the bytes of a heap file
 -- that they refuse
@@ -113,7 +120,7 @@ pub record IsCertificate (bytes : List ℕ) (cert : Cert) : Type 0 where
 
 -- the entry of a plain source
 pub record IsEntry (entry : List ℕ) (functions : List Function) (at : ℕ) : Type 0 where
-  pub plain : plain_kernel functions ≡ true
+  pub plain : is_plain functions ≡ true
   pub named : entry_at entry functions ≡ Some at
 
 -- a heap file within its limit has this argument

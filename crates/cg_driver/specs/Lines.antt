@@ -15,11 +15,15 @@ use Rattle.cg_value.specs.Values.{Val}
 
 -- the usage text
 abbrev pub usage_text : List ℕ
-usage_text = codes "usage: cogent check FILE\n       cogent recheck FILE CERTFILE\n       cogent run FILE ENTRY HEAPFILE [--steps N]\n"
+usage_text = codes "usage: cogent check FILE\n       cogent build FILE CFILE CERTFILE\n       cogent recheck FILE CERTFILE\n       cogent run FILE ENTRY HEAPFILE [--steps N]\n"
 
 -- what `check` prints of an accepted source: how many functions have a definition
 abbrev pub ok_line : List Function → List ℕ
 ok_line functions = codes "ok: " ++ decimal (count_by (λ f. is_some f.body) functions) ++ codes " functions\n"
+
+-- what `build` prints of a source that is written: how many functions have a definition, and how many instances there are
+abbrev pub built_line : List Function → ℕ → List ℕ
+built_line functions instances = codes "ok: " ++ decimal (count_by (λ f. is_some f.body) functions) ++ codes " functions, " ++ decimal instances ++ codes " instances\n"
 
 -- the refusal of a source at a place, by a rule with its text (docs/LANGUAGE.md, "Faults of reading")
 abbrev pub fault_line : List ℕ → Place → List ℕ → List ℕ

@@ -1,42 +1,27 @@
 -- What a run of a plain source says, and why (docs/LANGUAGE.md, "Commands").
 use Rattle.std.specs.FinMap.{empty}
-use Rattle.std.specs.Prelude.{◌≡◌, ℕ, ◌+◌, ◌*◌, List, [], ◌∷◌, length, Option, Some, None}
+use Rattle.std.specs.Prelude.{◌≡◌, ℕ, ◌+◌, ◌*◌, List, [], ◌∷◌, Option, Some, None}
 use Rattle.cg_base.specs.declared.fun.Fun.TheVariants.{User}
-use Rattle.cg_core.specs.Derivations.{Derivation}
 use Rattle.cg_core.specs.Kernels.{Function}
 use Rattle.cg_core.specs.Terms.{Note, Tree}
 use Rattle.cg_crun.specs.Outcomes.{done}
 use Rattle.cg_crun.specs.Runs.{Linked, crun}
-use Rattle.cg_ctext.specs.Printed.{printed}
 use Rattle.cg_ctree.specs.Spells.{CSpells}
 use Rattle.cg_ctree.specs.Trees.{Program}
+use Rattle.cg_collect.specs.Collected.{Copy}
 use Rattle.cg_heap.specs.declared.cell.Scalar.TheVariants.{Word}
 use Rattle.cg_heap.specs.Stored.{Stored}
+use Rattle.cg_lower_laws.specs.Lowered.{function_name}
 use Rattle.cg_machine.specs.Evaluation.{Table, evaluation, IsSpent}
 use Rattle.cg_machine.specs.Foreigns.{table_over}
-use Rattle.cg_lower.specs.Lowered.{lowered, function_name}
-use Rattle.cg_typing.specs.Holds.{kept_at}
-use Rattle.cg_typing.specs.Kept.{AreKept}
 use Rattle.cg_value.specs.NoForeign.{no_foreign}
 use Rattle.cg_value.specs.Values.{number, function}
+use Rattle.cg_driver.specs.Instanced.{AreCores, bodies_in, emitted}
 use Rattle.cg_driver.specs.Lines.{report}
-
--- The cores of an accepted kernel, one for each function with a body: each erases to its body, and the typing rules derive it.
--- There are no others (the law `one_core` of the checker).
-abbrev pub AreCores : List Function → List (Option (Tree Note)) → Type 0
-AreCores functions cores = (trees : List (Option Derivation)) × AreKept functions functions cores trees
-
--- the core at a position
-abbrev pub bodies_in : List (Option (Tree Note)) → ℕ → Option (Tree Note)
-bodies_in cores i = kept_at cores i
 
 -- the functions of a source, by their cores, over no table of abstract functions
 abbrev pub table_in : List Function → List (Option (Tree Note)) → Table
 table_in functions cores = table_over no_foreign functions (bodies_in cores)
-
--- the C text of a source
-abbrev pub emitted : List Function → List (Option (Tree Note)) → List ℕ
-emitted functions cores = printed (lowered (bodies_in cores) (length functions))
 
 -- the steps that the C may take where evaluation costs k
 abbrev pub budget : ℕ → ℕ
@@ -68,17 +53,16 @@ pub record RunsOut (functions : List Function) (at arg steps : ℕ) : Type 0 whe
   pub derived : AreCores functions cores
   pub spent : IsSpent (table_in functions cores) steps (function (User at) []) (number arg)
 
--- The seven lines of a run of the function at a position on a word, where evaluation gives this value at this cost: the program that the C
--- text spells, run from the same word, ends within the budget, and gives the result; the two are equal. No cell is made, freed or kept.
-pub record IsReport (functions : List Function) (at arg value cost : ℕ) (text : List ℕ) : Type 0 where
-  pub cores : List (Option (Tree Note))
-  pub derived : AreCores functions cores
+-- The seven lines of a run on a word of the instance at a place, where evaluation of its function gives this value at this cost: the program
+-- that the C text of the instances spells, run from the same word, ends within the budget, and gives the result; the two are equal. No cell
+-- is made, freed or kept.
+pub record IsReport (copies : List Copy) (place arg value cost : ℕ) (text : List ℕ) : Type 0 where
   pub program : Program
-  pub spelled : CSpells (emitted functions cores) program
+  pub spelled : CSpells (emitted copies) program
   pub result : ℕ
   pub taken : ℕ
   pub left : ℕ
-  pub ends : RunsTo program (function_name at) arg (budget cost) result left
+  pub ends : RunsTo program (function_name place) arg (budget cost) result left
   pub counted : taken + left ≡ budget cost
   pub equal : result ≡ value
   pub lines : text ≡ report (number value) (number result) cost taken [] [] []

@@ -1,45 +1,39 @@
 // Running a function of a plain source twice: by evaluation, and by the steps of its C.
-ghost use Rattle.std.specs.Prelude.{◌≡◌, ◌∷◌, ◌<◌, ◌≤◌, ◌^◌, ◌+◌, ℕ, [], IfOk, IsTrue, length};
+ghost use Rattle.std.specs.Prelude.{◌≡◌, ◌∷◌, ◌<◌, ◌≤◌, ◌^◌, ℕ, [], IfOk, IsTrue, length};
 ghost use Rattle.cg_ctree.specs.Trees.{program_of};
 ghost use Rattle.cg_heap.specs.declared.cell.Scalar.TheVariants.{Word};
-ghost use Rattle.cg_plain.specs.Plain.{plain_kernel};
+ghost use Rattle.cg_source_laws.specs.Laws.{copies_in};
 ghost use Rattle.cg_value.specs.Values.{number, value_of};
-ghost use Rattle.cg_driver.specs.Executed.{Writes, Emits, Ends, Gives, Machines, Executes};
-ghost use Rattle.cg_driver.specs.Judged.{functions_in, HoldsCores};
+ghost use Rattle.cg_driver.specs.Built.{IsListed};
+ghost use Rattle.cg_driver.specs.Commands.{is_plain};
+ghost use Rattle.cg_driver.specs.Executed.{Emits, Ends, Gives, Machines, Executes};
+ghost use Rattle.cg_driver.specs.Judged.{functions_in, CanBeBuilt, HoldsCores};
 ghost use Rattle.cg_driver.specs.Run.{RunsTo};
 ghost use Rattle.cg_steps.specs.Parts.{Reports};
 
+use crate::build::emit_text;
 use crate::lines::{ran, step_limit};
 use cg_base::{Items, Memory, Name};
 use cg_cmachine::{RunFault, run_c};
 use cg_cread::{CFault, read_c};
-use cg_ctext::print_c;
 use cg_ctree::CProgram;
 use cg_eval::{EvalFault, eval, more_budget, plain_is_never_stuck};
 use cg_heap::{MapStore, Scalar};
-use cg_lower::{function_name, lower};
+use cg_inst::Instances;
+use cg_lowering::function_name;
+use cg_plain_laws::plain_runs;
 use cg_steps::Report;
 use cg_typing::Checked;
 use cg_value::Value;
 use std::alloc::Global;
 
-/// The C text of a source.
-fn text_of(alloc: Global, checked: &Checked) -> Result<Vec<u8>, Memory>
-    requires plain { IsTrue (plain_kernel (functions_in checked.now)) }
-    requires short { length (functions_in checked.now) ≤ 4096 }
-    ensures { IfOk result (λ text. Writes checked.now text.items) }
+/// The C of the instances of a source: written as a text, and read back from it.
+fn emit(alloc: Global, checked: &Checked, list: &Instances) -> Result<CProgram, Memory>
+    requires list { IsListed checked.now list.now }
+    requires ready { CanBeBuilt checked.now }
+    ensures { IfOk result (Emits (copies_in checked.now list.now)) }
 {
-    let program = lower(alloc, checked)?;
-    print_c(alloc, &program)
-}
-
-/// The C of a source: written as a text, and read back from it.
-fn emit(alloc: Global, checked: &Checked) -> Result<CProgram, Memory>
-    requires plain { IsTrue (plain_kernel (functions_in checked.now)) }
-    requires short { length (functions_in checked.now) ≤ 4096 }
-    ensures { IfOk result (Emits checked.now) }
-{
-    let text = text_of(alloc, checked)?;
+    let text = emit_text(alloc, checked, list)?;
     match read_c(alloc, &text) {
         Ok(program) => Ok(program),
         Err(CFault::Text(_)) => unreachable!(),
@@ -84,21 +78,24 @@ fn run_on_word(
 fn machine(
     alloc: Global,
     checked: &Checked,
+    list: &Instances,
     at: u32,
     arg: u64,
     value: &Value,
     cost: u64,
 ) -> Result<(u64, u64), Memory>
-    requires plain { IsTrue (plain_kernel (functions_in checked.now)) }
-    requires short { length (functions_in checked.now) ≤ 4096 }
+    requires list { IsListed checked.now list.now }
+    requires ready { CanBeBuilt checked.now }
+    requires plain { IsTrue (is_plain (functions_in checked.now)) }
     requires there { at < length (functions_in checked.now) }
     requires word { arg < 2 ^ 32 }
     requires gives { (steps : ℕ) × (steps ≤ 2 ^ 40) × Gives checked.now at arg steps (value_of value.now) cost }
-    ensures { IfOk result (λ r. Machines checked.now at arg (value_of value.now) cost r.0 r.1) }
+    ensures { IfOk result (λ r. Machines (copies_in checked.now list.now) at arg (value_of value.now) cost r.0 r.1) }
 {
     let function = function_name(alloc, at)?;
-    let program = emit(alloc, checked)?;
+    let program = emit(alloc, checked, list)?;
     more_budget();
+    plain_runs();
     run_on_word(alloc, &program, &function, arg, 32 * cost + 32)
 }
 
@@ -116,20 +113,22 @@ fn word_in(value: &Value) -> u64
 fn run_both(
     alloc: Global,
     checked: &Checked,
+    list: &Instances,
     at: u32,
     arg: u64,
     value: Value,
     cost: u64,
 ) -> Result<Report, Memory>
-    requires plain { IsTrue (plain_kernel (functions_in checked.now)) }
-    requires short { length (functions_in checked.now) ≤ 4096 }
+    requires list { IsListed checked.now list.now }
+    requires ready { CanBeBuilt checked.now }
+    requires plain { IsTrue (is_plain (functions_in checked.now)) }
     requires there { at < length (functions_in checked.now) }
     requires word { arg < 2 ^ 32 }
     requires cores { HoldsCores checked.now }
     requires gives { (steps : ℕ) × (steps ≤ 2 ^ 40) × Gives checked.now at arg steps (value_of value) cost }
-    ensures { IfOk result (λ r. (steps : ℕ) → Gives checked.now at arg steps (value_of value) cost → Reports (Executes (functions_in checked.now) at arg steps) r) }
+    ensures { IfOk result (λ r. (steps : ℕ) → Gives checked.now at arg steps (value_of value) cost → Reports (Executes (functions_in checked.now) (copies_in checked.now list.now) at at arg steps) r) }
 {
-    let (returned, taken) = machine(alloc, checked, at, arg, &value, cost)?;
+    let (returned, taken) = machine(alloc, checked, list, at, arg, &value, cost)?;
     ran(alloc, word_in(&value), returned, cost, taken)
 }
 
@@ -137,21 +136,23 @@ fn run_both(
 pub(crate) fn execute(
     alloc: Global,
     checked: &Checked,
+    list: &Instances,
     at: u32,
     arg: u64,
     steps: u64,
 ) -> Result<Report, Memory>
-    requires plain { IsTrue (plain_kernel (functions_in checked.now)) }
-    requires short { length (functions_in checked.now) ≤ 4096 }
+    requires list { IsListed checked.now list.now }
+    requires ready { CanBeBuilt checked.now }
+    requires plain { IsTrue (is_plain (functions_in checked.now)) }
     requires there { at < length (functions_in checked.now) }
     requires word { arg < 2 ^ 32 }
     requires few { steps ≤ 2 ^ 40 }
     requires cores { HoldsCores checked.now }
-    ensures { IfOk result (Reports (Executes (functions_in checked.now) at arg steps)) }
+    ensures { IfOk result (Reports (Executes (functions_in checked.now) (copies_in checked.now list.now) at at arg steps)) }
 {
     plain_is_never_stuck();
     match eval(alloc, checked, at, Value::Num(arg), steps) {
-        Ok((value, cost)) => run_both(alloc, checked, at, arg, value, cost),
+        Ok((value, cost)) => run_both(alloc, checked, list, at, arg, value, cost),
         Err(EvalFault::StepLimit) => step_limit(alloc, steps),
         Err(EvalFault::Memory) => Err(Memory),
     }

@@ -9,7 +9,7 @@ ghost use Rattle.cg_steps.specs.World.{world};
 ghost use Rattle.cg_steps.specs.Steps.{Outcome, WritesNone};
 ghost use Rattle.cg_steps.specs.Scripts.{Answers, ComesTo, Decides};
 ghost use Rattle.cg_words.specs.Words.{Command, check, recheck};
-ghost use Rattle.cg_driver.specs.Accepted.{IsAcceptedSource, IsCertifiedSource, PrintedIsCertified};
+ghost use Rattle.cg_driver.specs.Accepted.{BuildWrites, IsAcceptedSource, IsCertifiedSource, PrintedIsCertified, WritesItsOwn};
 ghost use Rattle.cg_driver.specs.Commands.{Judgement, certified, typed, Judges, script_of, asked};
 ghost use Rattle.cg_driver.specs.Found.{Found, functions as functions_found};
 
@@ -30,8 +30,8 @@ pub fn honest_cogent(
         (world (Some (honest_held files.old)) (λ name. 0) (λ name. 0)) (world (Some (honest_held files.new)) (λ name. 0) (λ name. 0))
         (Some (honest_taken out.old)) (Some (honest_taken out.new)) 0 0 result }
 
-    // No file changes.
-    ensures held { honest_held files.new ≡ honest_held files.old }
+    // No file changes, where no step writes.
+    ensures held { WritesNone (asked words.now).steps → honest_held files.new ≡ honest_held files.old }
 
     // No fault is answered.
     ensures no_read_fault { result ≢ Status.ReadFault }
@@ -63,9 +63,15 @@ pub fn one_text()
     ensures { (command : Option Command) (found : Found) (a b : List ℕ) → (script_of command).line found a → (script_of command).line found b → a ≡ b }
 {}
 
-/// No command writes a file.
-pub fn no_command_writes()
-    ensures { (command : Option Command) → WritesNone (script_of command).steps }
+/// `build` alone writes files: those that it names for the C text and for the certificate.
+pub fn only_build_writes()
+    ensures { (command : Option Command) → WritesItsOwn command }
+{}
+
+/// At status 0 of `build` the source is accepted, its instances are within the limits, the two files hold their C text and the source's
+/// certificate, and all others stand as they did. What is printed then says of both that they mean the source (`built_line`).
+pub fn build_writes_both()
+    ensures { BuildWrites }
 {}
 
 /// The steps of `check` come to status 0 over exactly the files whose source is accepted: the typing rules derive each function

@@ -2,6 +2,7 @@
 //! `specs/Commands` has each command as a list of steps.
 #![tactic(auto)]
 
+mod build;
 mod call;
 mod check;
 mod execute;
@@ -15,6 +16,7 @@ mod run;
 pub use call::cogent;
 pub use cg_steps::Status;
 pub use law::{
-    certificates_decide, honest_cogent, no_command_writes, one_outcome, one_text,
-    printed_is_certified, status_0_is_a_derivation, status_0_is_acceptance, typing_decides,
+    build_writes_both, certificates_decide, honest_cogent, one_outcome, one_text,
+    only_build_writes, printed_is_certified, status_0_is_a_derivation, status_0_is_acceptance,
+    typing_decides,
 };

@@ -19,7 +19,7 @@ pub(crate) fn usage(alloc: Global) -> Result<Report, Memory>
         status: Status::Usage,
         text: String::from_str(
             alloc,
-            "usage: cogent check FILE\n       cogent recheck FILE CERTFILE\n       cogent run FILE ENTRY HEAPFILE [--steps N]\n",
+            "usage: cogent check FILE\n       cogent build FILE CFILE CERTFILE\n       cogent recheck FILE CERTFILE\n       cogent run FILE ENTRY HEAPFILE [--steps N]\n",
         )?,
     })
 }
@@ -174,6 +174,17 @@ pub(crate) fn accepted(alloc: Global, functions: &[KFun]) -> Result<Report, Memo
     Ok(Report {
         status: Status::Done,
         text: format!(in alloc; "ok: {count} functions\n")?,
+    })
+}
+
+/// The line of a source that is written, with so many instances.
+pub(crate) fn built(alloc: Global, functions: &[KFun], instances: usize) -> Result<Report, Memory>
+    ensures { IfOk result (λ r. IsLine Status.Done (lines.built_line (map function_of functions.now) instances) r) }
+{
+    let count = count_functions(functions);
+    Ok(Report {
+        status: Status::Done,
+        text: format!(in alloc; "ok: {count} functions, {instances} instances\n")?,
     })
 }
 

@@ -3,6 +3,7 @@ ghost use Rattle.cg_steps.specs.World.{world};
 ghost use Rattle.cg_steps.specs.Parts.{Concludes};
 ghost use Rattle.cg_driver.specs.Commands.{Judges, asked as script_asked};
 
+use crate::build::{Named, build_file};
 use crate::check::check_file;
 use crate::lines::usage;
 use crate::recheck::recheck_file;
@@ -27,6 +28,22 @@ pub(crate) fn plan<F: Files>(
         Err(_) => Err(Memory),
         Ok(None) => usage(alloc),
         Ok(Some(Command::Check { file })) => check_file(alloc, file, files),
+        Ok(
+            Some(
+                Command::Build {
+                    file,
+                    text,
+                    certificate,
+                },
+            ),
+        ) => {
+            let names = Named {
+                file,
+                text,
+                certificate,
+            };
+            build_file(alloc, &names, files)
+        }
         Ok(Some(Command::Recheck { file, certificate })) => {
             recheck_file(alloc, file, certificate, files)
         }

@@ -21,7 +21,7 @@ use cg_steps::{Report, Step, read_file};
 use std::alloc::Global;
 
 /// No certificate has more bytes.
-const CERTIFICATE_LIMIT: usize = 67_108_864;
+pub(crate) const CERTIFICATE_LIMIT: usize = 67_108_864;
 
 /// The certificate whose text these bytes are.
 fn certificate_in(alloc: Global, name: &str, bytes: &[u8]) -> Result<Step<Cert>, Memory>

@@ -3,6 +3,7 @@ use crate::sources::lowered;
 use cg_base::{Items, Name};
 use cg_cmachine::{Ran, run_c};
 use cg_heap::{MapStore, Scalar};
+use cg_lowering::function_name;
 use std::alloc::Global;
 use std::process::Abort;
 use std::test::Fail;
@@ -78,4 +79,11 @@ g : U32 -> U32
 g x = two #{f = inc, x = x}
 ";
     expect(&rt, rt.alloc(), source, b"f2", &[5], &[7])
+}
+
+#[test]
+fn a_function_is_named_by_its_place(rt: HostRuntime) -> Result<(), Fail> {
+    let name = function_name(rt.alloc(), 4_294_967_295)?;
+    assert_eq!(rt; name.bytes(), b"f4294967295".as_slice());
+    Ok(())
 }

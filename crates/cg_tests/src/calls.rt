@@ -5,7 +5,6 @@ use cg_core::{At, Form, Fun, Op, Term, TyArg, Typed, erase};
 use cg_cread::read_c;
 use cg_ctree::{COpnd, CPath, CStmt};
 use cg_kinds::subst;
-use cg_lower::function_name;
 use cg_outside::{
     Failures, FileFault, Files, HonestFiles, HonestSink, MemoryFiles, MemorySink, Sink,
 };
@@ -131,10 +130,6 @@ fn outside_calls_succeed(rt: HostRuntime) -> Result<(), Fail> {
 #[test]
 fn c_calls_succeed(rt: HostRuntime) -> Result<(), Fail> {
     let alloc = rt.alloc();
-    assert_eq!(rt;
-        function_name(alloc, 4_294_967_295)?.bytes(),
-        b"f4294967295".as_slice()
-    );
     let to = CPath {
         base: Name::new(alloc, b"x")?,
         arrow: false,

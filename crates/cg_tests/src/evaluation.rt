@@ -1,19 +1,7 @@
-// Evaluation of plain sources, and their C.
-ghost use Rattle.std.specs.Prelude.{◌≤◌, ◌^◌, IfOk, IsTrue};
-ghost use Rattle.cg_core.specs.Kernels.{kernel_of};
-ghost use Rattle.cg_ctree.specs.Trees.{program_of as c_program_of};
-ghost use Rattle.cg_plain.specs.Plain.{plain_kernel};
-ghost use Rattle.cg_lower.specs.Printables.{CanBePrinted};
-ghost use Rattle.cg_typing.specs.Holds.{kernel_in};
-
+// Evaluation of plain sources.
 use crate::sources::checked_source;
-use cg_base::{Items, Name, Ty, Word};
-use cg_cmachine::{Ran, RunFault, run_c};
-use cg_ctext::print_c;
-use cg_ctree::CProgram;
+use cg_base::{Items, Ty, Word};
 use cg_eval::{EvalFault, eval, plain_is_never_stuck};
-use cg_heap::{MapStore, Scalar};
-use cg_lower::{lower, lower_function};
 use cg_plain::is_plain;
 use cg_typing::Checked;
 use cg_value::{Value, print_value};
@@ -46,34 +34,6 @@ fn expect(
     Ok(())
 }
 
-/// The C of a source that has no more functions than a source may have.
-fn lowered(rt: &impl Abort, alloc: Global, checked: &Checked) -> Result<CProgram, Fail>
-    ensures { IfOk result (λ p. CanBePrinted checked.now (c_program_of p)) }
-{
-    if checked.kernel().funs.len() > 4096 {
-        panic!(rt; "more functions than a source may have");
-    }
-    Ok(lower(alloc, checked)?)
-}
-
-/// Runs the C function `f0` on a word, on a store without cells.
-fn run_f0(alloc: Global, program: &CProgram, arg: u64, budget: u64) -> Result<Ran, RunFault>
-    requires few { budget ≤ 2 ^ 46 }
-{
-    let mut scalars = Items::new(alloc);
-    scalars.push(Scalar::Word(arg))?;
-    let mut store = MapStore::new(alloc);
-    let name = Name::new(alloc, b"f0")?;
-    run_c(alloc, program, &name, &scalars, &mut store, budget)
-}
-
-/// Whether a run gave this word and no cell.
-fn is_word(ran: &Ran, number: u64) -> bool {
-    ran.made.len() == 0
-        && ran.freed.len() == 0
-        && matches!(ran.value.as_slice(), [Scalar::Word(given)] if *given == number)
-}
-
 #[test]
 fn values_are_copied_and_words_printed(rt: HostRuntime) -> Result<(), Fail> {
     let alloc = rt.alloc();
@@ -91,61 +51,10 @@ fn values_are_copied_and_words_printed(rt: HostRuntime) -> Result<(), Fail> {
 }
 
 #[test]
-fn the_c_of_a_source_gives_the_same(rt: HostRuntime) -> Result<(), Fail> {
+fn a_call_costs_its_nodes(rt: HostRuntime) -> Result<(), Fail> {
     let alloc = rt.alloc();
     let source = "f : U32 -> U32\nf x = let y = g x in g y\ng : U32 -> U32\ng x = x + x\n";
     let checked = checked_source(&rt, alloc, source)?;
     expect(&rt, alloc, &checked, 0, 3, 13, Some((12, 13)))?;
-    let program = lowered(&rt, alloc, &checked)?;
-    assert_eq!(rt;
-        program.funs.get(0).map(|first| first.name.bytes()),
-        Some(b"f1".as_slice())
-    );
-    // Two calls of three steps each, and the return.
-    let ran = run_f0(alloc, &program, 3, 448);
-    assert!(rt; matches!(&ran, Ok(ran) if is_word(ran, 12) && ran.steps == 7));
-    let ran = run_f0(alloc, &program, 3, 6);
-    assert!(rt; matches!(&ran, Err(RunFault::Budget)));
-    Ok(())
-}
-
-#[test]
-fn the_c_of_a_function_is_made(rt: HostRuntime) -> Result<(), Fail> {
-    let alloc = rt.alloc();
-    let checked = checked_source(&rt, alloc, "f : U32 -> U32\nf x = x + 1\n")?;
-    let Some(core) = checked.core(0) else {
-        panic!(rt; "no core is kept")
-    };
-    let function = lower_function(alloc, 7, core)?;
-    assert_eq!(rt; function.name.bytes(), b"f7".as_slice());
-    Ok(())
-}
-
-// The C text of a plain source.
-fn printed(rt: &impl Abort, alloc: Global, checked: &Checked) -> Result<Vec<u8>, Fail>
-    requires plain { IsTrue (plain_kernel (kernel_of (kernel_in checked.now))) }
-{
-    let program = lowered(rt, alloc, checked)?;
-    Ok(print_c(alloc, &program)?)
-}
-
-#[test]
-fn the_c_of_a_source_is_printed(rt: HostRuntime) -> Result<(), Fail> {
-    let alloc = rt.alloc();
-    let checked = checked_source(&rt, alloc, "f : U32 -> U32\nf x = x + 1\n")?;
-    if !is_plain(checked.kernel()) {
-        panic!(rt; "not a plain source");
-    }
-    let text = printed(&rt, alloc, &checked)?;
-    let expected = b"#include <stdint.h>
-#include \"cogent.h\"
-
-uint32_t f0(uint32_t a0) {
-    uint32_t x0;
-    x0 = (uint32_t)((uint32_t)a0 + (uint32_t)1ull);
-    return x0;
-}
-";
-    assert_eq!(rt; text.as_slice(), expected.as_slice());
-    Ok(())
+    expect(&rt, alloc, &checked, 0, 3, 12, None)
 }

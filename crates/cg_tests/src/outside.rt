@@ -12,12 +12,18 @@ fn one_file(alloc: Global, source: &[u8]) -> Result<Vec<(Name, Vec<u8>)>, Fail> 
     Ok(files)
 }
 
+/// Words.
+fn words_of(alloc: Global, texts: &[&str]) -> Result<Vec<String>, Fail> {
+    let mut words = Vec::new(alloc);
+    for text in texts {
+        words.push(String::from_str(alloc, text)?)?;
+    }
+    Ok(words)
+}
+
 /// The words `check NAME`.
 fn check_of(alloc: Global, name: &str) -> Result<Vec<String>, Fail> {
-    let mut words = Vec::new(alloc);
-    words.push(String::from_str(alloc, "check")?)?;
-    words.push(String::from_str(alloc, name)?)?;
-    Ok(words)
+    words_of(alloc, &["check", name])
 }
 
 #[test]
@@ -51,5 +57,79 @@ fn an_honest_outside_answers(rt: HostRuntime) -> Result<(), Fail> {
     assert_eq!(rt; out.bytes(), b"ok: 1 functions\n".as_slice());
     let status = honest_cogent(alloc, &check_of(alloc, "b.cg")?, &mut files, &mut out);
     assert_eq!(rt; status, Status::Done);
+    Ok(())
+}
+
+/// A record in a cell, of which one field is taken and put back.
+const BUMP: &str = "type Cell = {val : U32, tag : U8}
+bump : Cell -> Cell
+bump c = let c' {val = v} = c in c' {val = v + 1}
+";
+
+/// Its certificate.
+const BUMP_CERTIFICATE: &str = "cogent certificate 1
+fun bump
+take L
+var
+put -LR
+var
+op --L
+var
+lit
+end
+";
+
+/// Its C text.
+const BUMP_TEXT: &str = "#include <stdint.h>
+#include \"cogent.h\"
+
+struct s0 {
+    uint32_t m0;
+    uint8_t m1;
+};
+
+struct s0 *f0(struct s0 *a0) {
+    uint32_t x0;
+    uint32_t x1;
+    x0 = a0->m0;
+    x1 = (uint32_t)((uint32_t)x0 + (uint32_t)1ull);
+    a0->m0 = x1;
+    return a0;
+}
+";
+
+#[test]
+fn both_files_are_written(rt: HostRuntime) -> Result<(), Fail> {
+    let alloc = rt.alloc();
+    let words = words_of(alloc, &["build", "a.cg", "a.c", "a.cert"])?;
+    let held = one_file(alloc, BUMP.as_bytes())?;
+    let mut files = MemoryFiles::new(alloc, held, Vec::new(alloc));
+    let mut out = MemorySink::new(alloc, vec![in alloc; 2]?);
+    let status = cogent(alloc, &words, &mut files, &mut out);
+    assert_eq!(rt; status, Status::Done);
+    let printed = b"ok: 1 functions, 1 instances\n".as_slice();
+    assert_eq!(rt; out.bytes(), printed);
+    assert_eq!(rt; files.contents("a.c"), Some(BUMP_TEXT.as_bytes()));
+    assert_eq!(rt; files.contents("a.cert"), Some(BUMP_CERTIFICATE.as_bytes()));
+    // The next write to the output fails: both files stand whole all the same.
+    let status = cogent(alloc, &words, &mut files, &mut out);
+    assert_eq!(rt; status, Status::WriteFault);
+    assert_eq!(rt; out.bytes(), printed);
+    assert_eq!(rt; files.contents("a.cert"), Some(BUMP_CERTIFICATE.as_bytes()));
+    Ok(())
+}
+
+#[test]
+fn a_certificate_that_fails_leaves_the_text(rt: HostRuntime) -> Result<(), Fail> {
+    let alloc = rt.alloc();
+    let words = words_of(alloc, &["build", "a.cg", "a.c", "a.cert"])?;
+    let held = one_file(alloc, BUMP.as_bytes())?;
+    let mut files = MemoryFiles::new(alloc, held, vec![in alloc; 3]?);
+    let mut out = MemorySink::new(alloc, Vec::new(alloc));
+    let status = cogent(alloc, &words, &mut files, &mut out);
+    assert_eq!(rt; status, Status::WriteFault);
+    assert_eq!(rt; out.bytes(), b"a.cert: cannot be written\n".as_slice());
+    assert_eq!(rt; files.contents("a.c"), Some(BUMP_TEXT.as_bytes()));
+    assert_eq!(rt; files.contents("a.cert"), Some(b"".as_slice()));
     Ok(())
 }

@@ -2,7 +2,7 @@ use Rattle.std.proofs.Common.{◌∙◌, ap, sym, Some}
 use Rattle.std.specs.Option.{option_map}
 use Rattle.cg_steps.proofs.Joining.{stops_before}
 use Rattle.cg_words.specs.Views.{command_view}
-use Rattle.cg_words.specs.Words.{check, recheck, run, texts, command_of}
+use Rattle.cg_words.specs.Words.{check, build, recheck, run, texts, command_of}
 use Rattle.cg_driver.specs.Commands.{Judges, asked}
 use Rattle.cg_driver.proofs.Wording.{planned, usage_concludes}
 use Rattle.cg_driver.proofs.plan.plan.Goals as goal
@@ -18,6 +18,11 @@ pub returns-in-Ok-Some-Check : goal.returns-in-Ok-Some-Check
 returns-in-Ok-Some-Check g c =
     planned (Some (check c.in-Ok-Some-Check.file.now)) (command_of (texts c.args.words.now))
     (ap (option_map command_view) (sym (c.in-Ok-Some-Check.field-0-is ∙ ap Some c.in-Ok-Some-Check.field-0-0-is)) ∙ c.in-Ok-Some-Check.ensures.asks) _ _ c.check_file.result c.check_file.ensures
+
+pub returns-in-Ok-Some-Build : goal.returns-in-Ok-Some-Build
+returns-in-Ok-Some-Build g c =
+    planned (Some (build c.in-Ok-Some-Build.file.now c.in-Ok-Some-Build.text.now c.in-Ok-Some-Build.certificate.now)) (command_of (texts c.args.words.now))
+    (ap (option_map command_view) (sym (c.in-Ok-Some-Build.field-0-is ∙ ap Some c.in-Ok-Some-Build.field-0-0-is)) ∙ c.in-Ok-Some-Build.ensures.asks) _ _ c.build_file.result c.build_file.ensures
 
 pub returns-in-Ok-Some-Recheck : goal.returns-in-Ok-Some-Recheck
 returns-in-Ok-Some-Recheck g c =

@@ -1,0 +1,78 @@
+-- The instances of a source, and what is written of it: its C text, and its certificate (docs/LANGUAGE.md, "Instances", "The C of instances"
+-- and "Certificates").
+use Rattle.std.specs.Prelude.{◌≡◌, ℕ, List, Option, map}
+use Rattle.cg_base.specs.declared.limit.Limit.TheVariants.{Core, Instances, Ty}
+use Rattle.cg_cert.specs.Certificates.{certificate}
+use Rattle.cg_cert.specs.declared.cert.Cert.{Cert}
+use Rattle.cg_cert.specs.Texts.{CertText, text as text_of}
+use Rattle.cg_certcheck_laws.specs.Laws.{SpellsDerivation}
+use Rattle.cg_check_laws.specs.Kept.{function_tree}
+use Rattle.cg_collect.specs.Collected.{Copy}
+use Rattle.cg_core.specs.Derivations.{Derivation}
+use Rattle.cg_core.specs.Kernels.{Function}
+use Rattle.cg_core.specs.Terms.{Note, Tree}
+use Rattle.cg_ctext.specs.Printed.{printed}
+use Rattle.cg_ctree.specs.Spells.{CSpells}
+use Rattle.cg_ctree.specs.Trees.{Program}
+use Rattle.cg_inst.specs.Judged.{AreTooMany, HaveLargeTypes, HaveTooManyNodes, IsWithin}
+use Rattle.cg_inst.specs.Lists.{Cores}
+use Rattle.cg_lowering.specs.Programs.{lowered}
+use Rattle.cg_lowering.specs.Promises.{IsSimulated}
+use Rattle.cg_source_laws.specs.Laws.{copies_over}
+use Rattle.cg_typing.specs.Holds.{kept_at}
+use Rattle.cg_typing.specs.Instances.{Instance}
+use Rattle.cg_typing.specs.Kept.{AreKept}
+use Rattle.cg_driver.specs.Lines.{limit_line, limit_name}
+
+-- The cores of an accepted kernel, one for each function with a body: each erases to its body, and the typing rules derive it.
+-- There are no others (the law `one_core` of the checker).
+abbrev pub AreCores : List Function → List (Option (Tree Note)) → Type 0
+AreCores functions cores = (trees : List (Option Derivation)) × AreKept functions functions cores trees
+
+-- the core at a position
+abbrev pub bodies_in : List (Option (Tree Note)) → Cores
+bodies_in cores i = kept_at cores i
+
+-- ---- instances
+
+-- the instances of an accepted kernel, with their types and bodies, are these, and within all limits
+pub record HasInstances (functions : List Function) (copies : List Copy) : Type 0 where
+  pub cores : List (Option (Tree Note))
+  pub derived : AreCores functions cores
+  pub list : List Instance
+  pub within : IsWithin functions (bodies_in cores) list
+  pub are : copies ≡ copies_over functions (bodies_in cores) list
+
+-- they pass a limit, and this is the line of the first that they pass
+pub data PassesInstances (functions : List Function) (text : List ℕ) : Type 0 where
+  too_many : (cores : List (Option (Tree Note))) → AreCores functions cores → AreTooMany functions (bodies_in cores) → text ≡ limit_line (limit_name Instances)
+      → PassesInstances functions text
+  too_large : (cores : List (Option (Tree Note))) → AreCores functions cores → HaveTooManyNodes functions (bodies_in cores) → text ≡ limit_line (limit_name Core)
+      → PassesInstances functions text
+  too_wide : (cores : List (Option (Tree Note))) → AreCores functions cores → HaveLargeTypes functions (bodies_in cores) → text ≡ limit_line (limit_name Ty)
+      → PassesInstances functions text
+
+-- ---- what is written
+
+-- the C text of a list of instances: the print of the one program that it is lowered to
+abbrev pub emitted : List Copy → List ℕ
+emitted copies = printed (lowered copies)
+
+-- The text means what the instances do: it spells a program that simulates the update semantics, which gives the same scalars, heap and
+-- addresses at cost k within 32k + 32 steps, on every heap and over any table.
+pub record IsMeant (copies : List Copy) : Type 0 where
+  pub program : Program
+  pub spelled : CSpells (emitted copies) program
+  pub simulates : IsSimulated copies program
+
+-- the certificate of an accepted kernel: that of the derivations with the occurrence marks; and its text
+abbrev pub certificate_of : List Function → Cert
+certificate_of functions = certificate functions (map (function_tree functions) functions)
+
+abbrev pub certified_text : List Function → List ℕ
+certified_text functions = text_of (certificate_of functions)
+
+-- the text is that of the certificate, which spells a derivation of the kernel
+pub record IsProved (functions : List Function) : Type 0 where
+  pub written : CertText (certified_text functions) (certificate_of functions)
+  pub spells : SpellsDerivation functions (certificate_of functions)
