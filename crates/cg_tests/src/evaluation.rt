@@ -1,6 +1,6 @@
 // Evaluation of plain sources.
 use crate::sources::checked_source;
-use cg_base::{Items, Ty, Word};
+use cg_base::{Items, Name, Ty, Word};
 use cg_eval::{EvalFault, eval, plain_is_never_stuck};
 use cg_plain::is_plain;
 use cg_typing::Checked;
