@@ -33,9 +33,9 @@ fn parts_stand_behind_a_node(rt: HostRuntime) -> Result<(), Fail> {
     let body = Box::new(alloc, node(5, Form::Var(1)))?;
     let core = node(1, Form::Let(Place { line: 1, column: 9 }, value, body));
     let nodes = nodes_in(alloc, &core)?;
-    let mut column = 0;
+    let mut column = 0_u32;
     for node in nodes.as_slice() {
-        column += 1;
+        column = column.wrapping_add(1);
         assert_eq!(rt; node.note.place.column, column);
     }
     assert_eq!(rt; column, 5);
