@@ -25,8 +25,8 @@ use Rattle.cg_inst.specs.Judged.{AreTooMany, HaveLargeTypes, HaveTooManyNodes, I
 use Rattle.cg_inst.specs.Lists.{Cores}
 use Rattle.cg_inst.specs.Views.{instance_of}
 use Rattle.cg_inst_laws.specs.Laws.{entry_of}
-use Rattle.cg_lowering.specs.Programs.{lowered}
-use Rattle.cg_lowering.specs.Promises.{CanBePrinted, IsSimulated}
+use Rattle.cg_lower.specs.Programs.{lowered}
+use Rattle.cg_lower.specs.Promises.{CanBePrinted, IsSimulated}
 use Rattle.cg_mono.specs.Copies.{copy_of}
 use Rattle.cg_mono.specs.declared.copies.Copy.{Copy as OneCopy}
 use Rattle.cg_mono.specs.declared.copies.Mono.{Mono}

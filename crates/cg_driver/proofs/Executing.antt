@@ -1,5 +1,5 @@
 -- From the parts of the two runs of a function to what is said of them.
-use Rattle.std.proofs.Common.{◌≡◌, ◌<◌, ◌^◌, ◌&&◌, ℕ, zero, suc, Bool, true, false, true≢false, List, [], ◌∷◌, inl, inr, Option, Some, Result, Ok, Err, length, map, refl, sym, ap, ◌∙◌, subst, rules}
+use Rattle.std.proofs.Common.{◌≡◌, ◌<◌, ◌^◌, ℕ, zero, suc, List, [], ◌∷◌, inl, inr, Option, Some, Result, Ok, Err, map, slice_get, refl, sym, ap, ◌∙◌, subst, rules}
 use Rattle.std.specs.Prelude.{IfOk, string_bytes}
 use Rattle.cg_base.specs.declared.fun.Fun.TheVariants.{User}
 use Rattle.cg_base.specs.declared.memory.Memory.{Memory}
@@ -14,12 +14,11 @@ use Rattle.cg_ctree.specs.Spells.{CSpells}
 use Rattle.cg_ctree.specs.Trees.{Program, program_of}
 use Rattle.cg_inst.specs.Judged.{core_in}
 use Rattle.cg_lower_laws.specs.Lowered.{function_name}
-use Rattle.cg_lowering.specs.Promises.{IsSimulated}
+use Rattle.cg_lower.specs.Promises.{IsSimulated}
 use Rattle.cg_machine.specs.Evaluation.{Table, evaluation, IsSpent}
 use Rattle.cg_machine.specs.Foreigns.{table_of, table_over}
-use Rattle.cg_plain.specs.Plain.{plain_kernel}
-use Rattle.cg_plain_laws.specs.Laws.{PlainRuns, are_monomorphic}
-use Rattle.cg_source_laws.specs.Laws.{copies_in}
+use Rattle.cg_source_laws.specs.Laws.{EntriesRun, copies_in}
+use Rattle.cg_source_laws.specs.Runs.{RunsTo}
 use Rattle.cg_typing.specs.declared.checked.Checked.{Checked}
 use Rattle.cg_typing.specs.Holds.{cores_in, kept_at}
 use Rattle.cg_typing.specs.Instances.{Instance}
@@ -33,14 +32,15 @@ use Rattle.cg_steps.specs.declared.status.Status.{Status}
 use Rattle.cg_steps.specs.declared.status.Status.TheVariants.{Done, Refused, Usage, ReadFault, WriteFault, Memory as NoMemory, StepLimit, HeapRefused, CertRefused, TooLarge}
 use Rattle.cg_steps.specs.Steps.{refuses, goes}
 use Rattle.cg_steps.specs.Parts.{IsLine, Reports, Rules}
-use Rattle.cg_driver.specs.Built.{IsListed, KeepsCopies}
-use Rattle.cg_driver.specs.Commands.{Judges, evaluated, is_plain, ran_lines}
+use Rattle.cg_driver.specs.Built.{CanRun, KeepsCopies}
+use Rattle.cg_driver.specs.Commands.{Judges, evaluated, ran_lines}
 use Rattle.cg_driver.specs.Executed.{cores_of, Emits, Ends, Gives, Machines, Executes}
 use Rattle.cg_driver.specs.Found.{Found, functions, with_value}
 use Rattle.cg_driver.specs.Instanced.{IsMeant, bodies_in, emitted}
 use Rattle.cg_driver.specs.Judged.{functions_in, HoldsCores}
 use Rattle.cg_driver.specs.Lines.{report, step_limit_line}
-use Rattle.cg_driver.specs.Run.{RunsTo, budget, table_in}
+use Rattle.cg_driver.specs.Run.{budget, table_in}
+use Rattle.cg_driver.proofs.Placing.{function_there, place_stands}
 use Rattle.cg_driver.proofs.Saying.{line_says}
 
 -- ---- the cores of a checked source, as the code keeps them and as plain trees
@@ -71,20 +71,14 @@ unreadable copies text bytes place is m same answer = answer.4 m.program (subst 
 
 -- ---- the run
 
-both_true : (a b : Bool) → (a && b) ≡ true → (a ≡ true) × (b ≡ true)
-both_true true b h = (refl, h)
-both_true false b h = absurd (true≢false (sym h))
-
-pub plain_of : (checked : Checked) → is_plain (functions_in checked) ≡ true → plain_kernel (functions_in checked) ≡ true
-plain_of checked plain = (both_true (plain_kernel (functions_in checked)) (are_monomorphic (functions_in checked)) plain).0
-
--- the C of a function gives what evaluation gives
-pub runs_alike : PlainRuns → (checked : Checked) (list : List Instance) (program : CProgram) → is_plain (functions_in checked) ≡ true → IsListed checked list
-    → Emits (copies_in checked list) program → (at arg steps cost : ℕ) (value : Val) → at < length (functions_in checked) → arg < 2 ^ 32 → Gives checked at arg steps value cost
-    → (result : ℕ) × (value ≡ number result) × (left : ℕ) × RunsTo (program_of program) (function_name at) arg (budget cost) result left
-runs_alike law checked list program plain within e at arg steps cost value there small gives =
-    let p = both_true (plain_kernel (functions_in checked)) (are_monomorphic (functions_in checked)) plain in
-    let r = law checked list (program_of program) p.0 p.1 within.is e.simulates at steps cost arg value there small gives in
+-- the C of an entry's instance gives what evaluation gives
+pub runs_alike : EntriesRun → (checked : Checked) (list : List Instance) (program : CProgram) (at place : ℕ) → CanRun checked list at place → Emits (copies_in checked list) program
+    → (arg steps cost : ℕ) (value : Val) → arg < 2 ^ 32 → Gives checked at arg steps value cost
+    → (result : ℕ) × (value ≡ number result) × (left : ℕ) × RunsTo (program_of program) (function_name place) arg (budget cost) result left
+runs_alike law checked list program at place ready e arg steps cost value small gives =
+    let f = function_there (slice_get (functions_in checked) at) ready.on_words.words in
+    let r = law checked list (program_of program) ready.listed.is e.simulates place at steps cost arg f.0 value (place_stands checked list at place ready.on_words.stands) f.1 f.2
+    ready.allowed.concrete ready.on_words.without small gives in
     (r.0, r.1, r.3, r.4)
 
 -- two runs from one state end alike
@@ -150,19 +144,21 @@ runs_out checked copies at place arg steps cores out = (
 )
 
 -- what both runs say is what the last judgement of `run` comes to
-pub executed : (checked : Checked) (list : List Instance) (at arg steps : ℕ) (f : Found) → KeepsCopies checked list f → f.at ≡ at → f.argument ≡ arg → (r : Result Report Memory)
-    → IfOk r (Reports (Executes (functions_in checked) (copies_in checked list) at at arg steps)) → Rules Judges ran_lines (evaluated steps ∷ []) f r
-executed checked list at arg steps f kept there given (Err e) h = tt
-executed checked list at arg steps f kept there given (Ok r) h = from r.status refl (moved h)
+pub executed : (checked : Checked) (list : List Instance) (at place arg steps : ℕ) (f : Found) → KeepsCopies checked list f → f.at ≡ at → f.place ≡ place → f.argument ≡ arg
+    → (r : Result Report Memory) → IfOk r (Reports (Executes (functions_in checked) (copies_in checked list) at place arg steps)) → Rules Judges ran_lines (evaluated steps ∷ []) f r
+executed checked list at place arg steps f kept there placed given (Err e) h = tt
+executed checked list at place arg steps f kept there placed given (Ok r) h = from r.status refl (moved h)
   where
-    moved : Executes (functions_in checked) (copies_in checked list) at at arg steps r.status (string_bytes r.text) → Executes (functions f) f.copies f.at f.at f.argument steps r.status (string_bytes r.text)
+    moved : Executes (functions_in checked) (copies_in checked list) at place arg steps r.status (string_bytes r.text)
+        → Executes (functions f) f.copies f.at f.place f.argument steps r.status (string_bytes r.text)
     moved h =
-        subst (λ x. Executes x f.copies f.at f.at f.argument steps r.status (string_bytes r.text)) (sym kept.same)
-        (subst (λ x. Executes (functions_in checked) x f.at f.at f.argument steps r.status (string_bytes r.text)) (sym kept.copies)
-        (subst (λ x. Executes (functions_in checked) (copies_in checked list) x x f.argument steps r.status (string_bytes r.text)) (sym there)
-        (subst (λ x. Executes (functions_in checked) (copies_in checked list) at at x steps r.status (string_bytes r.text)) (sym given) h)))
+        subst (λ x. Executes x f.copies f.at f.place f.argument steps r.status (string_bytes r.text)) (sym kept.same)
+        (subst (λ x. Executes (functions_in checked) x f.at f.place f.argument steps r.status (string_bytes r.text)) (sym kept.copies)
+        (subst (λ x. Executes (functions_in checked) (copies_in checked list) x f.place f.argument steps r.status (string_bytes r.text)) (sym there)
+        (subst (λ x. Executes (functions_in checked) (copies_in checked list) at x f.argument steps r.status (string_bytes r.text)) (sym placed)
+        (subst (λ x. Executes (functions_in checked) (copies_in checked list) at place x steps r.status (string_bytes r.text)) (sym given) h))))
 
-    from : (s : Status) → r.status ≡ s → Executes (functions f) f.copies f.at f.at f.argument steps s (string_bytes r.text) → Rules Judges ran_lines (evaluated steps ∷ []) f (Ok r)
+    from : (s : Status) → r.status ≡ s → Executes (functions f) f.copies f.at f.place f.argument steps s (string_bytes r.text) → Rules Judges ran_lines (evaluated steps ∷ []) f (Ok r)
     from Done is h = (goes (with_value h.0 h.1 f), inr (with_value h.0 h.1 f, (h.0, h.1, refl, h.2), refl), (is, h.3))
     from StepLimit is h = (refuses StepLimit (string_bytes r.text), inl (tt, (refl, h.1, h.0)), (is, refl))
     from Refused is h = absurd h

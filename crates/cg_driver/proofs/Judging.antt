@@ -32,6 +32,8 @@ use Rattle.cg_parser.specs.declared.fault.ParseFault.TheVariants.{S1, S2, S3, S4
 use Rattle.cg_parser.proofs.One.{one_program}
 use Rattle.cg_parser.proofs.Same.{one_answer as one_reading}
 use Rattle.cg_resolve.specs.Answers.{IsCircleAt}
+use Rattle.cg_source_laws.specs.Laws.{CopiesReachCells}
+use Rattle.cg_source_laws.specs.Runs.{RunsTo}
 use Rattle.cg_steps.specs.declared.status.Status.{Status}
 use Rattle.cg_steps.specs.declared.status.Status.TheVariants.{Refused, Usage, StepLimit, HeapRefused, CertRefused, TooLarge}
 use Rattle.cg_steps.specs.Steps.{Outcome, refuses, goes}
@@ -42,11 +44,12 @@ use Rattle.cg_takes.specs.Says as takes
 use Rattle.cg_typing.specs.Accepted.{IsAcceptedKernel}
 use Rattle.cg_value.specs.Values.{Val, number, function}
 use Rattle.cg_words.specs.Words.{Command, check, build, recheck, run}
-use Rattle.cg_driver.specs.Commands.{Judgement, no_command, within, spelled, named, acyclic, with_fields, typed, written, certified, instanced, certifiable, plain, has_entry, heap_spelled, in_range, evaluated, RefusesSyntax, unknown_byte, open_comment, unexpected, wrong_bar, RefusesTyping, RefusesType, Judges, script_of}
-use Rattle.cg_driver.specs.Found.{Found, with_program, with_copies, with_cert, with_entry, with_argument, with_value, functions}
+use Rattle.cg_driver.specs.Commands.{Judgement, no_command, within, spelled, named, acyclic, with_fields, typed, written, certified, instanced, certifiable, has_entry, allowed, concrete, on_words, heap_spelled, in_range, evaluated, RefusesSyntax, unknown_byte, open_comment, unexpected, wrong_bar, RefusesTyping, RefusesType, Judges, script_of}
+use Rattle.cg_driver.specs.Entered.{IsOnWords, NeedsMore, cells, other_type}
+use Rattle.cg_driver.specs.Found.{Found, with_program, with_copies, with_cert, with_entry, with_place, with_argument, with_value, functions}
 use Rattle.cg_driver.specs.Lines.{fault_line, name_rule, rule_line, byte_line, limit_line, report}
 use Rattle.cg_driver.specs.Instanced.{emitted}
-use Rattle.cg_driver.specs.Run.{table_in, budget, RunsTo, Evaluates, RunsOut, IsReport}
+use Rattle.cg_driver.specs.Run.{table_in, budget, Evaluates, RunsOut, IsReport}
 use Rattle.cg_driver.proofs.Certifying.{one_node, none_misfits, node_ruling, node_not_usage}
 use Rattle.cg_driver.proofs.Cores.{one_list}
 use Rattle.cg_driver.proofs.Instancing.{not_passed, one_copies, one_passed}
@@ -175,6 +178,13 @@ not_both fs at arg steps v k a b =
     let some : evaluation (table_in fs a.cores) steps (function (User at) []) (number arg) ≡ Some (number v, k) = a.gives in
     absurd (cc)
 
+-- ---- entries
+
+-- an entry that can be run needs no more
+not_on_words : (fs : List Function) (copies : List Copy) (at place : ℕ) → NeedsMore fs copies at → IsOnWords fs copies at place → ⊥
+not_on_words fs copies at place (other_type other) w = let words = w.words in absurd (cc)
+not_on_words fs copies at place (cells k stands reached) w = w.without (subst (CopiesReachCells copies) (same_Some k place (sym stands ∙ w.stands)) reached)
+
 -- ---- the judgements
 
 pub single : (j : Judgement) (f : Found) (o o' : Outcome Found) → Judges j f o → Judges j f o' → o ≡ o'
@@ -226,14 +236,22 @@ single certifiable f (refuses s t) (refuses s' t') d d' = refused_same s s' TooL
 single certifiable f (refuses s t) (goes n) d d' = let x = d.2 in let y = d'.1 in absurd (omega (arith, x, y))
 single certifiable f (goes n) (refuses s t) d d' = let x = d'.2 in let y = d.1 in absurd (omega (arith, x, y))
 single certifiable f (goes n) (goes n') d d' = ap goes (d.0 ∙ sym d'.0)
-single (plain file) f (refuses s t) (refuses s' t') d d' = refused_same s s' Refused t t' d.0 d'.0 (d.1 ∙ sym d'.1)
-single (plain file) f (refuses s t) (goes n) d d' = let x = d.2 in let y = d'.1 in absurd (cc)
-single (plain file) f (goes n) (refuses s t) d d' = let x = d'.2 in let y = d.1 in absurd (cc)
-single (plain file) f (goes n) (goes n') d d' = ap goes (d.0 ∙ sym d'.0)
 single (has_entry file name) f (refuses s t) (refuses s' t') d d' = refused_same s s' Refused t t' d.0 d'.0 (d.1 ∙ sym d'.1)
 single (has_entry file name) f (refuses s t) (goes n) d d' = let x = d.2 in let y = d'.2 in absurd (cc)
 single (has_entry file name) f (goes n) (refuses s t) d d' = let x = d'.2 in let y = d.2 in absurd (cc)
 single (has_entry file name) f (goes n) (goes n') d d' = ap goes (d.1 ∙ ap (λ at. with_entry at f) (same_Some d.0 d'.0 (sym d.2 ∙ d'.2)) ∙ sym d'.1)
+single (allowed file) f (refuses s t) (refuses s' t') d d' = refused_same s s' Refused t t' d.0 d'.0 (d.1 ∙ sym d'.1)
+single (allowed file) f (refuses s t) (goes n) d d' = let x = d.2 in let y = d'.1 in absurd (cc)
+single (allowed file) f (goes n) (refuses s t) d d' = let x = d'.2 in let y = d.1 in absurd (cc)
+single (allowed file) f (goes n) (goes n') d d' = ap goes (d.0 ∙ sym d'.0)
+single (concrete file) f (refuses s t) (refuses s' t') d d' = refused_same s s' Refused t t' d.0 d'.0 (d.1 ∙ sym d'.1)
+single (concrete file) f (refuses s t) (goes n) d d' = absurd (d'.1 d.2)
+single (concrete file) f (goes n) (refuses s t) d d' = absurd (d.1 d'.2)
+single (concrete file) f (goes n) (goes n') d d' = ap goes (d.0 ∙ sym d'.0)
+single (on_words file) f (refuses s t) (refuses s' t') d d' = refused_same s s' Refused t t' d.0 d'.0 (d.1 ∙ sym d'.1)
+single (on_words file) f (refuses s t) (goes n) d d' = absurd (not_on_words (functions f) f.copies f.at d'.0 d.2 d'.2)
+single (on_words file) f (goes n) (refuses s t) d d' = absurd (not_on_words (functions f) f.copies f.at d.0 d'.2 d.2)
+single (on_words file) f (goes n) (goes n') d d' = ap goes (d.1 ∙ ap (λ place. with_place place f) (same_Some d.0 d'.0 (sym d.2.stands ∙ d'.2.stands)) ∙ sym d'.1)
 single (heap_spelled heap) f (refuses s t) (refuses s' t') d d' = refused_same s s' HeapRefused t t' d.0 d'.0 (d.1 ∙ sym d'.1)
 single (heap_spelled heap) f (refuses s t) (goes n) d d' = absurd (d.2 d'.0 d'.2)
 single (heap_spelled heap) f (goes n) (refuses s t) d d' = absurd (d'.2 d.0 d.2)
@@ -277,8 +295,10 @@ ruling (written file) f s t d = subst IsRuling (sym d.1) tt
 ruling (certified file) f s t d = node_ruling file (functions f) f.cert s t d.1
 ruling instanced f s t d = subst IsRuling (sym d.0) tt
 ruling certifiable f s t d = subst IsRuling (sym d.0) tt
-ruling (plain file) f s t d = subst IsRuling (sym d.0) tt
 ruling (has_entry file name) f s t d = subst IsRuling (sym d.0) tt
+ruling (allowed file) f s t d = subst IsRuling (sym d.0) tt
+ruling (concrete file) f s t d = subst IsRuling (sym d.0) tt
+ruling (on_words file) f s t d = subst IsRuling (sym d.0) tt
 ruling (heap_spelled heap) f s t d = subst IsRuling (sym d.0) tt
 ruling (in_range heap) f s t d = subst IsRuling (sym d.0) tt
 ruling (evaluated steps) f s t d = subst IsRuling (sym d.0) tt
@@ -304,8 +324,10 @@ not_usage (written file) f s t of d = λ e. let x = d.1 in absurd (cc)
 not_usage (certified file) f s t of d = node_not_usage file (functions f) f.cert s t d.1
 not_usage instanced f s t of d = λ e. let x = d.0 in absurd (cc)
 not_usage certifiable f s t of d = λ e. let x = d.0 in absurd (cc)
-not_usage (plain file) f s t of d = λ e. let x = d.0 in absurd (cc)
 not_usage (has_entry file name) f s t of d = λ e. let x = d.0 in absurd (cc)
+not_usage (allowed file) f s t of d = λ e. let x = d.0 in absurd (cc)
+not_usage (concrete file) f s t of d = λ e. let x = d.0 in absurd (cc)
+not_usage (on_words file) f s t of d = λ e. let x = d.0 in absurd (cc)
 not_usage (heap_spelled heap) f s t of d = λ e. let x = d.0 in absurd (cc)
 not_usage (in_range heap) f s t of d = λ e. let x = d.0 in absurd (cc)
 not_usage (evaluated steps) f s t of d = λ e. let x = d.0 in absurd (cc)
@@ -335,4 +357,4 @@ once None f t t' a b = absurd a
 once (Some (check file)) f t t' a b = a ∙ sym b
 once (Some (build file text certificate)) f t t' a b = a.0 ∙ sym b.0
 once (Some (recheck file certificate)) f t t' a b = a ∙ sym b
-once (Some (run file entry heap steps)) f t t' a b = report_once f.copies f.at f.argument f.value f.cost t t' a b
+once (Some (run file entry heap steps)) f t t' a b = report_once f.copies f.place f.argument f.value f.cost t t' a b

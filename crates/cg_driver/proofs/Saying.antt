@@ -1,6 +1,6 @@
 -- From what the functions for judgements answer to what the judgements come to.
 use Rattle.std.proofs.Common.{◌≡◌, inl, inr, ◌<◌, ◌≤◌, ◌+◌, ◌^◌, ℕ, Bool, true, false, cond, List, [], ◌∷◌, Option, Some, None, Result, Ok, Err, length, map, refl, sym, ap, ◌∙◌, subst, arith}
-use Rattle.std.specs.Prelude.{codes, IfOk, string_bytes, nat_lt, not, position, bytes_eq}
+use Rattle.std.specs.Prelude.{codes, IfOk, string_bytes, nat_lt, not, position, slice_get, bytes_eq}
 use Rattle.std.specs.List.{position_or_len}
 use Rattle.cg_base.specs.declared.limit.Limit.{Limit}
 use Rattle.cg_base.specs.declared.limit.Limit.TheVariants as limits
@@ -20,6 +20,7 @@ use Rattle.cg_desugar.specs.Mentions.{mentions}
 use Rattle.cg_desugar.specs.Order.{AreOrdered, AreGrowing}
 use Rattle.cg_desugar.specs.Takes.{missing_fields}
 use Rattle.cg_circles.specs.Circles.{NoCircle}
+use Rattle.cg_entry.specs.Entries.{ReachesAbstract}
 use Rattle.cg_faults.specs.declared.rule.Rule.{Rule}
 use Rattle.cg_faults.specs.Fails.{Fails}
 use Rattle.cg_faults.specs.Rule.{rule, type_limit}
@@ -47,10 +48,11 @@ use Rattle.cg_typing.specs.declared.checked.Checked.{Checked}
 use Rattle.cg_typing.specs.Holds.{kernel_in, cores_in, trees_in}
 use Rattle.cg_typing.specs.Kept.{AreKept, maybe_core, maybe_tree}
 use Rattle.cg_driver.specs.Accepted.{HasKernel, IsAcceptedSource}
-use Rattle.cg_driver.specs.Commands.{Judgement, RefusesSyntax, Judges, kernel_rules, resolving_rules, reading_rules, source_rules, entry_rules, heap_rules, entry_at, is_plain}
+use Rattle.cg_driver.specs.Commands.{Judgement, RefusesSyntax, Judges, kernel_rules, resolving_rules, reading_rules, source_rules, entry_rules, type_rules, heap_rules, entry_at}
+use Rattle.cg_driver.specs.Entered.{is_entry}
 use Rattle.cg_driver.specs.Found.{Found, with_program, with_entry, with_argument, functions, source_limit, heap_limit}
-use Rattle.cg_driver.specs.Judged.{functions_in, IsCheckedKernel, IsCheckedSource, IsKernelOf, IsReadSource, Keeps, RefusesKernel, RefusesProgram, RefusesReading, RefusesSource, RefusesEntry, RefusesBytes, IsEntry, IsArgument}
-use Rattle.cg_driver.specs.Lines.{fault_line, name_rule, rule_line, not_built_line, no_entry_line, no_heap_text_line, out_of_range_line, limit_name, limit_line}
+use Rattle.cg_driver.specs.Judged.{functions_in, IsCheckedKernel, IsCheckedSource, IsKernelOf, IsReadSource, Keeps, RefusesKernel, RefusesProgram, RefusesReading, RefusesSource, RefusesEntry, RefusesFunction, RefusesBytes, IsAllowed, IsAllowedAt, IsEntry, IsArgument}
+use Rattle.cg_driver.specs.Lines.{fault_line, name_rule, rule_line, no_entry_line, entry_type_line, abstract_line, no_heap_text_line, out_of_range_line, limit_name, limit_line}
 
 -- a report of a line says what the line says
 pub line_says : (Q : Status → List ℕ → Type 0) (wanted : Status) (line : List ℕ) (r : Report) → IsLine wanted line r → Q wanted line → Reports Q r
@@ -332,15 +334,51 @@ pub entry_found : (name : List ℕ) (checked : Checked) (kernel : Kernel) (fs : 
 entry_found name checked kernel fs o k f e =
     sym (e ∙ ap (position (λ f. bytes_eq f.at.name name)) f ∙ entry_mapped name kernel.funs ∙ ap (λ x. entry_at name (kernel_of x)) k)
 
--- whether a source is plain
-pub plain_is : (checked : Checked) (kernel : Kernel) (b r : Bool) → kernel ≡ kernel_in checked → r ≡ is_plain (kernel_of kernel) → r ≡ b → is_plain (functions_in checked) ≡ b
-plain_is checked kernel b r k e f = sym (ap (λ x. is_plain (kernel_of x)) k) ∙ sym e ∙ f
+-- the functions that the code looks at are those of the source
+pub functions_seen : (checked : Checked) (kernel : Kernel) (fs : List KFun) → kernel ≡ kernel_in checked → fs ≡ kernel.funs → map function_of fs ≡ functions_in checked
+functions_seen checked kernel fs k f = ap (map function_of) f ∙ ap kernel_of k
 
-pub unplain_refused : (file entry : List ℕ) (fs : List Function) → is_plain fs ≡ false → RefusesEntry file entry fs Refused (not_built_line file)
-unplain_refused file entry fs is f same = inl (tt, (refl, refl, ap is_plain same ∙ is))
+pub absent_refused : (file entry : List ℕ) (fs : List Function) → entry_at entry fs ≡ None → RefusesEntry file entry fs Refused (no_entry_line file)
+absent_refused file entry fs none f same = inl (tt, (refl, refl, ap (entry_at entry) same ∙ none))
 
-pub absent_refused : (file entry : List ℕ) (fs : List Function) → is_plain fs ≡ true → entry_at entry fs ≡ None → RefusesEntry file entry fs Refused (no_entry_line file)
-absent_refused file entry fs is none f same = inr (f, (refl, ap is_plain same ∙ is), inl (tt, (refl, refl, ap (entry_at entry) same ∙ none)))
+-- one whose type isn't allowed, and one that reaches an abstract function
+module _ (file : List ℕ) (fs : List Function) (at : ℕ) (f : Found) (same : functions f ≡ fs) (there : f.at ≡ at) where
+  typed_here : (b : Bool) → is_entry (slice_get fs at) ≡ b → is_entry (slice_get (functions f) f.at) ≡ b
+  typed_here b is = ap (λ gs. is_entry (slice_get gs f.at)) same ∙ ap (λ i. is_entry (slice_get fs i)) there ∙ is
+
+  reaches_here : ReachesAbstract fs at → ReachesAbstract (functions f) f.at
+  reaches_here r = subst (λ gs. ReachesAbstract gs f.at) (sym same) (subst (ReachesAbstract fs) (sym there) r)
+
+  reached_there : ReachesAbstract (functions f) f.at → ReachesAbstract fs at
+  reached_there r = subst (ReachesAbstract fs) there (subst (λ gs. ReachesAbstract gs f.at) same r)
+
+  mistyped : is_entry (slice_get fs at) ≡ false → Settles Judges (type_rules file) f (refuses Refused (entry_type_line file))
+  mistyped is = inl (tt, (refl, refl, typed_here false is))
+
+  reaching : is_entry (slice_get fs at) ≡ true → ReachesAbstract fs at → Settles Judges (type_rules file) f (refuses Refused (abstract_line file))
+  reaching is r = inr (f, (refl, typed_here true is), inl (tt, (refl, refl, reaches_here r)))
+
+  settled : IsAllowed fs at → Settles Judges (type_rules file) f (goes f)
+  settled a = inr (f, (refl, typed_here true a.typed), inr (f, (refl, λ r. a.concrete (reached_there r)), refl))
+
+pub mistyped_refused : (file : List ℕ) (fs : List Function) (at : ℕ) → is_entry (slice_get fs at) ≡ false → RefusesFunction file fs at Refused (entry_type_line file)
+mistyped_refused file fs at is f same there = mistyped file fs at f same there is
+
+pub reaching_refused : (file : List ℕ) (fs : List Function) (at : ℕ) → is_entry (slice_get fs at) ≡ true → ReachesAbstract fs at → RefusesFunction file fs at Refused (abstract_line file)
+reaching_refused file fs at is r f same there = reaching file fs at f same there is r
+
+-- one that is found, and then refused
+pub function_refused : (file entry : List ℕ) (fs : List Function) (at : ℕ) → entry_at entry fs ≡ Some at → (s : Status) (text : List ℕ) → RefusesFunction file fs at s text
+    → RefusesEntry file entry fs s text
+function_refused file entry fs at named s text j f same = inr (with_entry at f, (at, refl, ap (entry_at entry) same ∙ named), j (with_entry at f) same refl)
+
+-- what is said of the function that an entry is, is said of the entry
+pub entry_told : (file entry : List ℕ) (fs : List Function) (at : ℕ) → entry_at entry fs ≡ Some at → (r : Result (Step ℕ) Memory)
+    → IfOk r (Steps (IsAllowedAt fs at) (RefusesFunction file fs at)) → IfOk r (Steps (IsEntry entry fs) (RefusesEntry file entry fs))
+entry_told file entry fs at named r said =
+    steps_follow (IsAllowedAt fs at) (IsEntry entry fs) (RefusesFunction file fs at) (RefusesEntry file entry fs)
+    (λ next a. record { named = named ∙ ap Some (sym a.0); allowed = subst (IsAllowed fs) (sym a.0) a.1 })
+    (function_refused file entry fs at named) r said
 
 -- a state in which the entry was found
 pub record HasEntry (fs : List Function) (at : ℕ) (next : Found) : Type 0 where
@@ -353,7 +391,7 @@ entry_judged file entry fs f same r said =
     steps_judged (IsEntry entry fs) (RefusesEntry file entry fs) (λ at next. HasEntry fs at next) (entry_rules file entry) f
     (λ at e. (
       with_entry at f,
-      inr (f, (refl, ap is_plain same ∙ e.plain), inr (with_entry at f, (at, refl, ap (entry_at entry) same ∙ e.named), refl)),
+      inr (with_entry at f, (at, refl, ap (entry_at entry) same ∙ e.named), settled file fs at (with_entry at f) same refl e.allowed),
       record { same = same; found = refl },
     ))
     (λ s text j. j f same) r said

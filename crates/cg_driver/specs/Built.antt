@@ -1,4 +1,4 @@
--- What the parts of `build` say, as the code has them.
+-- What the parts of `build`, and of `run` over instances, say, as the code has them.
 use Rattle.std.specs.Prelude.{◌≡◌, ℕ, ◌≤◌, List, [], ◌∷◌, length}
 use Rattle.cg_core.specs.Kernels.{Function}
 use Rattle.cg_inst.specs.Judged.{IsWithin, core_in}
@@ -7,11 +7,12 @@ use Rattle.cg_steps.specs.declared.status.Status.{Status}
 use Rattle.cg_steps.specs.Steps.{refuses, Settles}
 use Rattle.cg_typing.specs.declared.checked.Checked.{Checked}
 use Rattle.cg_typing.specs.Instances.{Instance}
-use Rattle.cg_driver.specs.Commands.{Judges, certifiable, instanced}
+use Rattle.cg_driver.specs.Commands.{Judges, certifiable, instanced, on_words}
 use Rattle.cg_driver.specs.declared.build.Built.{Built}
+use Rattle.cg_driver.specs.Entered.{IsOnWords}
 use Rattle.cg_driver.specs.Found.{Found, certificate_limit, functions}
 use Rattle.cg_driver.specs.Instanced.{IsMeant, certified_text, emitted}
-use Rattle.cg_driver.specs.Judged.{functions_in}
+use Rattle.cg_driver.specs.Judged.{functions_in, IsAllowed}
 
 -- the list of instances of a checked source, which is within the limits
 abbrev pub IsListed : Checked → List Instance → Type 0
@@ -24,6 +25,15 @@ RefusesInstances fs status text = (found : Found) → functions found ≡ fs →
 abbrev pub RefusesCertificate : List Function → Status → List ℕ → Type 0
 RefusesCertificate fs status text = (found : Found) → functions found ≡ fs → Settles Judges (certifiable ∷ []) found (refuses status text)
 
+-- a state in which these instances of a checked source were found
+pub record KeepsCopies (checked : Checked) (list : List Instance) (found : Found) : Type 0 where
+  pub same : functions found ≡ functions_in checked
+  pub copies : found.copies ≡ copies_in checked list
+
+-- what is said of an entry that can't be run yet, with these instances
+abbrev pub RefusesPlace : List ℕ → Checked → List Instance → ℕ → Status → List ℕ → Type 0
+RefusesPlace file checked list at status text = (found : Found) → KeepsCopies checked list found → found.at ≡ at → Settles Judges (on_words file ∷ []) found (refuses status text)
+
 -- what is written of a checked source with these instances
 pub record IsBuilt (checked : Checked) (list : List Instance) (built : Built) : Type 0 where
   pub text : built.text.items ≡ emitted (copies_in checked list)
@@ -32,7 +42,8 @@ pub record IsBuilt (checked : Checked) (list : List Instance) (built : Built) : 
   pub brief : length (certified_text (functions_in checked)) ≤ certificate_limit
   pub counted : built.instances ≡ length list
 
--- a state in which these instances of a checked source were found
-pub record KeepsCopies (checked : Checked) (list : List Instance) (found : Found) : Type 0 where
-  pub same : functions found ≡ functions_in checked
-  pub copies : found.copies ≡ copies_in checked list
+-- an entry of a checked source with these instances that can be run, with the place of its instance
+pub record CanRun (checked : Checked) (list : List Instance) (at place : ℕ) : Type 0 where
+  pub listed : IsListed checked list
+  pub allowed : IsAllowed (functions_in checked) at
+  pub on_words : IsOnWords (functions_in checked) (copies_in checked list) at place

@@ -1,6 +1,6 @@
 -- The judgements of the commands' steps, what each comes to, and the commands as lists of steps (docs/LANGUAGE.md, "Commands"): a new command
 -- is a line of `script_of`, with the judgements of its own steps.
-use Rattle.std.specs.Prelude.{◌≡◌, ◌⊎◌, ℕ, ◌<◌, ◌≤◌, ◌^◌, ◌++◌, Bool, true, false, ◌&&◌, List, [], ◌∷◌, length, position, Option, Some, None, Err, String, codes, bytes_eq}
+use Rattle.std.specs.Prelude.{◌≡◌, ◌⊎◌, ℕ, ◌<◌, ◌≤◌, ◌^◌, ◌++◌, true, false, List, [], ◌∷◌, length, position, slice_get, Option, Some, None, Err, String, codes, bytes_eq}
 use Rattle.std.specs.declared.alloc.Global.{Global}
 use Rattle.cg_base.specs.declared.limit.Limit.{Limit}
 use Rattle.cg_base.specs.declared.limit.Limit.TheVariants.{Source, Nesting, Functions, Fields, Ty, Depth, Heap, Certificate}
@@ -19,8 +19,7 @@ use Rattle.cg_desugar.specs.Faults.{NameFault, program_faults}
 use Rattle.cg_desugar.specs.Mentions.{mentions}
 use Rattle.cg_desugar.specs.Order.{AreOrdered, AreGrowing}
 use Rattle.cg_desugar.specs.Takes.{missing_fields}
-use Rattle.cg_plain.specs.Plain.{plain_kernel}
-use Rattle.cg_plain_laws.specs.Laws.{are_monomorphic}
+use Rattle.cg_entry.specs.Entries.{ReachesAbstract}
 use Rattle.cg_faults.specs.declared.rule.Rule.{Rule}
 use Rattle.cg_faults.specs.Fails.{Fails}
 use Rattle.cg_faults.specs.Rule.{rule, type_limit}
@@ -39,8 +38,9 @@ use Rattle.cg_surface.specs.Programs.{Entry}
 use Rattle.cg_takes.specs.Says as takes
 use Rattle.cg_typing.specs.Accepted.{IsAcceptedKernel}
 use Rattle.cg_words.specs.Words.{Command, check, build, recheck, run, texts, command_of}
-use Rattle.cg_driver.specs.Found.{Found, nothing, with_source, with_program, with_copies, with_certificate, with_cert, with_entry, with_heap, with_argument, with_value, functions, source_limit, certificate_limit, heap_limit, bound, quantity}
-use Rattle.cg_driver.specs.Lines.{usage_text, ok_line, built_line as written_line, fault_line, name_rule, rule_line, rechecked_line as accepted_text, byte_line, node_line, not_built_line, no_entry_line, no_heap_text_line, out_of_range_line, limit_name, limit_line, step_limit_line}
+use Rattle.cg_driver.specs.Found.{Found, nothing, with_source, with_program, with_copies, with_certificate, with_cert, with_entry, with_place, with_heap, with_argument, with_value, functions, source_limit, certificate_limit, heap_limit, bound, quantity}
+use Rattle.cg_driver.specs.Lines.{usage_text, ok_line, built_line as written_line, fault_line, name_rule, rule_line, rechecked_line as accepted_text, byte_line, node_line, not_built_line, no_entry_line, entry_type_line, abstract_line, no_heap_text_line, out_of_range_line, limit_name, limit_line, step_limit_line}
+use Rattle.cg_driver.specs.Entered.{IsOnWords, NeedsMore, is_entry}
 use Rattle.cg_driver.specs.Instanced.{HasInstances, PassesInstances, IsMeant, IsProved, emitted, certified_text}
 use Rattle.cg_driver.specs.Run.{Evaluates, RunsOut, IsReport}
 
@@ -51,8 +51,8 @@ use Rattle.cg_driver.specs.Run.{Evaluates, RunsOut, IsReport}
 -- certificate file holds the text of a certificate (C1), and that spells a derivation of the kernel, and no type of a node passes the
 -- limit: else the first condition that fails in the order of nodes is told, which is C2 or C3 with its node, or that limit (`type`); the
 -- instances are within all their limits, else the first that they pass is told; the certificate that would be written is within its own; the
--- source is one of those that can be run so far (F1), and has the entry (E1); the heap file holds a number (H1), which is a word (H5);
--- evaluation ends within the steps.
+-- source has the entry (E1), whose type is allowed (E2), and which reaches no abstract function (M1); the entry is one of those that can be run
+-- so far (F1); the heap file holds a number (H1), which is a word (H5); evaluation ends within the steps.
 pub data Judgement : Type 0 where
   no_command : Judgement
   within : Limit → Judgement
@@ -65,8 +65,10 @@ pub data Judgement : Type 0 where
   certified : List ℕ → Judgement
   instanced : Judgement
   certifiable : Judgement
-  plain : List ℕ → Judgement
   has_entry : List ℕ → List ℕ → Judgement
+  allowed : List ℕ → Judgement
+  concrete : List ℕ → Judgement
+  on_words : List ℕ → Judgement
   heap_spelled : List ℕ → Judgement
   in_range : List ℕ → Judgement
   evaluated : ℕ → Judgement
@@ -129,10 +131,6 @@ pub data RefusesNode (file : List ℕ) (fs : List Function) (cert : Cert) (statu
 abbrev pub entry_at : List ℕ → List Function → Option ℕ
 entry_at name functions = position (λ f. bytes_eq f.at.name name) functions
 
--- a source is plain: its kernel is, and no function has type variables
-abbrev pub is_plain : List Function → Bool
-is_plain functions = plain_kernel functions && are_monomorphic functions
-
 -- what each judgement comes to
 abbrev pub Judges : Judgement → Found → Outcome Found → Type 0
 Judges no_command found (refuses status text) = (status ≡ Usage) × (text ≡ usage_text)
@@ -159,10 +157,14 @@ Judges instanced found (goes next) = (copies : List Copy) × (next ≡ with_copi
 Judges certifiable found (refuses status text) =
     (status ≡ TooLarge) × (text ≡ limit_line (limit_name Certificate)) × (certificate_limit < length (certified_text (functions found)))
 Judges certifiable found (goes next) = (next ≡ found) × (length (certified_text (functions found)) ≤ certificate_limit)
-Judges (plain file) found (refuses status text) = (status ≡ Refused) × (text ≡ not_built_line file) × (is_plain (functions found) ≡ false)
-Judges (plain file) found (goes next) = (next ≡ found) × (is_plain (functions found) ≡ true)
 Judges (has_entry file name) found (refuses status text) = (status ≡ Refused) × (text ≡ no_entry_line file) × (entry_at name (functions found) ≡ None)
 Judges (has_entry file name) found (goes next) = (at : ℕ) × (next ≡ with_entry at found) × (entry_at name (functions found) ≡ Some at)
+Judges (allowed file) found (refuses status text) = (status ≡ Refused) × (text ≡ entry_type_line file) × (is_entry (slice_get (functions found) found.at) ≡ false)
+Judges (allowed file) found (goes next) = (next ≡ found) × (is_entry (slice_get (functions found) found.at) ≡ true)
+Judges (concrete file) found (refuses status text) = (status ≡ Refused) × (text ≡ abstract_line file) × ReachesAbstract (functions found) found.at
+Judges (concrete file) found (goes next) = (next ≡ found) × (ReachesAbstract (functions found) found.at → ⊥)
+Judges (on_words file) found (refuses status text) = (status ≡ Refused) × (text ≡ not_built_line file) × NeedsMore (functions found) found.copies found.at
+Judges (on_words file) found (goes next) = (place : ℕ) × (next ≡ with_place place found) × IsOnWords (functions found) found.copies found.at place
 Judges (heap_spelled heap) found (refuses status text) = (status ≡ HeapRefused) × (text ≡ no_heap_text_line heap) × ((n : ℕ) → HeapText found.heap n → ⊥)
 Judges (heap_spelled heap) found (goes next) = (n : ℕ) × (next ≡ with_argument n found) × HeapText found.heap n
 Judges (in_range heap) found (refuses status text) = (status ≡ HeapRefused) × (text ≡ out_of_range_line heap) × (2 ^ 32 ≤ found.argument)
@@ -196,9 +198,15 @@ text_rules certificate = within Certificate ∷ written certificate ∷ []
 abbrev pub certificate_rules : List ℕ → List Judgement
 certificate_rules certificate = text_rules certificate ++ certified certificate ∷ []
 
--- those of `run` before the heap file is read, and then
+-- those of `run` before the heap file is read, by the functions alone and by the instances, and then
+abbrev pub type_rules : List ℕ → List Judgement
+type_rules file = allowed file ∷ concrete file ∷ []
+
 abbrev pub entry_rules : List ℕ → List ℕ → List Judgement
-entry_rules file entry = plain file ∷ has_entry file entry ∷ []
+entry_rules file entry = has_entry file entry ∷ type_rules file
+
+abbrev pub place_rules : List ℕ → List Judgement
+place_rules file = instanced ∷ on_words file ∷ []
 
 abbrev pub heap_rules : List ℕ → List Judgement
 heap_rules heap = within Heap ∷ heap_spelled heap ∷ in_range heap ∷ []
@@ -228,7 +236,7 @@ abbrev pub rechecked_line : Found → List ℕ → Type 0
 rechecked_line found text = text ≡ accepted_text
 
 abbrev pub ran_lines : Found → List ℕ → Type 0
-ran_lines found text = IsReport found.copies found.at found.argument found.value found.cost text
+ran_lines found text = IsReport found.copies found.place found.argument found.value found.cost text
 
 -- the writes of `build`: the C text, and then the certificate
 abbrev pub writes_certificate : List ℕ → List (Step Judgement Found)
@@ -253,7 +261,7 @@ abbrev pub heap_steps : List ℕ → ℕ → List (Step Judgement Found)
 heap_steps heap steps = reads_heap heap ∷ judged_first (run_rules heap steps) []
 
 abbrev pub run_steps : List ℕ → List ℕ → List ℕ → ℕ → List (Step Judgement Found)
-run_steps file entry heap steps = judged_first (source_rules file ++ entry_rules file entry ++ instanced ∷ []) (heap_steps heap steps)
+run_steps file entry heap steps = judged_first (source_rules file ++ entry_rules file entry ++ place_rules file) (heap_steps heap steps)
 
 -- the commands; other words are refused
 abbrev pub script_of : Option Command → Script Judgement Found

@@ -8,9 +8,10 @@ use Rattle.cg_ctree.specs.declared.tree.CProgram.{CProgram}
 use Rattle.cg_ctree.specs.Spells.{CSpells}
 use Rattle.cg_ctree.specs.Trees.{Program, program_of}
 use Rattle.cg_lower_laws.specs.Lowered.{function_name}
-use Rattle.cg_lowering.specs.Promises.{IsSimulated}
+use Rattle.cg_lower.specs.Promises.{IsSimulated}
 use Rattle.cg_machine.specs.Evaluation.{evaluation}
 use Rattle.cg_machine.specs.Foreigns.{table_of}
+use Rattle.cg_source_laws.specs.Runs.{RunsTo}
 use Rattle.cg_typing.specs.declared.checked.Checked.{Checked}
 use Rattle.cg_typing.specs.Holds.{cores_in}
 use Rattle.cg_typing.specs.Kept.{maybe_core}
@@ -20,7 +21,7 @@ use Rattle.cg_steps.specs.declared.status.Status.{Status}
 use Rattle.cg_steps.specs.declared.status.Status.TheVariants.{Done, StepLimit}
 use Rattle.cg_driver.specs.Instanced.{emitted}
 use Rattle.cg_driver.specs.Lines.{step_limit_line}
-use Rattle.cg_driver.specs.Run.{budget, RunsTo, Evaluates, RunsOut, IsReport}
+use Rattle.cg_driver.specs.Run.{budget, Evaluates, RunsOut, IsReport}
 
 -- the cores of a checked source
 abbrev pub cores_of : Checked → List (Option (Tree Note))

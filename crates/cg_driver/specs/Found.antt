@@ -11,8 +11,8 @@ use Rattle.cg_parser.specs.Answers.{depth_limit}
 use Rattle.cg_surface.specs.Programs.{Entry, program_depth}
 
 -- the bytes of the source, the program that they spell, its instances with their types and bodies, the bytes of the certificate file, the
--- certificate whose text they are, the position of the entry among the program's functions, the bytes of the heap file, the argument that they hold, and the value and the cost that
--- evaluation gives
+-- certificate whose text they are, the position of the entry among the program's functions, the place of its instance among the instances, the
+-- bytes of the heap file, the argument that they hold, and the value and the cost that evaluation gives
 pub record Found : Type 0 where
   pub source : List ℕ
   pub program : List Entry
@@ -20,6 +20,7 @@ pub record Found : Type 0 where
   pub certificate : List ℕ
   pub cert : Cert
   pub at : ℕ
+  pub place : ℕ
   pub heap : List ℕ
   pub argument : ℕ
   pub value : ℕ
@@ -27,7 +28,7 @@ pub record Found : Type 0 where
 
 -- before the first step
 abbrev pub nothing : Found
-nothing = record { source = []; program = []; copies = []; certificate = []; cert = record { funs = [] }; at = 0; heap = []; argument = 0; value = 0; cost = 0 }
+nothing = record { source = []; program = []; copies = []; certificate = []; cert = record { funs = [] }; at = 0; place = 0; heap = []; argument = 0; value = 0; cost = 0 }
 
 abbrev pub with_source : List ℕ → Found → Found
 with_source bytes f = record f { source = bytes }
@@ -46,6 +47,9 @@ with_cert cert f = record f { cert = cert }
 
 abbrev pub with_entry : ℕ → Found → Found
 with_entry at f = record f { at = at }
+
+abbrev pub with_place : ℕ → Found → Found
+with_place place f = record f { place = place }
 
 abbrev pub with_heap : List ℕ → Found → Found
 with_heap bytes f = record f { heap = bytes }

@@ -16,8 +16,8 @@ use Rattle.cg_ctree.specs.Spells.{CSpells}
 use Rattle.cg_ctree.specs.Trees.{Program}
 use Rattle.cg_inst.specs.Judged.{AreTooMany, HaveLargeTypes, HaveTooManyNodes, IsWithin}
 use Rattle.cg_inst.specs.Lists.{Cores}
-use Rattle.cg_lowering.specs.Programs.{lowered}
-use Rattle.cg_lowering.specs.Promises.{IsSimulated}
+use Rattle.cg_lower.specs.Programs.{lowered}
+use Rattle.cg_lower.specs.Promises.{IsSimulated}
 use Rattle.cg_source_laws.specs.Laws.{copies_over}
 use Rattle.cg_typing.specs.Holds.{kept_at}
 use Rattle.cg_typing.specs.Instances.{Instance}

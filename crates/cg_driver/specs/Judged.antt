@@ -1,5 +1,5 @@
 -- What the checker's answer and the parts of a run say, as the code has them.
-use Rattle.std.specs.Prelude.{◌≡◌, ℕ, ◌<◌, ◌≤◌, ◌^◌, true, List, [], ◌∷◌, length, map, Some}
+use Rattle.std.specs.Prelude.{◌≡◌, ℕ, ◌<◌, ◌≤◌, ◌^◌, true, List, [], ◌∷◌, length, map, slice_get, Some}
 use Rattle.cg_cert.specs.declared.cert.Cert.{Cert}
 use Rattle.cg_cert.specs.Laws.{AreNamed}
 use Rattle.cg_cert.specs.Texts.{CertText}
@@ -11,6 +11,7 @@ use Rattle.cg_desugar.specs.Desugar.{deepest_body, functions_of, functions_limit
 use Rattle.cg_desugar.specs.Faults.{program_faults}
 use Rattle.cg_desugar.specs.Order.{AreOrdered, AreGrowing}
 use Rattle.cg_desugar.specs.Takes.{missing_fields}
+use Rattle.cg_entry.specs.Entries.{ReachesAbstract}
 use Rattle.cg_heaptext.specs.HeapText.{HeapText}
 use Rattle.cg_lawful.specs.Lawful.{IsLawfulKernel}
 use Rattle.cg_steps.specs.declared.status.Status.{Status}
@@ -21,7 +22,8 @@ use Rattle.cg_typing.specs.declared.checked.Checked.{Checked}
 use Rattle.cg_typing.specs.Holds.{kernel_in, cores_in, trees_in}
 use Rattle.cg_typing.specs.Kept.{AreKept, maybe_core, maybe_tree}
 use Rattle.cg_driver.specs.Accepted.{HasKernel, IsAcceptedSource}
-use Rattle.cg_driver.specs.Commands.{Judges, certified, kernel_rules, resolving_rules, reading_rules, source_rules, text_rules, entry_rules, heap_rules, entry_at, is_plain}
+use Rattle.cg_driver.specs.Commands.{Judges, certified, kernel_rules, resolving_rules, reading_rules, source_rules, text_rules, type_rules, entry_rules, heap_rules, entry_at}
+use Rattle.cg_driver.specs.Entered.{is_entry}
 use Rattle.cg_driver.specs.Found.{Found, functions, source_limit, certificate_limit, heap_limit}
 use Rattle.cg_driver.specs.Instanced.{AreCores}
 
@@ -85,8 +87,8 @@ pub record KeepsKernel (kernel : Kernel) (found : Found) : Type 0 where
   pub same : functions found ≡ kernel_of kernel
   pub lawful : IsLawfulKernel (kernel_of kernel)
 
--- what the rules say of a kernel, a program, a source, the bytes of a certificate file, a certificate, an entry and the bytes of a heap file
--- that they refuse
+-- what the rules say of a kernel, a program, a source, the bytes of a certificate file, a certificate, an entry, the function that it is and
+-- the bytes of a heap file that they refuse
 abbrev pub RefusesKernel : List ℕ → List Function → Status → List ℕ → Type 0
 RefusesKernel file fs status text = (found : Found) → functions found ≡ fs → Settles Judges (kernel_rules file) found (refuses status text)
 
@@ -110,6 +112,9 @@ RefusesCert certificate fs cert status text =
 abbrev pub RefusesEntry : List ℕ → List ℕ → List Function → Status → List ℕ → Type 0
 RefusesEntry file entry fs status text = (found : Found) → functions found ≡ fs → Settles Judges (entry_rules file entry) found (refuses status text)
 
+abbrev pub RefusesFunction : List ℕ → List Function → ℕ → Status → List ℕ → Type 0
+RefusesFunction file fs at status text = (found : Found) → functions found ≡ fs → found.at ≡ at → Settles Judges (type_rules file) found (refuses status text)
+
 abbrev pub RefusesBytes : List ℕ → List ℕ → Status → List ℕ → Type 0
 RefusesBytes heap bytes status text = (found : Found) → found.heap ≡ bytes → Settles Judges (heap_rules heap) found (refuses status text)
 
@@ -118,10 +123,18 @@ pub record IsCertificate (bytes : List ℕ) (cert : Cert) : Type 0 where
   pub brief : length bytes ≤ certificate_limit
   pub written : CertText bytes cert
 
--- the entry of a plain source
+-- a function is allowed as an entry: its type is, and it reaches no abstract function
+pub record IsAllowed (functions : List Function) (at : ℕ) : Type 0 where
+  pub typed : is_entry (slice_get functions at) ≡ true
+  pub concrete : ReachesAbstract functions at → ⊥
+
+abbrev pub IsAllowedAt : List Function → ℕ → ℕ → Type 0
+IsAllowedAt functions at next = (next ≡ at) × IsAllowed functions at
+
+-- the entry of a source
 pub record IsEntry (entry : List ℕ) (functions : List Function) (at : ℕ) : Type 0 where
-  pub plain : is_plain functions ≡ true
   pub named : entry_at entry functions ≡ Some at
+  pub allowed : IsAllowed functions at
 
 -- a heap file within its limit has this argument
 pub record IsArgument (bytes : List ℕ) (n : ℕ) : Type 0 where

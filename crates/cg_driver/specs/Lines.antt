@@ -80,6 +80,12 @@ not_built_line file = file ++ codes ": F1 form not built\n"
 abbrev pub no_entry_line : List ℕ → List ℕ
 no_entry_line file = file ++ codes ": E1 no such function\n"
 
+abbrev pub entry_type_line : List ℕ → List ℕ
+entry_type_line file = file ++ codes ": E2 entry type not allowed\n"
+
+abbrev pub abstract_line : List ℕ → List ℕ
+abstract_line file = file ++ codes ": M1 abstract function reached\n"
+
 abbrev pub no_heap_text_line : List ℕ → List ℕ
 no_heap_text_line heap = heap ++ codes ": H1 not in the heap grammar\n"
 

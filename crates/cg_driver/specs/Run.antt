@@ -1,19 +1,15 @@
--- What a run of a plain source says, and why (docs/LANGUAGE.md, "Commands").
-use Rattle.std.specs.FinMap.{empty}
-use Rattle.std.specs.Prelude.{◌≡◌, ℕ, ◌+◌, ◌*◌, List, [], ◌∷◌, Option, Some, None}
+-- What a run of a function on a word says, and why (docs/LANGUAGE.md, "Commands").
+use Rattle.std.specs.Prelude.{◌≡◌, ℕ, ◌+◌, ◌*◌, List, [], Option, Some}
 use Rattle.cg_base.specs.declared.fun.Fun.TheVariants.{User}
 use Rattle.cg_core.specs.Kernels.{Function}
 use Rattle.cg_core.specs.Terms.{Note, Tree}
-use Rattle.cg_crun.specs.Outcomes.{done}
-use Rattle.cg_crun.specs.Runs.{Linked, crun}
 use Rattle.cg_ctree.specs.Spells.{CSpells}
 use Rattle.cg_ctree.specs.Trees.{Program}
 use Rattle.cg_collect.specs.Collected.{Copy}
-use Rattle.cg_heap.specs.declared.cell.Scalar.TheVariants.{Word}
-use Rattle.cg_heap.specs.Stored.{Stored}
 use Rattle.cg_lower_laws.specs.Lowered.{function_name}
 use Rattle.cg_machine.specs.Evaluation.{Table, evaluation, IsSpent}
 use Rattle.cg_machine.specs.Foreigns.{table_over}
+use Rattle.cg_source_laws.specs.Runs.{RunsTo}
 use Rattle.cg_value.specs.NoForeign.{no_foreign}
 use Rattle.cg_value.specs.Values.{number, function}
 use Rattle.cg_driver.specs.Instanced.{AreCores, bodies_in, emitted}
@@ -26,20 +22,6 @@ table_in functions cores = table_over no_foreign functions (bodies_in cores)
 -- the steps that the C may take where evaluation costs k
 abbrev pub budget : ℕ → ℕ
 budget k = 32 * k + 32
-
--- a program without abstract functions
-abbrev pub alone : Program → Linked
-alone program = record { program = program; links = []; asked = λ name us m. None }
-
--- a store that has never had a cell
-abbrev pub no_cells : Stored
-no_cells = record { cells = empty; top = 0 }
-
--- A run of a C function on a word, in at most so many steps and from a store without cells, ends with a word, with so many steps left: no
--- cell is made, freed or kept.
-abbrev pub RunsTo : Program → List ℕ → ℕ → ℕ → ℕ → ℕ → Type 0
-RunsTo program name arg steps result left =
-    crun (alone program) steps name (Word arg ∷ []) no_cells ≡ done (Word result ∷ []) (record { store = no_cells; made = []; freed = [] }) left
 
 -- evaluation of the function at a position gives this number on a word, at this cost, which is within the steps
 pub record Evaluates (functions : List Function) (at arg steps value cost : ℕ) : Type 0 where

@@ -19,7 +19,7 @@ use cg_base::Memory;
 use cg_cert::print_cert;
 use cg_ctext::print_c;
 use cg_inst::{InstFault, Instances, instances};
-use cg_lowering::lower;
+use cg_lower::lower;
 use cg_mono::mono;
 use cg_outside::Files;
 use cg_source_laws::sources_print;

@@ -1,14 +1,13 @@
-// Running a function of a plain source twice: by evaluation, and by the steps of its C.
-ghost use Rattle.std.specs.Prelude.{◌≡◌, ◌∷◌, ◌<◌, ◌≤◌, ◌^◌, ℕ, [], IfOk, IsTrue, length};
+// Running an entry on a word twice: by evaluation, and by the steps of the C of its instance.
+ghost use Rattle.std.specs.Prelude.{◌≡◌, ◌∷◌, ◌≤◌, ◌<◌, ◌^◌, ℕ, [], IfOk};
 ghost use Rattle.cg_ctree.specs.Trees.{program_of};
 ghost use Rattle.cg_heap.specs.declared.cell.Scalar.TheVariants.{Word};
 ghost use Rattle.cg_source_laws.specs.Laws.{copies_in};
+ghost use Rattle.cg_source_laws.specs.Runs.{RunsTo};
 ghost use Rattle.cg_value.specs.Values.{number, value_of};
-ghost use Rattle.cg_driver.specs.Built.{IsListed};
-ghost use Rattle.cg_driver.specs.Commands.{is_plain};
+ghost use Rattle.cg_driver.specs.Built.{CanRun, IsListed};
 ghost use Rattle.cg_driver.specs.Executed.{Emits, Ends, Gives, Machines, Executes};
 ghost use Rattle.cg_driver.specs.Judged.{functions_in, CanBeBuilt, HoldsCores};
-ghost use Rattle.cg_driver.specs.Run.{RunsTo};
 ghost use Rattle.cg_steps.specs.Parts.{Reports};
 
 use crate::build::emit_text;
@@ -17,15 +16,22 @@ use cg_base::{Items, Memory, Name};
 use cg_cmachine::{RunFault, run_c};
 use cg_cread::{CFault, read_c};
 use cg_ctree::CProgram;
-use cg_eval::{EvalFault, eval, more_budget, plain_is_never_stuck};
+use cg_eval::{EvalFault, eval, more_budget};
 use cg_heap::{MapStore, Scalar};
 use cg_inst::Instances;
-use cg_lowering::function_name;
-use cg_plain_laws::plain_runs;
+use cg_lower::function_name;
+use cg_source_laws::{entries_are_sound, entries_run};
 use cg_steps::Report;
 use cg_typing::Checked;
 use cg_value::Value;
 use std::alloc::Global;
+
+/// Where an entry stands among the functions of its source, and its instance among the instances.
+#[derive(Clone, Copy)]
+pub(crate) struct Entry {
+    pub at: u32,
+    pub place: u32,
+}
 
 /// The C of the instances of a source: written as a text, and read back from it.
 fn emit(alloc: Global, checked: &Checked, list: &Instances) -> Result<CProgram, Memory>
@@ -74,28 +80,26 @@ fn run_on_word(
     }
 }
 
-/// What the C of a function gives on a word on which evaluation gives a value at this cost, and the steps that it takes.
+/// What the C of an entry gives on a word on which evaluation gives a value at this cost, and the steps that it takes.
 fn machine(
     alloc: Global,
     checked: &Checked,
     list: &Instances,
-    at: u32,
+    chosen: Entry,
     arg: u64,
     value: &Value,
     cost: u64,
 ) -> Result<(u64, u64), Memory>
-    requires list { IsListed checked.now list.now }
     requires ready { CanBeBuilt checked.now }
-    requires plain { IsTrue (is_plain (functions_in checked.now)) }
-    requires there { at < length (functions_in checked.now) }
+    requires runs { CanRun checked.now list.now chosen.at chosen.place }
     requires word { arg < 2 ^ 32 }
-    requires gives { (steps : ℕ) × (steps ≤ 2 ^ 40) × Gives checked.now at arg steps (value_of value.now) cost }
-    ensures { IfOk result (λ r. Machines (copies_in checked.now list.now) at arg (value_of value.now) cost r.0 r.1) }
+    requires gives { (steps : ℕ) × (steps ≤ 2 ^ 40) × Gives checked.now chosen.at arg steps (value_of value.now) cost }
+    ensures { IfOk result (λ r. Machines (copies_in checked.now list.now) chosen.place arg (value_of value.now) cost r.0 r.1) }
 {
-    let function = function_name(alloc, at)?;
+    let function = function_name(alloc, chosen.place)?;
     let program = emit(alloc, checked, list)?;
     more_budget();
-    plain_runs();
+    entries_run();
     run_on_word(alloc, &program, &function, arg, 32 * cost + 32)
 }
 
@@ -114,45 +118,42 @@ fn run_both(
     alloc: Global,
     checked: &Checked,
     list: &Instances,
-    at: u32,
+    chosen: Entry,
     arg: u64,
     value: Value,
     cost: u64,
 ) -> Result<Report, Memory>
-    requires list { IsListed checked.now list.now }
     requires ready { CanBeBuilt checked.now }
-    requires plain { IsTrue (is_plain (functions_in checked.now)) }
-    requires there { at < length (functions_in checked.now) }
+    requires runs { CanRun checked.now list.now chosen.at chosen.place }
     requires word { arg < 2 ^ 32 }
     requires cores { HoldsCores checked.now }
-    requires gives { (steps : ℕ) × (steps ≤ 2 ^ 40) × Gives checked.now at arg steps (value_of value) cost }
-    ensures { IfOk result (λ r. (steps : ℕ) → Gives checked.now at arg steps (value_of value) cost → Reports (Executes (functions_in checked.now) (copies_in checked.now list.now) at at arg steps) r) }
+    requires gives { (steps : ℕ) × (steps ≤ 2 ^ 40) × Gives checked.now chosen.at arg steps (value_of value) cost }
+    ensures { IfOk result (λ r. (steps : ℕ) → Gives checked.now chosen.at arg steps (value_of value) cost
+        → Reports (Executes (functions_in checked.now) (copies_in checked.now list.now) chosen.at chosen.place arg steps) r) }
 {
-    let (returned, taken) = machine(alloc, checked, list, at, arg, &value, cost)?;
+    let (returned, taken) = machine(alloc, checked, list, chosen, arg, &value, cost)?;
     ran(alloc, word_in(&value), returned, cost, taken)
 }
 
-/// Runs a function of a plain source on a word, by evaluation and then by the steps of its C, up to what is printed.
+/// Runs an entry on a word, by evaluation and then by the steps of its C, up to what is printed.
 pub(crate) fn execute(
     alloc: Global,
     checked: &Checked,
     list: &Instances,
-    at: u32,
+    chosen: Entry,
     arg: u64,
     steps: u64,
 ) -> Result<Report, Memory>
-    requires list { IsListed checked.now list.now }
     requires ready { CanBeBuilt checked.now }
-    requires plain { IsTrue (is_plain (functions_in checked.now)) }
-    requires there { at < length (functions_in checked.now) }
+    requires runs { CanRun checked.now list.now chosen.at chosen.place }
     requires word { arg < 2 ^ 32 }
     requires few { steps ≤ 2 ^ 40 }
     requires cores { HoldsCores checked.now }
-    ensures { IfOk result (Reports (Executes (functions_in checked.now) (copies_in checked.now list.now) at at arg steps)) }
+    ensures { IfOk result (Reports (Executes (functions_in checked.now) (copies_in checked.now list.now) chosen.at chosen.place arg steps)) }
 {
-    plain_is_never_stuck();
-    match eval(alloc, checked, at, Value::Num(arg), steps) {
-        Ok((value, cost)) => run_both(alloc, checked, list, at, arg, value, cost),
+    entries_are_sound();
+    match eval(alloc, checked, chosen.at, Value::Num(arg), steps) {
+        Ok((value, cost)) => run_both(alloc, checked, list, chosen, arg, value, cost),
         Err(EvalFault::StepLimit) => step_limit(alloc, steps),
         Err(EvalFault::Memory) => Err(Memory),
     }

@@ -5,6 +5,7 @@
 mod build;
 mod call;
 mod check;
+mod entry;
 mod execute;
 mod judge;
 mod law;

@@ -97,6 +97,26 @@ pub(crate) fn no_entry(alloc: Global, file: &str) -> Result<Report, Memory>
     })
 }
 
+/// The refusal of an entry whose type isn't allowed.
+pub(crate) fn no_entry_type(alloc: Global, file: &str) -> Result<Report, Memory>
+    ensures { IfOk result (λ r. IsLine Status.Refused (lines.entry_type_line file.now) r) }
+{
+    Ok(Report {
+        status: Status::Refused,
+        text: format!(in alloc; "{file}: E2 entry type not allowed\n")?,
+    })
+}
+
+/// The refusal of an entry that reaches an abstract function.
+pub(crate) fn abstract_reached(alloc: Global, file: &str) -> Result<Report, Memory>
+    ensures { IfOk result (λ r. IsLine Status.Refused (lines.abstract_line file.now) r) }
+{
+    Ok(Report {
+        status: Status::Refused,
+        text: format!(in alloc; "{file}: M1 abstract function reached\n")?,
+    })
+}
+
 /// The refusal of a heap file that isn't in the grammar.
 pub(crate) fn no_heap_text(alloc: Global, heap: &str) -> Result<Report, Memory>
     ensures { IfOk result (λ r. IsLine Status.HeapRefused (lines.no_heap_text_line heap.now) r) }

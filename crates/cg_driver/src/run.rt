@@ -1,26 +1,22 @@
 // The command `run`.
-ghost use Rattle.std.specs.Prelude.{◌≡◌, ◌≤◌, ◌<◌, ◌^◌, ◌++◌, List, [], ◌∷◌, IfOk, IsTrue, length, map, position, bytes_eq};
-ghost use Rattle.cg_core.specs.Kernels.{function_of, kernel_of};
-ghost use Rattle.cg_machine.specs.Foreigns.{is_empty};
-ghost use Rattle.cg_plain_laws.specs.Laws.{are_monomorphic};
+ghost use Rattle.std.specs.Prelude.{◌≡◌, ◌≤◌, ◌^◌, ◌++◌, [], ◌∷◌, IfOk, length};
 ghost use Rattle.cg_steps.specs.World.{world};
 ghost use Rattle.cg_steps.specs.Steps.{judged_first};
 ghost use Rattle.cg_steps.specs.Parts.{Concludes, Rules, Steps};
-ghost use Rattle.cg_driver.specs.Built.{IsListed, KeepsCopies};
-ghost use Rattle.cg_driver.specs.Commands.{Judges, entry_rules, instanced, is_plain as is_plain_of, run_rules, reads_source, heap_steps, run_steps, ran_lines};
+ghost use Rattle.cg_driver.specs.Built.{CanRun, IsListed, KeepsCopies};
+ghost use Rattle.cg_driver.specs.Commands.{Judges, entry_rules, on_words, place_rules, run_rules, reads_source, heap_steps, run_steps, ran_lines};
 ghost use Rattle.cg_driver.specs.Found.{Found, nothing, functions as functions_found};
-ghost use Rattle.cg_driver.specs.Judged.{functions_in, CanBeBuilt, HoldsCores, IsArgument, IsEntry, RefusesBytes, RefusesEntry};
+ghost use Rattle.cg_driver.specs.Judged.{functions_in, CanBeBuilt, HoldsCores, IsAllowed, IsArgument, RefusesBytes};
 
 use crate::build::listed;
-use crate::execute::execute;
+use crate::entry::{entry_of, place_of};
+use crate::execute::{Entry, execute};
 use crate::judge::{SOURCE_LIMIT, judge};
-use crate::lines::{beyond, no_entry, no_heap_text, not_built, out_of_range};
+use crate::lines::{beyond, no_heap_text, out_of_range};
 use cg_base::Memory;
-use cg_core::{KFun, Kernel};
 use cg_heaptext::{HeapFault, read_argument};
 use cg_inst::Instances;
 use cg_outside::Files;
-use cg_plain::is_plain;
 use cg_steps::{Report, Step, read_file};
 use cg_typing::Checked;
 use std::alloc::Global;
@@ -35,57 +31,6 @@ pub(crate) struct Asked<'a> {
     pub entry: &'a str,
     pub heap: &'a str,
     pub steps: u64,
-}
-
-/// The position of the first function of a name.
-fn find(functions: &[KFun], name: &str) -> Option<usize>
-    ensures { result ≡ position (λ f. bytes_eq f.at.name name.now) functions.now }
-{
-    functions
-        .iter()
-        .position(|function| function.at.name.bytes() == name.as_bytes())
-}
-
-/// Whether a function has no type variables.
-fn is_bare(function: &KFun) -> bool
-    ensures { result ≡ is_empty (function_of function.now).vars }
-{
-    function.vars.as_slice().is_empty()
-}
-
-/// Whether no function has type variables.
-#[tactic(auto, using(crate::proofs::Bare::bare_next))]
-fn are_bare(functions: &[KFun]) -> bool
-    ensures { result ≡ are_monomorphic (map function_of functions.now) }
-{
-    for function in functions {
-        if !is_bare(function) {
-            return false;
-        }
-    }
-    true
-}
-
-/// Whether a source can be run so far.
-fn is_runnable(kernel: &Kernel) -> bool
-    ensures { result ≡ is_plain_of (kernel_of kernel.now) }
-{
-    is_plain(kernel) && are_bare(kernel.funs.as_slice())
-}
-
-/// The entry of a source, which has to be plain.
-fn entry_of(alloc: Global, asked: &Asked<'_>, checked: &Checked) -> Result<Step<u32>, Memory>
-    requires few { length (functions_in checked.now) ≤ 4096 }
-    ensures { IfOk result (Steps (IsEntry asked.now.entry.now (functions_in checked.now)) (RefusesEntry asked.now.file.now asked.now.entry.now (functions_in checked.now))) }
-{
-    let kernel = checked.kernel();
-    if !is_runnable(kernel) {
-        return Ok(Step::Ends(not_built(alloc, asked.file)?));
-    }
-    match find(kernel.funs.as_slice(), asked.entry) {
-        None => Ok(Step::Ends(no_entry(alloc, asked.file)?)),
-        Some(at) => Ok(Step::Goes(at as u32)),
-    }
 }
 
 /// The argument that a heap file holds.
@@ -108,22 +53,20 @@ fn run_bytes(
     asked: &Asked<'_>,
     checked: &Checked,
     list: &Instances,
-    at: u32,
+    chosen: Entry,
     bytes: &[u8],
 ) -> Result<Report, Memory>
-    requires list { IsListed checked.now list.now }
     requires ready { CanBeBuilt checked.now }
-    requires plain { IsTrue (is_plain_of (functions_in checked.now)) }
-    requires there { at < length (functions_in checked.now) }
+    requires runs { CanRun checked.now list.now chosen.at chosen.place }
     requires few { asked.now.steps ≤ 2 ^ 40 }
     requires cores { HoldsCores checked.now }
-    ensures { (found : Found) → KeepsCopies checked.now list.now found → found.at ≡ at → found.heap ≡ bytes.now
+    ensures { (found : Found) → KeepsCopies checked.now list.now found → found.at ≡ chosen.at → found.place ≡ chosen.place → found.heap ≡ bytes.now
         → Rules Judges ran_lines (run_rules asked.now.heap.now asked.now.steps) found result }
 {
     match argument(alloc, asked.heap, bytes) {
         Err(_) => Err(Memory),
         Ok(Step::Ends(report)) => Ok(report),
-        Ok(Step::Goes(arg)) => execute(alloc, checked, list, at, arg, asked.steps),
+        Ok(Step::Goes(arg)) => execute(alloc, checked, list, chosen, arg, asked.steps),
     }
 }
 
@@ -133,16 +76,14 @@ fn run_ready<F: Files>(
     asked: &Asked<'_>,
     checked: &Checked,
     list: &Instances,
-    at: u32,
+    chosen: Entry,
     files: &mut F,
 ) -> Result<Report, Memory>
-    requires list { IsListed checked.now list.now }
     requires ready { CanBeBuilt checked.now }
-    requires plain { IsTrue (is_plain_of (functions_in checked.now)) }
-    requires there { at < length (functions_in checked.now) }
+    requires runs { CanRun checked.now list.now chosen.at chosen.place }
     requires few { asked.now.steps ≤ 2 ^ 40 }
     requires cores { HoldsCores checked.now }
-    ensures { (found : Found) → KeepsCopies checked.now list.now found → found.at ≡ at
+    ensures { (found : Found) → KeepsCopies checked.now list.now found → found.at ≡ chosen.at → found.place ≡ chosen.place
         → Concludes Judges ran_lines (heap_steps asked.now.heap.now asked.now.steps) found
         (world (F.held files.old) (F.failed_reads files.old) (F.failed_writes files.old))
         (world (F.held files.new) (F.failed_reads files.new) (F.failed_writes files.new)) result }
@@ -150,7 +91,36 @@ fn run_ready<F: Files>(
     match read_file(alloc, asked.heap, HEAP_LIMIT, files) {
         Err(_) => Err(Memory),
         Ok(Step::Ends(report)) => Ok(report),
-        Ok(Step::Goes(bytes)) => run_bytes(alloc, asked, checked, list, at, &bytes),
+        Ok(Step::Goes(bytes)) => run_bytes(alloc, asked, checked, list, chosen, &bytes),
+    }
+}
+
+/// Finds the instance of an entry among the instances of its source, and runs it.
+fn run_placed<F: Files>(
+    alloc: Global,
+    asked: &Asked<'_>,
+    checked: &Checked,
+    list: &Instances,
+    at: u32,
+    files: &mut F,
+) -> Result<Report, Memory>
+    requires list { IsListed checked.now list.now }
+    requires ready { CanBeBuilt checked.now }
+    requires there { IsAllowed (functions_in checked.now) at }
+    requires few { asked.now.steps ≤ 2 ^ 40 }
+    requires cores { HoldsCores checked.now }
+    ensures { (found : Found) → KeepsCopies checked.now list.now found → found.at ≡ at
+        → Concludes Judges ran_lines (judged_first (on_words asked.now.file.now ∷ []) (heap_steps asked.now.heap.now asked.now.steps)) found
+        (world (F.held files.old) (F.failed_reads files.old) (F.failed_writes files.old))
+        (world (F.held files.new) (F.failed_reads files.new) (F.failed_writes files.new)) result }
+{
+    match place_of(alloc, asked.file, checked, list, at) {
+        Err(_) => Err(Memory),
+        Ok(Step::Ends(report)) => Ok(report),
+        Ok(Step::Goes(place)) => {
+            let chosen = Entry { at, place };
+            run_ready(alloc, asked, checked, list, chosen, files)
+        }
     }
 }
 
@@ -163,19 +133,18 @@ fn run_listed<F: Files>(
     files: &mut F,
 ) -> Result<Report, Memory>
     requires ready { CanBeBuilt checked.now }
-    requires plain { IsTrue (is_plain_of (functions_in checked.now)) }
-    requires there { at < length (functions_in checked.now) }
+    requires there { IsAllowed (functions_in checked.now) at }
     requires few { asked.now.steps ≤ 2 ^ 40 }
     requires cores { HoldsCores checked.now }
     ensures { (found : Found) → functions_found found ≡ functions_in checked.now → found.at ≡ at
-        → Concludes Judges ran_lines (judged_first (instanced ∷ []) (heap_steps asked.now.heap.now asked.now.steps)) found
+        → Concludes Judges ran_lines (judged_first (place_rules asked.now.file.now) (heap_steps asked.now.heap.now asked.now.steps)) found
         (world (F.held files.old) (F.failed_reads files.old) (F.failed_writes files.old))
         (world (F.held files.new) (F.failed_reads files.new) (F.failed_writes files.new)) result }
 {
     match listed(alloc, checked) {
         Err(_) => Err(Memory),
         Ok(Step::Ends(report)) => Ok(report),
-        Ok(Step::Goes(list)) => run_ready(alloc, asked, checked, &list, at, files),
+        Ok(Step::Goes(list)) => run_placed(alloc, asked, checked, &list, at, files),
     }
 }
 
@@ -191,11 +160,11 @@ fn run_checked<F: Files>(
     requires cores { HoldsCores checked.now }
     requires ready { CanBeBuilt checked.now }
     ensures { (found : Found) → functions_found found ≡ functions_in checked.now
-        → Concludes Judges ran_lines (judged_first (entry_rules asked.now.file.now asked.now.entry.now ++ instanced ∷ []) (heap_steps asked.now.heap.now asked.now.steps)) found
+        → Concludes Judges ran_lines (judged_first (entry_rules asked.now.file.now asked.now.entry.now ++ place_rules asked.now.file.now) (heap_steps asked.now.heap.now asked.now.steps)) found
         (world (F.held files.old) (F.failed_reads files.old) (F.failed_writes files.old))
         (world (F.held files.new) (F.failed_reads files.new) (F.failed_writes files.new)) result }
 {
-    match entry_of(alloc, asked, checked) {
+    match entry_of(alloc, asked.file, asked.entry, checked) {
         Err(_) => Err(Memory),
         Ok(Step::Ends(report)) => Ok(report),
         Ok(Step::Goes(at)) => run_listed(alloc, asked, checked, at, files),

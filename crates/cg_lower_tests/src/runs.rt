@@ -3,7 +3,7 @@ use crate::sources::lowered;
 use cg_base::{Items, Name};
 use cg_cmachine::{Ran, run_c};
 use cg_heap::{MapStore, Scalar};
-use cg_lowering::function_name;
+use cg_lower::function_name;
 use std::alloc::Global;
 use std::process::Abort;
 use std::test::Fail;

@@ -9,7 +9,7 @@ use cg_check::check;
 use cg_core::Kernel;
 use cg_ctree::CProgram;
 use cg_inst::instances;
-use cg_lowering::lower;
+use cg_lower::lower;
 use cg_mono::mono;
 use cg_parser::parse;
 use cg_resolve::resolve;

@@ -10,3 +10,6 @@ pub mod Stable
 pub mod Unboxed
 pub mod Without
 pub mod Whole
+pub mod Sound
+pub mod Reached
+pub mod Entries

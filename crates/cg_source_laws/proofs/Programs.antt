@@ -6,7 +6,7 @@ use Rattle.cg_core.specs.Kernels.{Function}
 use Rattle.cg_inst.proofs.Names.{never}
 use Rattle.cg_inst.specs.Lists.{Cores}
 use Rattle.cg_inst_laws.specs.Laws.{entry_of}
-use Rattle.cg_lowering.specs.Promises.{IsProgramOf}
+use Rattle.cg_lower.specs.Promises.{IsProgramOf}
 use Rattle.cg_machine.specs.Foreigns.{is_empty, is_known}
 use Rattle.cg_typing.specs.Instances.{AreInstances, Instance, IsGood}
 use Rattle.cg_value.specs.NoForeign.{no_foreign}

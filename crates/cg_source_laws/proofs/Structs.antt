@@ -14,7 +14,7 @@ use Rattle.cg_inst_laws.proofs.Each.{Each, each_both}
 use Rattle.cg_lawful.specs.Lawful.{AreSome, part_names}
 use Rattle.cg_lower_laws.specs.CTypes.{form}
 use Rattle.cg_lower_laws.specs.Structs.{is_in}
-use Rattle.cg_lowering.specs.Promises.{HasFields}
+use Rattle.cg_lower.specs.Promises.{HasFields}
 use Rattle.cg_operations.specs.Iterators.{is_iterator}
 use Rattle.cg_typing.specs.Parts.{given_by, taken_by}
 use Rattle.cg_typing.specs.Rules.{type_at}

@@ -10,6 +10,7 @@ use Rattle.cg_base.specs.declared.kind.Sigil.TheVariants.{R, W, U}
 use Rattle.cg_base.specs.declared.kind.Word.{Word}
 use Rattle.cg_base.specs.declared.kind.Word.TheVariants.{U32, U64}
 use Rattle.cg_base.specs.Types.{Tau, var, seen, unit, word, bool, arrow, abs, variant, fields, Parts, end, part}
+use Rattle.cg_entry.specs.Types.{needs_cells, parts_need_cells}
 use Rattle.cg_inst.proofs.Names.{never}
 use Rattle.cg_inst_laws.proofs.Closed.{closed_stays, closed_subst}
 use Rattle.cg_inst_laws.proofs.Each.{Each}
@@ -20,10 +21,9 @@ use Rattle.cg_typing.specs.Library.{given, library_type, loop, pair, stopped, tu
 use Rattle.cg_typing.specs.Parts.{is_there, part_named, taken_by}
 use Rattle.cg_typing_laws.proofs.Types.{subst_bang}
 use Rattle.cg_unboxed.specs.Types.{are_apart, are_unboxed, is_sequence, is_unboxed}
-use Rattle.cg_source_laws.specs.Cells.{need_cells, needs_cells}
 use Rattle.cg_source_laws.proofs.Proper.{AreProperParts, IsProper, observed_proper, type_proper}
 
-neither : (a b : Bool) → (a || b) ≡ false → (a ≡ false) × (b ≡ false)
+pub neither : (a b : Bool) → (a || b) ≡ false → (a ≡ false) × (b ≡ false)
 neither true b h = never (sym h)
 neither false b h = (refl, h)
 
@@ -49,7 +49,7 @@ right_zero : (a b : ℕ) → max a b ≡ 0 → b ≡ 0
 right_zero a b h = omega arith
 
 mutual
-  unfolding is_unboxed needs_cells width
+  unfolding is_unboxed width
 
   narrow_unboxed : (t : Tau) → IsProper t → width t ≡ 0 → needs_cells t ≡ false → IsTrue (is_unboxed t)
   narrow_unboxed (var n) p w h = absurd (omega arith)
@@ -64,10 +64,10 @@ mutual
   narrow_unboxed (fields ps R) p w h = never (sym h)
   narrow_unboxed (fields ps W) p w h = never (sym h)
 
-  parts_unboxed : (ps : Parts) → AreProperParts ps → width_parts ps ≡ 0 → need_cells ps ≡ false → IsTrue (are_unboxed ps)
+  parts_unboxed : (ps : Parts) → AreProperParts ps → width_parts ps ≡ 0 → parts_need_cells ps ≡ false → IsTrue (are_unboxed ps)
   parts_unboxed end p w h = refl
   parts_unboxed (part name t taken ps) p w h =
-      let b = neither (needs_cells t) (need_cells ps) h in
+      let b = neither (needs_cells t) (parts_need_cells ps) h in
       and_from (is_unboxed t) _ (narrow_unboxed t p.0 (left_zero (width t) (width_parts ps) w) b.0) (parts_unboxed ps p.1 (right_zero (width t) (width_parts ps) w) b.1)
 
 pub closed_unboxed : (t : Tau) → IsProper t → IsTrue (is_closed t) → needs_cells t ≡ false → IsTrue (is_unboxed t)
@@ -75,7 +75,7 @@ closed_unboxed t p c h = narrow_unboxed t p (eqb-true (width t) 0 c) h
 
 -- so is what an arrow takes
 narrow_taken : (t : Tau) → IsProper t → width t ≡ 0 → needs_cells t ≡ false → IsTrue (is_unboxed (taken_by t))
-unfolding is_unboxed needs_cells width
+unfolding is_unboxed width
 narrow_taken (arrow a b) p w h = narrow_unboxed a p.0 (left_zero (width a) (width b) w) (neither (needs_cells a) (needs_cells b) h).0
 narrow_taken _ p w h = refl
 
@@ -96,7 +96,7 @@ type_closed (t ∷ ts) (suc i) h = type_closed ts i (and_parts (is_closed t) _ h
 -- what a loop over numbers takes is unboxed, where it needs no cells
 loop_unboxed : (w : Word) (c o result : Tau) → IsProper c → IsTrue (is_closed c) → IsProper o → IsTrue (is_closed o) → needs_cells (loop w c o result) ≡ false
     → IsTrue (is_unboxed (taken_by (loop w c o result)))
-unfolding is_unboxed needs_cells
+unfolding is_unboxed
 loop_unboxed w c o result pc cc' po co h =
     let carried = needs_cells c || (needs_cells (bang o) || false) in
     let turn = needs_cells (arrow (turn_of_loop w c o) result) in
@@ -109,7 +109,7 @@ loop_unboxed w c o result pc cc' po co h =
 -- a function of the library that needs no cells is such a loop
 pub library_unboxed : (l : Lib) (ts : List Tau) → Each IsProper ts → IsTrue (list_all is_closed ts) → needs_cells (library_type l ts) ≡ false
     → IsTrue (is_sequence l) × IsTrue (is_unboxed (taken_by (library_type l ts)))
-unfolding needs_cells bang
+unfolding bang
 library_unboxed Seq32 ts p c h = (refl, loop_unboxed U32 (given ts 0) (given ts 1) (given ts 0) (type_proper ts 0 p) (type_closed ts 0 c) (type_proper ts 1 p) (type_closed ts 1 c) h)
 library_unboxed Seq64 ts p c h = (refl, loop_unboxed U64 (given ts 0) (given ts 1) (given ts 0) (type_proper ts 0 p) (type_closed ts 0 c) (type_proper ts 1 p) (type_closed ts 1 c) h)
 library_unboxed Seq32Break ts p c h =

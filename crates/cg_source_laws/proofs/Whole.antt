@@ -10,6 +10,7 @@ use Rattle.cg_base.specs.Types.{arrow, word}
 use Rattle.cg_collect.specs.Collected.{Copy}
 use Rattle.cg_core.specs.Terms.{Note, Tree}
 use Rattle.cg_ctree.specs.Trees.{Program as CText}
+use Rattle.cg_entry.specs.Types.{needs_cells}
 use Rattle.cg_heap.specs.declared.cell.Scalar.TheVariants.{Word}
 use Rattle.cg_inst.specs.Judged.{core_in, functions_in}
 use Rattle.cg_inst.specs.Lists.{IsList}
@@ -19,7 +20,7 @@ use Rattle.cg_inst_laws.proofs.Entries.{list_derived, list_good}
 use Rattle.cg_inst_laws.proofs.Sources.{instances_are_good}
 use Rattle.cg_inst_laws.specs.Laws.{entry_of}
 use Rattle.cg_lower_laws.specs.Lowered.{function_name}
-use Rattle.cg_lowering.specs.Promises.{IsProgramOf, IsSimulated}
+use Rattle.cg_lower.specs.Promises.{IsProgramOf, IsSimulated}
 use Rattle.cg_machine.specs.Evaluation.{cost_of, evaluation}
 use Rattle.cg_machine.specs.Foreigns.{table_of}
 use Rattle.cg_mono_laws.proofs.Kept.{evaluation_is_kept}
@@ -34,7 +35,7 @@ use Rattle.cg_unboxed.proofs.Whole.{words_are_updated}
 use Rattle.cg_unboxed.specs.Laws.{GivesWord}
 use Rattle.cg_value.specs.NoForeign.{no_foreign, none_is_lawful}
 use Rattle.cg_value.specs.Values.{Val, function, number}
-use Rattle.cg_source_laws.specs.Cells.{IsWithoutCells, needs_cells}
+use Rattle.cg_source_laws.specs.Cells.{IsWithoutCells}
 use Rattle.cg_source_laws.specs.Laws.{FunctionsStand, RunsAlike, SourcesArePrograms, SourcesPrint, UnboxedRun, copies_in, program_over}
 use Rattle.cg_source_laws.specs.Runs.{no_cells}
 use Rattle.cg_source_laws.proofs.Depths.{are_shallow}
@@ -87,7 +88,6 @@ module _ (checked : Checked) (list : List Instance) (is : IsList (functions_in c
       body = body_there (functions_in checked) (core_in checked) (tree_in checked) typed list is among without at i [] here stands
 
       no_cells_needed : needs_cells (entry_of (functions_in checked) (core_in checked) one).ty ≡ false
-      unfolding needs_cells
       no_cells_needed = ap needs_cells ty
 
       free : among_these at ≡ true

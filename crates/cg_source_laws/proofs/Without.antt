@@ -12,6 +12,7 @@ use Rattle.cg_collect.specs.Collected.{Copy}
 use Rattle.cg_core.specs.Derivations.{Derivation}
 use Rattle.cg_core.specs.Kernels.{Function}
 use Rattle.cg_core.specs.Terms.{Arg, Note, Tree, term, fun}
+use Rattle.cg_entry.specs.Types.{needs_cells}
 use Rattle.cg_inst.proofs.Names.{by_cases, never}
 use Rattle.cg_inst.proofs.SameInstance.{instance_is, instance_same}
 use Rattle.cg_inst.specs.Lists.{Cores, IsList, same_instance}
@@ -33,7 +34,7 @@ use Rattle.cg_typing_laws.specs.Subst.{subst_core}
 use Rattle.cg_unboxed.specs.Laws.{AreUnboxed}
 use Rattle.cg_unboxed.specs.Types.{is_mention_among, is_place_among, is_unboxed, is_unboxed_by, is_unboxed_entry, is_unboxed_node}
 use Rattle.cg_update.specs.Updates.{place_of}
-use Rattle.cg_source_laws.specs.Cells.{HasBodyWithoutCells, IsAmong, IsNodeWithoutCells, IsWithoutCells, needs_cells}
+use Rattle.cg_source_laws.specs.Cells.{HasBodyWithoutCells, IsAmong, IsNodeWithoutCells, IsWithoutCells}
 use Rattle.cg_source_laws.specs.Laws.{copies_over, program_over}
 use Rattle.cg_source_laws.proofs.Instances.{HaveProperNodes, IsFine, entry_proper, list_fine}
 use Rattle.cg_source_laws.proofs.ProperNodes.{HasProper}
@@ -45,7 +46,7 @@ suc_same : (i j : ℕ) → suc i ≡ suc j → i ≡ j
 suc_same i j e = cc
 
 -- an instance of which there is one in a list is found at its place
-place_is : (list : List Instance) (k : ℕ) (x : Instance) → slice_get list k ≡ Some x
+pub place_is : (list : List Instance) (k : ℕ) (x : Instance) → slice_get list k ≡ Some x
     → ((i j : ℕ) → slice_get list i ≡ Some x → slice_get list j ≡ Some x → i ≡ j) → place_of x list ≡ Some k
 unfolding place_of
 place_is [] k x e once = absurd (cc)
@@ -59,18 +60,18 @@ place_is (y ∷ ys) (suc k) x e once =
 
 -- ---- what has no type variables
 
-types_stay : (ts : List Tau) → IsTrue (list_all is_closed ts) → map (subst []) ts ≡ ts
+pub types_stay : (ts : List Tau) → IsTrue (list_all is_closed ts) → map (subst []) ts ≡ ts
 types_stay [] h = refl
 types_stay (t ∷ ts) h =
     let b = and_parts (is_closed t) _ h in let p = closed_stays [] t b.0 in let q = types_stay ts b.1 in cc
 
 -- a node mentions something at types without type variables, or nothing
-abbrev HasClosedArguments : Tree Note → Type 0
+abbrev pub HasClosedArguments : Tree Note → Type 0
 HasClosedArguments (term note (fun f args)) = IsTrue (list_all is_closed (arg_types args))
 HasClosedArguments t = Unit {0}
 
 -- and its type has none
-record IsClosedNode (t : Tree Note) : Type 0 where
+pub record IsClosedNode (t : Tree Note) : Type 0 where
   pub ty : IsTrue (is_closed (type_at t))
   pub arguments : HasClosedArguments t
 
@@ -86,7 +87,7 @@ module _ (types : List Tau) (closed : IsTrue (list_all is_closed types)) where
   all_closed [] = tt
   all_closed (t ∷ ts) = (record { ty = type_closed t; arguments = arguments_closed t }, all_closed ts)
 
-  nodes_closed : (c : Tree Note) → Each IsClosedNode (nodes_of (subst_core types c))
+  pub nodes_closed : (c : Tree Note) → Each IsClosedNode (nodes_of (subst_core types c))
   nodes_closed c = at (Each IsClosedNode) (sym (nodes_given types c)) (all_closed (nodes_of c))
 
 -- a function's type depends on the types alone

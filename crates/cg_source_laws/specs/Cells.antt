@@ -1,32 +1,13 @@
--- Types whose values need cells, and bodies that do without.
-use Rattle.std.specs.Prelude.{◌≡◌, ℕ, Bool, true, false, ◌||◌, List, [], slice_get, Option, Some, None}
+-- Bodies that do without cells.
+use Rattle.std.specs.Prelude.{◌≡◌, ℕ, Bool, true, false, List, [], slice_get, Option, Some, None}
 use Rattle.std.specs.List.{AllByRecursion}
 use Rattle.cg_base.specs.declared.fun.Fun.TheVariants.{User}
-use Rattle.cg_base.specs.declared.kind.Sigil.TheVariants.{R, W, U}
-use Rattle.cg_base.specs.Types.{Tau, var, seen, unit, word, bool, arrow, abs, variant, fields, Parts, end, part}
+use Rattle.cg_base.specs.Types.{Tau}
 use Rattle.cg_collect.specs.Collected.{Copy}
 use Rattle.cg_core.specs.Terms.{Note, Tree}
+use Rattle.cg_entry.specs.Types.{needs_cells}
 use Rattle.cg_typing.specs.Instances.{Entry, Instance, mentioned_at, nodes_of}
 use Rattle.cg_typing.specs.Rules.{type_at}
-
--- a boxed record or an abstract type is in a type, also in what its arrows take and give
-unfoldable mutual
-  pub needs_cells : Tau → Bool
-  needs_cells (var n) = false
-  needs_cells (seen n) = false
-  needs_cells unit = false
-  needs_cells (word w) = false
-  needs_cells bool = false
-  needs_cells (arrow a b) = needs_cells a || needs_cells b
-  needs_cells (abs name args sigil) = true
-  needs_cells (variant ps) = need_cells ps
-  needs_cells (fields ps U) = need_cells ps
-  needs_cells (fields ps R) = true
-  needs_cells (fields ps W) = true
-
-  pub need_cells : Parts → Bool
-  need_cells end = false
-  need_cells (part name t taken ps) = needs_cells t || need_cells ps
 
 -- Among some places of a list of instances:
 module _ (list : List Instance) (among : ℕ → Bool) where

@@ -4,4 +4,7 @@
 
 mod law;
 
-pub use law::{functions_stand, sources_are_programs, sources_print, unboxed_run};
+pub use law::{
+    entries_are_sound, entries_run, functions_stand, sources_are_programs, sources_print,
+    unboxed_run,
+};

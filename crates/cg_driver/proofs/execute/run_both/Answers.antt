@@ -13,6 +13,6 @@ use Rattle.cg_driver.proofs.execute.run_both.Goals as goal
 pub returns : goal.returns
 returns c =
     each (IsLine Done (report (number c.word_in.result) (number c.in_ok-returned.returned) c.args.cost c.in_ok-returned.taken [] [] []))
-    (λ r. (steps : ℕ) → Gives c.args.checked.now c.args.at c.args.arg steps (value_of c.args.value) c.args.cost → Reports (Executes (functions_in c.args.checked.now) (copies_in c.args.checked.now c.args.list.now) c.args.at c.args.at c.args.arg steps) r)
-    (runs c.args.checked.now (copies_in c.args.checked.now c.args.list.now) c.args.at c.args.at c.args.arg (value_of c.args.value) c.args.cost c.in_ok-returned.returned c.in_ok-returned.taken c.word_in.result c.requires.cores c.in_ok-returned.ensures c.word_in.ensures)
+    (λ r. (steps : ℕ) → Gives c.args.checked.now c.args.chosen.at c.args.arg steps (value_of c.args.value) c.args.cost → Reports (Executes (functions_in c.args.checked.now) (copies_in c.args.checked.now c.args.list.now) c.args.chosen.at c.args.chosen.place c.args.arg steps) r)
+    (runs c.args.checked.now (copies_in c.args.checked.now c.args.list.now) c.args.chosen.at c.args.chosen.place c.args.arg (value_of c.args.value) c.args.cost c.in_ok-returned.returned c.in_ok-returned.taken c.word_in.result c.requires.cores c.in_ok-returned.ensures c.word_in.ensures)
     _ c.ran.ensures

@@ -1,0 +1,2 @@
+mod ReachSteps
+mod Reached

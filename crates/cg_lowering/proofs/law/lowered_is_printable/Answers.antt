@@ -1,5 +1,0 @@
-use Rattle.cg_lowering.proofs.Programs.{lowered_is_printable}
-use Rattle.cg_lowering.proofs.law.lowered_is_printable.Goals as goal
-
-pub returns : goal.returns
-returns c = lowered_is_printable

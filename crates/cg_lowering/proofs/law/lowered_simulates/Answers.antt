@@ -1,5 +1,0 @@
-use Rattle.cg_lowering.proofs.Programs.{lowered_simulates}
-use Rattle.cg_lowering.proofs.law.lowered_simulates.Goals as goal
-
-pub returns : goal.returns
-returns c = lowered_simulates

@@ -1,9 +1,0 @@
-pub mod Cores
-pub mod WordNodes
-pub mod Copies
-pub mod Unboxed
-pub mod Collecting
-pub mod Printed
-pub mod Stable
-pub mod Fronts
-pub mod Whole
