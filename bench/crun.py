@@ -5,7 +5,7 @@ The program is the one that goes through cases (docs/CASES.md), on files of one 
 budget of no steps, is taken off; what reading costs is told whole. Each time is the least of three. The stack is of 8 MiB, as a program
 has it: nothing that is read or run stands on it, but statements that stand in one another are let go one from within another.
 
-usage: bench/crun.py [PROGRAM]     PROGRAM is the built program (crates/cg_cases/out/cg_cases by default)
+usage: bench/crun.py [PROGRAM]     PROGRAM is the built program (crates/cg_driver_cases/out/cg_driver_cases by default)
 """
 
 import os
@@ -16,7 +16,7 @@ import tempfile
 import time
 
 TOP = os.path.dirname(os.path.dirname(os.path.abspath(__file__)))
-PROGRAM = os.path.abspath(sys.argv[1] if len(sys.argv) > 1 else f"{TOP}/crates/cg_cases/out/cg_cases")
+PROGRAM = os.path.abspath(sys.argv[1] if len(sys.argv) > 1 else f"{TOP}/crates/cg_driver_cases/out/cg_driver_cases")
 HEAD = '#include <stdint.h>\n#include "cogent.h"\n'
 LESS = "n = (uint32_t)((uint32_t)n - (uint32_t)1ull);"
 

@@ -4,7 +4,7 @@
 The program is the one that goes through cases (docs/CASES.md), on files of one case each; what a case costs without its evaluation,
 with a budget that is too small, is taken off. Each time is the least of three.
 
-usage: bench/eval.py [PROGRAM]     PROGRAM is the built program (crates/cg_cases/out/cg_cases by default)
+usage: bench/eval.py [PROGRAM]     PROGRAM is the built program (crates/cg_driver_cases/out/cg_driver_cases by default)
 """
 
 import os
@@ -15,7 +15,7 @@ import tempfile
 import time
 
 TOP = os.path.dirname(os.path.dirname(os.path.abspath(__file__)))
-PROGRAM = os.path.abspath(sys.argv[1] if len(sys.argv) > 1 else f"{TOP}/crates/cg_cases/out/cg_cases")
+PROGRAM = os.path.abspath(sys.argv[1] if len(sys.argv) > 1 else f"{TOP}/crates/cg_driver_cases/out/cg_driver_cases")
 BUDGET = 1 << 40
 
 

@@ -5,7 +5,7 @@ megabytes, and the ratio at each doubling.
 The program is the one that goes through cases (docs/CASES.md), on files of one case each. What reading and checking the source takes is
 told apart: it is measured by a case of `check`, and taken off. Each time is the least of three.
 
-usage: bench/instances.py [PROGRAM]     PROGRAM is the built program (crates/cg_cases/out/cg_cases by default)
+usage: bench/instances.py [PROGRAM]     PROGRAM is the built program (crates/cg_driver_cases/out/cg_driver_cases by default)
 """
 
 import os
@@ -16,7 +16,7 @@ import tempfile
 import time
 
 TOP = os.path.dirname(os.path.dirname(os.path.abspath(__file__)))
-PROGRAM = os.path.abspath(sys.argv[1] if len(sys.argv) > 1 else f"{TOP}/crates/cg_cases/out/cg_cases")
+PROGRAM = os.path.abspath(sys.argv[1] if len(sys.argv) > 1 else f"{TOP}/crates/cg_driver_cases/out/cg_driver_cases")
 
 
 def chain(steps, name, ty, first, step, last):

@@ -5,7 +5,7 @@ Processor seconds and megabytes, and the ratio at each doubling.
 The program is the one that goes through cases (docs/CASES.md), on files of one case each. What it takes to make the store is taken off, and
 told in the first rows. Each time is the least of three. Answers are read and popped at one list of as many answers.
 
-usage: bench/store.py [PROGRAM]     PROGRAM is the built program (crates/cg_cases/out/cg_cases by default)
+usage: bench/store.py [PROGRAM]     PROGRAM is the built program (crates/cg_driver_cases/out/cg_driver_cases by default)
 """
 
 import os
@@ -15,7 +15,7 @@ import sys
 import tempfile
 
 TOP = os.path.dirname(os.path.dirname(os.path.abspath(__file__)))
-PROGRAM = os.path.abspath(sys.argv[1] if len(sys.argv) > 1 else f"{TOP}/crates/cg_cases/out/cg_cases")
+PROGRAM = os.path.abspath(sys.argv[1] if len(sys.argv) > 1 else f"{TOP}/crates/cg_driver_cases/out/cg_driver_cases")
 CALLS = ("add", "place", "len", "get", "set_field", "set_element", "answer", "pop", "remove")
 
 

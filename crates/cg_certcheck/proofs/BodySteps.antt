@@ -5,15 +5,15 @@ use Rattle.cg_cert.specs.declared.cert.CertFun.{CertFun}
 use Rattle.cg_cert.specs.declared.fault.CertFault.{CertFault}
 use Rattle.cg_cert.specs.declared.fault.CertFault.TheVariants.{C1, C2, C3, Limit, Memory}
 use Rattle.cg_certcheck.specs.Bodies.{Next, as_lists, nodes_by, body_by, maybe_by, function_by}
-use Rattle.cg_pieces.proofs.BodySteps.{ahead, nothing_more}
-use Rattle.cg_pieces.specs.Bodies.{Both, Lists, joined, lists_in, no_lists, one_more}
-use Rattle.cg_certnodes.specs.View.{Agrees}
+use Rattle.cg_check_pieces.proofs.BodySteps.{ahead, nothing_more}
+use Rattle.cg_check_pieces.specs.Bodies.{Both, Lists, joined, lists_in, no_lists, one_more}
+use Rattle.cg_certcheck_nodes.specs.View.{Agrees}
 use Rattle.cg_check_laws.proofs.Basics.{bool_is}
 use Rattle.cg_core.specs.declared.kernel.KFun.{KFun}
 use Rattle.cg_core.specs.Kernels.{Body, Function, function_of}
 use Rattle.cg_faults.specs.Same.{same_name}
-use Rattle.cg_certcheck_laws.specs.Events.{is_over, is_named, nodes_next, funs_behind}
-use Rattle.cg_certcheck_laws.specs.Pass.{Out, bind, row, stands, check_body, check_functions, from_body}
+use Rattle.cg_certcheck_def.specs.Events.{is_over, is_named, nodes_next, funs_behind}
+use Rattle.cg_certcheck_def.specs.Pass.{Out, bind, row, stands, check_body, check_functions, from_body}
 use Rattle.cg_typing.specs.Parts.{is_arrow, has_word_arrays}
 
 -- the answer of the pass behind what it kept before

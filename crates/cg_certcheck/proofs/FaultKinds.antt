@@ -10,7 +10,7 @@ use Rattle.cg_cert.specs.declared.fault.CertFault.{CertFault}
 use Rattle.cg_core.specs.declared.derivation.Mark.{Mark}
 use Rattle.cg_core.specs.Kernels.{Function, Body}
 use Rattle.cg_core.specs.Terms.{Tree, term, Shape, var, unit, bool, lit, fun, op, app, lets, let_bang, if_else, con, case_of, esac, struct, member, take_field, put, cast, annot, none, more, Named, end, field}
-use Rattle.cg_certcheck_laws.specs.Events.{Event, event, events, events_shape, field_events, unary_events, binary_events, body_events, maybe_body_events, function_events, cert_events, first_failing}
+use Rattle.cg_certcheck_def.specs.Events.{Event, event, events, events_shape, field_events, unary_events, binary_events, body_events, maybe_body_events, function_events, cert_events, first_failing}
 use Rattle.cg_certcheck.specs.Judged.{IsNodeFault}
 use Rattle.cg_typing.specs.Contexts.{Context}
 use Rattle.cg_typing.specs.Operators.{Sort, arithmetic, equality, order, logic}

@@ -9,10 +9,10 @@ use Rattle.cg_cert.specs.declared.cert.CertNode.{CertNode}
 use Rattle.cg_cert.specs.declared.fault.CertFault.{CertFault}
 use Rattle.cg_cert.specs.declared.fault.CertFault.TheVariants.{C1, C2, C3, Limit, Memory}
 use Rattle.cg_certcheck.specs.Forms.{leaf_by, unary_by, binary_by, both_by, comparison_by, con_from, record_from, cast_from, form_by}
-use Rattle.cg_pieces.specs.View.{shape_at}
-use Rattle.cg_certnodes.specs.Nodes.{esac_node, member_node, take_node, put_node}
-use Rattle.cg_certnodes.specs.Steps.{Split, Strings, found, is_none, leaf_reached, leaf_tested, split_reached, record_reached, literal_reached, literal_judged, alternative_held, last_held, member_held, taken_held, put_held}
-use Rattle.cg_certnodes.specs.View.{Agrees}
+use Rattle.cg_check_pieces.specs.View.{shape_at}
+use Rattle.cg_certcheck_nodes.specs.Nodes.{esac_node, member_node, take_node, put_node}
+use Rattle.cg_certcheck_nodes.specs.Steps.{Split, Strings, found, is_none, leaf_reached, leaf_tested, split_reached, record_reached, literal_reached, literal_judged, alternative_held, last_held, member_held, taken_held, put_held}
+use Rattle.cg_certcheck_nodes.specs.View.{Agrees}
 use Rattle.cg_core.specs.declared.at.At.{At}
 use Rattle.cg_core.specs.declared.derivation.Mark.{Mark}
 use Rattle.cg_core.specs.declared.derivation.Node.{Node}
@@ -25,9 +25,9 @@ use Rattle.cg_core.specs.Derivations.{derivation}
 use Rattle.cg_faults.specs.Events.{field_directions}
 use Rattle.cg_faults.specs.Plain.{mentioned}
 use Rattle.cg_kinds.specs.Kinds.{is_word, or_unit}
-use Rattle.cg_certcheck_laws.specs.Events.{strings_at, marks_next, no_strings, one_string, field_strings, meets, value_of, is_number, is_alternative, alternative_held as alternative_held_of, is_record, is_cast}
-use Rattle.cg_certcheck_laws.specs.Pass.{Out, Cursor, Got, bind, row, test, step, reach, made, unary, binary, reach_literal, literal, leaf_at, split_at, wanted, check, check_shape, check_fields}
-use Rattle.cg_certcheck_laws.specs.Tests.{same_node, is_present, drops_all, drops_but}
+use Rattle.cg_certcheck_def.specs.Events.{strings_at, marks_next, no_strings, one_string, field_strings, meets, value_of, is_number, is_alternative, alternative_held as alternative_held_of, is_record, is_cast}
+use Rattle.cg_certcheck_def.specs.Pass.{Out, Cursor, Got, bind, row, test, step, reach, made, unary, binary, reach_literal, literal, leaf_at, split_at, wanted, check, check_shape, check_fields}
+use Rattle.cg_certcheck_def.specs.Tests.{same_node, is_present, drops_all, drops_but}
 use Rattle.cg_typing.specs.Contexts.{Context, look, push, shares, first, second}
 use Rattle.cg_typing.specs.Functions.{asked_by, are_good_arguments}
 use Rattle.cg_typing.specs.Operators.{Sort, arithmetic, equality, order, logic, sort_of, takes}

@@ -6,22 +6,22 @@ use Rattle.cg_cert.specs.declared.fault.CertFault.{CertFault}
 use Rattle.cg_cert.specs.declared.fault.CertFault.TheVariants.{C1, C2, C3, Limit, Memory}
 use Rattle.cg_certcheck.proofs.FaultKinds.{node_fault}
 use Rattle.cg_certcheck.specs.Bodies.{as_lists}
-use Rattle.cg_pieces.specs.Bodies.{Both, Lists, core_in, tree_in, lists_in, lists_of}
-use Rattle.cg_pieces.specs.declared.kept.KeptBodies.{KeptBodies}
+use Rattle.cg_check_pieces.specs.Bodies.{Both, Lists, core_in, tree_in, lists_in, lists_of}
+use Rattle.cg_check_pieces.specs.declared.kept.KeptBodies.{KeptBodies}
 use Rattle.cg_certcheck.specs.Judged.{Refuses, IsRechecked}
-use Rattle.cg_certnodes.specs.View.{Agrees}
+use Rattle.cg_certcheck_nodes.specs.View.{Agrees}
 use Rattle.cg_certcheck_laws.proofs.Main.{decide, kept_listed}
 use Rattle.cg_certcheck_laws.proofs.PassKernel.{first_fault}
-use Rattle.cg_certcheck_laws.specs.Events.{Event, event, AllHold, cert_events, first_failing}
+use Rattle.cg_certcheck_def.specs.Events.{Event, event, AllHold, cert_events, first_failing}
 use Rattle.cg_certcheck_laws.specs.Laws.{all_kept}
-use Rattle.cg_certcheck_laws.specs.Pass.{check_cert, verdict}
+use Rattle.cg_certcheck_def.specs.Pass.{check_cert, verdict}
 use Rattle.cg_core.specs.declared.derivation.Deriv.{Deriv}
 use Rattle.cg_core.specs.declared.kernel.Kernel.{Kernel}
 use Rattle.cg_core.specs.declared.term.Term.{Term}
 use Rattle.cg_core.specs.declared.term.Typed.{Typed}
 use Rattle.cg_core.specs.Kernels.{Function, kernel_of}
 use Rattle.cg_faults.specs.Events.{LimitsHold, kernel_events}
-use Rattle.cg_lawful.specs.Lawful.{IsLawfulKernel}
+use Rattle.cg_core_def.specs.Lawful.{IsLawfulKernel}
 use Rattle.cg_typing.specs.declared.checked.Checked.{Checked}
 use Rattle.cg_typing.specs.Holds.{kernel_in, cores_in, trees_in}
 use Rattle.cg_typing.specs.Kept.{AreKept, maybe_core, maybe_tree}

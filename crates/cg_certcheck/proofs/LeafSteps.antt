@@ -8,7 +8,7 @@ use Rattle.cg_core.specs.Terms.{Arg}
 use Rattle.cg_faults.specs.declared.rule.Rule.{Rule}
 use Rattle.cg_faults.specs.declared.rule.Rule.TheVariants.{K1, T13, T14}
 use Rattle.cg_kinds.specs.Kinds.{kinds, is_word}
-use Rattle.cg_parts.specs.Asked.{arguments_fault, asked_fault, failed_at, unmet}
+use Rattle.cg_typing_parts.specs.Asked.{arguments_fault, asked_fault, failed_at, unmet}
 use Rattle.cg_typing.specs.Functions.{Asked, these, a_cell, an_element, nothing, are_good_arguments, has_kinds, later_asked, meets_asked, next_asked}
 use Rattle.cg_typing.specs.Parts.{has_word_arrays, is_cell}
 

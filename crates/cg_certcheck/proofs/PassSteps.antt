@@ -13,8 +13,8 @@ use Rattle.cg_core.specs.declared.term.Form.{the_lemmas}
 use Rattle.cg_core.specs.declared.term.Term.{Term}
 use Rattle.cg_core.specs.Kernels.{Function, the_field, the_term}
 use Rattle.cg_core.specs.Terms.{Tree, OneField, term, Shape, var, unit, bool, lit, fun, op, app, lets, let_bang, if_else, con, case_of, esac, struct, member, take_field, put, cast, annot, Trees, none, more, Named, end, field, to_named, to_trees}
-use Rattle.cg_certcheck_laws.specs.Pass.{Cursor, check_fields, no_fields}
-use Rattle.cg_pieces.proofs.FieldSteps.{more_named, no_named}
+use Rattle.cg_certcheck_def.specs.Pass.{Cursor, check_fields, no_fields}
+use Rattle.cg_check_pieces.proofs.FieldSteps.{more_named, no_named}
 use Rattle.cg_typing.specs.Contexts.{Context}
 use Rattle.cg_typing.specs.Trees.{first_marks, later_marks}
 

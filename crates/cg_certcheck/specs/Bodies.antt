@@ -8,9 +8,9 @@ use Rattle.cg_base.specs.declared.kind.Kinds.{Kinds}
 use Rattle.cg_base.specs.declared.place.Place.{Place}
 use Rattle.cg_core.specs.Kernels.{Function, Body}
 use Rattle.cg_core.specs.Terms.{Tree}
-use Rattle.cg_certcheck_laws.specs.Events.{is_over, is_named, nodes_next, funs_behind}
-use Rattle.cg_certcheck_laws.specs.Pass.{Out, Cursor, Got, bind, row, stands, check}
-use Rattle.cg_pieces.specs.Bodies.{Both, Lists, lists_in, maybe_both}
+use Rattle.cg_certcheck_def.specs.Events.{is_over, is_named, nodes_next, funs_behind}
+use Rattle.cg_certcheck_def.specs.Pass.{Out, Cursor, Got, bind, row, stands, check}
+use Rattle.cg_check_pieces.specs.Bodies.{Both, Lists, lists_in, maybe_both}
 use Rattle.cg_typing.specs.Accepted.{kinds_of_vars}
 use Rattle.cg_typing.specs.Parts.{is_arrow, taken_by, given_by, has_word_arrays}
 

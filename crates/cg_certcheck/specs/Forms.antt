@@ -6,8 +6,8 @@ use Rattle.cg_base.specs.declared.place.Place.{Place}
 use Rattle.cg_base.specs.Types as types
 use Rattle.cg_base.specs.Types.{Tau, fields}
 use Rattle.cg_cert.specs.declared.fault.CertFault.TheVariants.{C2}
-use Rattle.cg_certnodes.specs.Nodes.{app_node, let_node, let_bang_node, if_node, con_node, case_node, esac_node, struct_node, member_node, take_node, put_node, cast_node, annot_node}
-use Rattle.cg_certnodes.specs.Steps.{Strings, leaf_reached, leaf_tested, split_reached, record_reached, literal_reached, literal_judged, alternative_held, last_held, member_held, taken_held, put_held}
+use Rattle.cg_certcheck_nodes.specs.Nodes.{app_node, let_node, let_bang_node, if_node, con_node, case_node, esac_node, struct_node, member_node, take_node, put_node, cast_node, annot_node}
+use Rattle.cg_certcheck_nodes.specs.Steps.{Strings, leaf_reached, leaf_tested, split_reached, record_reached, literal_reached, literal_judged, alternative_held, last_held, member_held, taken_held, put_held}
 use Rattle.cg_core.specs.declared.at.At.{At}
 use Rattle.cg_core.specs.declared.derivation.Mark.{Mark}
 use Rattle.cg_core.specs.declared.derivation.Node.{Node}
@@ -19,9 +19,9 @@ use Rattle.cg_core.specs.Terms.{Tree, Shape, var, unit, bool, lit, fun, op, app,
 use Rattle.cg_faults.specs.Events.{field_directions, next_direction, later_directions}
 use Rattle.cg_faults.specs.Plain.{mentioned, is_made_of}
 use Rattle.cg_kinds.specs.Kinds.{kinds, is_word, or_unit}
-use Rattle.cg_certcheck_laws.specs.Events.{meets, is_number, value_of}
-use Rattle.cg_certcheck_laws.specs.Pass.{Out, Cursor, Got, GotFields, bind, row, made, in_front, no_fields, wanted, operated, operated_both, check, check_fields}
-use Rattle.cg_certcheck_laws.specs.Tests.{is_present, drops_all, drops_but}
+use Rattle.cg_certcheck_def.specs.Events.{meets, is_number, value_of}
+use Rattle.cg_certcheck_def.specs.Pass.{Out, Cursor, Got, GotFields, bind, row, made, in_front, no_fields, wanted, operated, operated_both, check, check_fields}
+use Rattle.cg_certcheck_def.specs.Tests.{is_present, drops_all, drops_but}
 use Rattle.cg_typing.specs.Contexts.{Context, look, push, first, second}
 use Rattle.cg_typing.specs.Functions.{asked_by, are_good_arguments}
 use Rattle.cg_typing.specs.Operators.{Sort, arithmetic, logic, sort_of, takes}

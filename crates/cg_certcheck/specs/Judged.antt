@@ -5,7 +5,7 @@ use Rattle.cg_cert.specs.Certificates.{certificate}
 use Rattle.cg_cert.specs.declared.cert.Cert.{Cert}
 use Rattle.cg_cert.specs.declared.fault.CertFault.{CertFault}
 use Rattle.cg_cert.specs.declared.fault.CertFault.TheVariants.{C1, C2, C3, Limit, Memory}
-use Rattle.cg_certcheck_laws.specs.Events.{cert_events, first_failing}
+use Rattle.cg_certcheck_def.specs.Events.{cert_events, first_failing}
 use Rattle.cg_core.specs.declared.kernel.Kernel.{Kernel}
 use Rattle.cg_core.specs.Kernels.{Function, kernel_of}
 use Rattle.cg_faults.specs.Events.{LimitsHold, kernel_events}

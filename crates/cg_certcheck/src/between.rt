@@ -4,21 +4,21 @@
 ghost use Rattle.std.specs.Prelude.{◌≡◌};
 ghost use Rattle.std.specs.Option.{option_copied};
 ghost use Rattle.cg_certcheck.specs.Forms as forms;
-ghost use Rattle.cg_certcheck_laws.specs.Events.{value_of};
-ghost use Rattle.cg_certnodes.specs.Contexts.{context_of};
-ghost use Rattle.cg_certnodes.specs.Gots.{got_in};
-ghost use Rattle.cg_certnodes.specs.Steps.{literal_reached};
-ghost use Rattle.cg_certnodes.specs.View.{Agrees, cursor_of};
+ghost use Rattle.cg_certcheck_def.specs.Events.{value_of};
+ghost use Rattle.cg_certcheck_nodes.specs.Contexts.{context_of};
+ghost use Rattle.cg_certcheck_nodes.specs.Gots.{got_in};
+ghost use Rattle.cg_certcheck_nodes.specs.Steps.{literal_reached};
+ghost use Rattle.cg_certcheck_nodes.specs.View.{Agrees, cursor_of};
 ghost use Rattle.cg_core.specs.Kernels.{the_term};
-ghost use Rattle.cg_pieces.specs.View.{bounds_of, way_of};
+ghost use Rattle.cg_check_pieces.specs.View.{bounds_of, way_of};
 ghost use Rattle.cg_typing.specs.Contexts.{first as first_of};
 ghost use Rattle.cg_typing.specs.Trees.{first_marks, later_marks};
 
 use cg_base::{Items, Place, Ty};
 use cg_cert::CertFault;
-use cg_certnodes::{Cursor, Entry, Got, Source, firsts, meets, put_node, reach_literal};
+use cg_certcheck_nodes::{Cursor, Entry, Got, Source, firsts, meets, put_node, reach_literal};
 use cg_core::{At, Form, Mark, Term};
-use cg_parts::with_part;
+use cg_typing_parts::with_part;
 
 /// The number that a literal is; None where it is above 2^64 - 1, and for any other term.
 pub(crate) fn number_of(term: &Term<Place>) -> Option<u64>

@@ -5,11 +5,11 @@ ghost use Rattle.std.specs.Prelude.{◌≡◌, map};
 ghost use Rattle.std.specs.Option.{option_copied};
 ghost use Rattle.cg_base.specs.Types.{type_of};
 ghost use Rattle.cg_certcheck.specs.Forms.{form_by, leaf_by, literal_by};
-ghost use Rattle.cg_certnodes.specs.Contexts.{context_of};
-ghost use Rattle.cg_certnodes.specs.Gots.{got_in};
-ghost use Rattle.cg_certnodes.specs.Steps.{literal_judged};
-ghost use Rattle.cg_certnodes.specs.View.{Agrees, cursor_of};
-ghost use Rattle.cg_pieces.specs.View.{bounds_of, way_of};
+ghost use Rattle.cg_certcheck_nodes.specs.Contexts.{context_of};
+ghost use Rattle.cg_certcheck_nodes.specs.Gots.{got_in};
+ghost use Rattle.cg_certcheck_nodes.specs.Steps.{literal_judged};
+ghost use Rattle.cg_certcheck_nodes.specs.View.{Agrees, cursor_of};
+ghost use Rattle.cg_check_pieces.specs.View.{bounds_of, way_of};
 ghost use Rattle.cg_core.specs.declared.derivation.Node.TheVariants as nodes;
 ghost use Rattle.cg_core.specs.Kernels.{function_of};
 ghost use Rattle.cg_core.specs.Terms as terms;
@@ -18,12 +18,12 @@ ghost use Rattle.cg_typing.specs.Functions.{are_good_arguments, asked_by};
 
 use cg_base::{Fun, Items, Limit, Place, Ty};
 use cg_cert::CertFault;
-use cg_certnodes::{
+use cg_certcheck_nodes::{
     Cursor, Entry, Got, Source, drops_all, ends_with, leaf_of, reach_leaf, test_leaf, type_at,
 };
 use cg_core::{Form, Node, TyArg};
-use cg_parts::{arguments_fault, in_range, is_small_enough, mentioned};
-use cg_pieces::copied_arguments;
+use cg_typing_parts::{arguments_fault, in_range, is_small_enough, mentioned};
+use cg_check_pieces::copied_arguments;
 
 /// A variable.
 pub(crate) fn check_var(
@@ -102,7 +102,7 @@ pub(crate) fn check_literal(
 
 /// A literal that stands left of its guide and was reached before it, of the guide's type: C2 where it isn't in range, and the limit
 /// where the type passes it.
-#[tactic(auto, using(crate::proofs::LeafSteps::leaf_steps), unfolding(cg_certnodes::specs::Steps::literal_judged))]
+#[tactic(auto, using(crate::proofs::LeafSteps::leaf_steps), unfolding(cg_certcheck_nodes::specs::Steps::literal_judged))]
 pub(crate) fn judge_literal(
     source: &Source,
     place: Place,

@@ -5,16 +5,16 @@ ghost use Rattle.std.specs.Prelude.{◌≡◌, map, None, Some, false, true};
 ghost use Rattle.std.specs.Option.{option_copied};
 ghost use Rattle.cg_base.specs.Types.{part_of, to_parts, type_of};
 ghost use Rattle.cg_certcheck.specs.Forms as forms;
-ghost use Rattle.cg_pieces.specs.View.{bounds_of, shape_at, way_of};
-ghost use Rattle.cg_certnodes.specs.Contexts.{context_of};
-ghost use Rattle.cg_certnodes.specs.Gots.{fields_in, got_in, strings_in};
-ghost use Rattle.cg_certnodes.specs.View.{Agrees, cursor_of};
+ghost use Rattle.cg_check_pieces.specs.View.{bounds_of, shape_at, way_of};
+ghost use Rattle.cg_certcheck_nodes.specs.Contexts.{context_of};
+ghost use Rattle.cg_certcheck_nodes.specs.Gots.{fields_in, got_in, strings_in};
+ghost use Rattle.cg_certcheck_nodes.specs.View.{Agrees, cursor_of};
 ghost use Rattle.cg_core.specs.Kernels.{function_of, the_field, the_term};
 ghost use Rattle.cg_core.specs.Terms as terms;
 ghost use Rattle.cg_core.specs.Terms.{arg_of, to_named, to_trees};
 ghost use Rattle.cg_faults.specs.Events.{later_directions, part_directions};
-ghost use Rattle.cg_parts.specs.Views.{the_sort};
-ghost use Rattle.cg_certcheck_laws.specs.Pass.{check as check_of, check_fields as fields_by};
+ghost use Rattle.cg_typing_parts.specs.Views.{the_sort};
+ghost use Rattle.cg_certcheck_def.specs.Pass.{check as check_of, check_fields as fields_by};
 ghost use Rattle.cg_typing.specs.Contexts.{first as first_of, push as push_of, second as second_of};
 ghost use Rattle.cg_typing.specs.Operators.{sort_of as sort_by};
 ghost use Rattle.cg_typing.specs.Trees.{later_marks};
@@ -26,7 +26,7 @@ use crate::leaves::{
 };
 use cg_base::{Items, Limit, Name, Part, Place, Ty};
 use cg_cert::CertFault;
-use cg_certnodes::{
+use cg_certcheck_nodes::{
     Cursor, Entry, Fields, Got, Source, Strings, alternative_type, annot_node, app_node, case_node,
     cast_node, con_node, esac_node, firsts, if_node, last_type, let_bang_node, let_node, meets,
     member_node, member_type, no_fields, opened, opened_twice, operated, operated_both,
@@ -35,10 +35,10 @@ use cg_certnodes::{
 };
 use cg_core::{At, FieldTerm, Form, Mark, Node, Op, Seen, Term, TyArg};
 use cg_kinds::kinds_of;
-use cg_parts::{
+use cg_typing_parts::{
     Sort, has_word_arrays, is_made_of, is_small_enough, is_word, sort_of, takes, widens, with_part,
 };
-use cg_pieces::{is_literal, later_wanted, next_wanted, other_way, parts_of};
+use cg_check_pieces::{is_literal, later_wanted, next_wanted, other_way, parts_of};
 
 /// What a term comes to, in a context and a direction, from a place among the nodes: as the pass answers it.
 #[cycle(check)]

@@ -12,9 +12,9 @@ use Rattle.cg_faults.specs.Events as faults
 use Rattle.cg_faults.specs.Events.{LimitsHold, nowhere}
 use Rattle.cg_faults.specs.Plain.{plain_at}
 use Rattle.cg_faults.specs.Same.{same_name}
-use Rattle.cg_check_laws.specs.NormalForm.{core}
-use Rattle.cg_certcheck_laws.specs.Reads.{tree_at}
-use Rattle.cg_certcheck_laws.specs.Events.{AllHold, events, body_events, is_over, size}
+use Rattle.cg_check_def.specs.NormalForm.{core}
+use Rattle.cg_certcheck_def.specs.Reads.{tree_at}
+use Rattle.cg_certcheck_def.specs.Events.{AllHold, events, body_events, is_over, size}
 use Rattle.cg_typing.specs.Accepted.{kinds_of_vars}
 use Rattle.cg_typing.specs.Contexts.{look}
 use Rattle.cg_typing.specs.Kept.{IsKeptBody}

@@ -5,7 +5,7 @@ use Rattle.cg_base.specs.declared.place.Place.{Place}
 use Rattle.cg_core.specs.Kernels.{Function}
 use Rattle.cg_core.specs.Terms.{Tree, term, Shape, var, unit, bool, lit, fun, op, app, lets, let_bang, if_else, con, case_of, esac, struct, member, take_field, put, cast, annot, none, more, Named, end, field}
 use Rattle.cg_faults.specs.Events as faults
-use Rattle.cg_certcheck_laws.specs.Events.{events_shape}
+use Rattle.cg_certcheck_def.specs.Events.{events_shape}
 use Rattle.cg_certcheck_laws.proofs.CompleteBinders.{complete_app, complete_put, complete_let, complete_let_bang, complete_take}
 use Rattle.cg_certcheck_laws.proofs.CompleteBranches.{complete_if, complete_case}
 use Rattle.cg_certcheck_laws.proofs.CompleteFields.{CompleteFields, complete_last, complete_earlier, complete_struct}

@@ -14,7 +14,7 @@ use Rattle.cg_core.specs.Terms.{Tree, term, app, lets, let_bang, take_field, put
 use Rattle.cg_faults.specs.Events as faults
 use Rattle.cg_faults.specs.Events.{after, after_seen, upto, observer_events}
 use Rattle.cg_faults.specs.Plain.{plain, plain_in, observed}
-use Rattle.cg_certcheck_laws.specs.Events.{Event, events, size}
+use Rattle.cg_certcheck_def.specs.Events.{Event, events, size}
 use Rattle.cg_typing.specs.Contexts.{Context, push, first, second}
 use Rattle.cg_typing.specs.Parts.{is_arrow, taken_by, given_by, is_there, is_left, is_read_only, may_be_put_over, field_in, held, with_part}
 use Rattle.cg_typing.specs.Trees.{sub, marks_of}

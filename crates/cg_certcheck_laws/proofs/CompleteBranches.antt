@@ -14,8 +14,8 @@ use Rattle.cg_core.specs.Terms.{Tree, term, if_else, case_of}
 use Rattle.cg_faults.specs.Events as faults
 use Rattle.cg_faults.specs.Events.{after, upto, scope_end}
 use Rattle.cg_faults.specs.Plain.{plain}
-use Rattle.cg_check_laws.specs.NormalForm.{core}
-use Rattle.cg_certcheck_laws.specs.Events.{Event, events, size}
+use Rattle.cg_check_def.specs.NormalForm.{core}
+use Rattle.cg_certcheck_def.specs.Events.{Event, events, size}
 use Rattle.cg_typing.specs.Contexts.{Context, push, first, second}
 use Rattle.cg_typing.specs.Parts.{alternative_in, held, with_part}
 use Rattle.cg_typing.specs.Rules.{Derives, second_branch}

@@ -14,9 +14,9 @@ use Rattle.cg_core.specs.Terms.{Tree, term, struct, Named, end, field}
 use Rattle.cg_faults.specs.Events as faults
 use Rattle.cg_faults.specs.Events.{Before, LimitsHold, after, field_directions, next_direction, later_directions}
 use Rattle.cg_faults.specs.Plain.{are_fields}
-use Rattle.cg_check_laws.specs.NormalForm.{core, core_fields}
-use Rattle.cg_certcheck_laws.specs.Events.{Event, AllHold, events, field_events, field_strings, size, field_sizes}
-use Rattle.cg_certcheck_laws.specs.Tests.{splits}
+use Rattle.cg_check_def.specs.NormalForm.{core, core_fields}
+use Rattle.cg_certcheck_def.specs.Events.{Event, AllHold, events, field_events, field_strings, size, field_sizes}
+use Rattle.cg_certcheck_def.specs.Tests.{splits}
 use Rattle.cg_typing.specs.Contexts.{Context, first, second}
 use Rattle.cg_typing.specs.Rules.{Derives, DerivesFields, parts_made, record_made}
 use Rattle.cg_typing.specs.Trees.{nth, later_parts, the_parts, strings_of, first_marks, later_marks}

@@ -9,7 +9,7 @@ use Rattle.cg_core.specs.Kernels.{Function}
 use Rattle.cg_core.specs.Terms.{Tree, term, Named, end, field}
 use Rattle.cg_faults.specs.Events.{next_direction, later_directions}
 use Rattle.cg_faults.specs.Plain.{plain_in, are_fields}
-use Rattle.cg_check_laws.specs.NormalForm.{core_fields}
+use Rattle.cg_check_def.specs.NormalForm.{core_fields}
 use Rattle.cg_typing.specs.Operators.{along}
 use Rattle.cg_typing.specs.Rules.{parts_made}
 use Rattle.cg_check_laws.proofs.SoundFields.{ways, Follows, behind}

@@ -6,8 +6,8 @@ use Rattle.cg_base.specs.Types.{Tau}
 use Rattle.cg_cert.specs.declared.cert.CertNode.{CertNode}
 use Rattle.cg_core.specs.Kernels.{Function}
 use Rattle.cg_core.specs.Terms.{Tree, term, lit}
-use Rattle.cg_certcheck_laws.specs.Events.{events, guided_reached, guided_number, value_of}
-use Rattle.cg_certcheck_laws.specs.Tests.{drops_all}
+use Rattle.cg_certcheck_def.specs.Events.{events, guided_reached, guided_number, value_of}
+use Rattle.cg_certcheck_def.specs.Tests.{drops_all}
 use Rattle.cg_typing.specs.Contexts.{Context}
 use Rattle.cg_typing.specs.Parts.{in_range}
 use Rattle.cg_typing.specs.Rules.{is_literal}

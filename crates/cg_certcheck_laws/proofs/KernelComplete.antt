@@ -7,7 +7,7 @@ use Rattle.cg_core.specs.Kernels.{Function, Body}
 use Rattle.cg_core.specs.Terms.{Tree, Note}
 use Rattle.cg_faults.specs.Events as faults
 use Rattle.cg_faults.specs.Events.{LimitsHold, nowhere}
-use Rattle.cg_certcheck_laws.specs.Events.{AllHold, function_events, maybe_body_events, body_events, size}
+use Rattle.cg_certcheck_def.specs.Events.{AllHold, function_events, maybe_body_events, body_events, size}
 use Rattle.cg_typing.specs.Accepted.{kinds_of_vars}
 use Rattle.cg_typing.specs.Kept.{IsKeptMaybe, IsKept, AreKept}
 use Rattle.cg_typing.specs.Parts.{is_arrow, taken_by, given_by, has_word_arrays}

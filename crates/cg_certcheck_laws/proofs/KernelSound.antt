@@ -10,12 +10,12 @@ use Rattle.cg_core.specs.Kernels.{Function, Body}
 use Rattle.cg_core.specs.Terms.{Tree, Note}
 use Rattle.cg_faults.specs.Events as faults
 use Rattle.cg_faults.specs.Events.{LimitsHold, nowhere}
-use Rattle.cg_lawful.specs.Lawful.{IsLawfulFunction, IsLawfulBody}
-use Rattle.cg_check_laws.specs.NormalForm.{core}
-use Rattle.cg_certcheck_laws.specs.Events.{AllHold, function_events, maybe_body_events, body_events, is_named, nodes_next, funs_behind, size}
+use Rattle.cg_core_def.specs.Lawful.{IsLawfulFunction, IsLawfulBody}
+use Rattle.cg_check_def.specs.NormalForm.{core}
+use Rattle.cg_certcheck_def.specs.Events.{AllHold, function_events, maybe_body_events, body_events, is_named, nodes_next, funs_behind, size}
 use Rattle.cg_certcheck_laws.specs.Laws.{body_kept, all_kept}
-use Rattle.cg_pieces.specs.Bodies.{core_in, tree_in}
-use Rattle.cg_certcheck_laws.specs.Reads.{tree_at}
+use Rattle.cg_check_pieces.specs.Bodies.{core_in, tree_in}
+use Rattle.cg_certcheck_def.specs.Reads.{tree_at}
 use Rattle.cg_typing.specs.Accepted.{kinds_of_vars}
 use Rattle.cg_typing.specs.Kept.{IsKeptMaybe, AreKept}
 use Rattle.cg_typing.specs.Parts.{is_arrow, taken_by, given_by, has_word_arrays}

@@ -5,9 +5,9 @@ use Rattle.cg_cert.specs.declared.cert.Cert.{Cert}
 use Rattle.cg_cert.specs.declared.cert.CertFun.{CertFun}
 use Rattle.cg_cert.specs.Certificates.{certificate}
 use Rattle.cg_typing.specs.Kept.{AreKept}
-use Rattle.cg_certcheck_laws.specs.Events.{AllHold, cert_events}
+use Rattle.cg_certcheck_def.specs.Events.{AllHold, cert_events}
 use Rattle.cg_certcheck_laws.specs.Laws.{EventsDecide, KeptIsListed, all_kept}
-use Rattle.cg_pieces.specs.Bodies.{tree_in}
+use Rattle.cg_check_pieces.specs.Bodies.{tree_in}
 use Rattle.cg_certcheck_laws.proofs.KernelComplete.{functions_complete}
 use Rattle.cg_certcheck_laws.proofs.KernelSound.{functions_sound}
 

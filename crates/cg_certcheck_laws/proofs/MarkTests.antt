@@ -7,7 +7,7 @@ use Rattle.cg_core.specs.declared.derivation.Mark.TheVariants.{Gone, Left, Right
 use Rattle.cg_core.specs.declared.derivation.Node.{Node}
 use Rattle.cg_core.specs.declared.derivation.Node.TheVariants as nodes
 use Rattle.cg_core.specs.declared.term.Seen.{Seen as Observer}
-use Rattle.cg_certcheck_laws.specs.Tests.{number_of, same_node, entry_drops, drops_all, drops_but, fits, splits_where, splits}
+use Rattle.cg_certcheck_def.specs.Tests.{number_of, same_node, entry_drops, drops_all, drops_but, fits, splits_where, splits}
 use Rattle.cg_typing.specs.Contexts.{Context, look, mark_at, among, Fits, Splits, Drops, DropsBut, drops, shares}
 
 pub and_both : (a b : Bool) → (a && b) ≡ true → (a ≡ true) × (b ≡ true)

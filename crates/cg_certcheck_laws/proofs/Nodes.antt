@@ -6,7 +6,7 @@ use Rattle.cg_core.specs.declared.derivation.Mark.{Mark}
 use Rattle.cg_core.specs.declared.derivation.Node.{Node}
 use Rattle.cg_core.specs.Derivations.{Derivation, Derivations, derivation, done, part}
 use Rattle.cg_typing.specs.Trees.{two, three}
-use Rattle.cg_certcheck_laws.specs.Events.{behind, strings_at, marks_next, no_strings}
+use Rattle.cg_certcheck_def.specs.Events.{behind, strings_at, marks_next, no_strings}
 use Rattle.cg_certcheck_laws.proofs.Rows.{cert_node, Reached, unmarked}
 
 -- of so many nodes the first are those of a derivation, or of derivations

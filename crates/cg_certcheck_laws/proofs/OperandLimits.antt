@@ -3,7 +3,7 @@ use Rattle.std.proofs.Common.{Bool, true, false, not, cond, Option, Some, None, 
 use Rattle.cg_base.specs.declared.place.Place.{Place}
 use Rattle.cg_base.specs.Types as types
 use Rattle.cg_base.specs.Types.{Tau}
-use Rattle.cg_check_laws.specs.NormalForm.{operand_type}
+use Rattle.cg_check_def.specs.NormalForm.{operand_type}
 use Rattle.cg_faults.specs.Events.{Event, LimitsHold, unary_events, binary_events, guided}
 use Rattle.cg_typing.specs.Operators.{Sort, arithmetic, equality, order, logic, operand}
 use Rattle.cg_certcheck_laws.proofs.Limits.{limits_append, limits_left, limits_right, meets_limits}

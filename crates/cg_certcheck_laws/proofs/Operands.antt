@@ -7,8 +7,8 @@ use Rattle.cg_base.specs.Types.{Tau}
 use Rattle.cg_core.specs.Kernels.{Function}
 use Rattle.cg_core.specs.Terms.{Tree}
 use Rattle.cg_faults.specs.Plain.{plain, plain_in}
-use Rattle.cg_check_laws.specs.NormalForm.{operand_type}
-use Rattle.cg_certcheck_laws.specs.Events.{Event, AllHold, unary_events, binary_events, meets, row}
+use Rattle.cg_check_def.specs.NormalForm.{operand_type}
+use Rattle.cg_certcheck_def.specs.Events.{Event, AllHold, unary_events, binary_events, meets, row}
 use Rattle.cg_typing.specs.Operators.{Sort, arithmetic, equality, order, logic, takes, gives, operand}
 use Rattle.cg_check_laws.proofs.SoundParts.{operand_is, way_is}
 use Rattle.cg_certcheck_laws.proofs.MarkTests.{and_both, both_and}

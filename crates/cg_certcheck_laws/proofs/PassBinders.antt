@@ -4,7 +4,7 @@ use Rattle.cg_base.specs.declared.kind.Kinds.{Kinds}
 use Rattle.cg_base.specs.declared.place.Place.{Place}
 use Rattle.cg_base.specs.Types as types
 use Rattle.cg_base.specs.Types.{Tau}
-use Rattle.cg_check_laws.specs.NormalForm.{core}
+use Rattle.cg_check_def.specs.NormalForm.{core}
 use Rattle.cg_core.specs.declared.at.At.{At}
 use Rattle.cg_core.specs.declared.derivation.Node.TheVariants as nodes
 use Rattle.cg_core.specs.declared.term.Seen.{Seen}
@@ -12,9 +12,9 @@ use Rattle.cg_core.specs.Kernels.{Function}
 use Rattle.cg_core.specs.Terms.{Tree, term, app, lets, let_bang, if_else, case_of, take_field, put}
 use Rattle.cg_faults.specs.Plain.{observed, plain, plain_in}
 use Rattle.cg_kinds.specs.Kinds.{kinds}
-use Rattle.cg_certcheck_laws.specs.Events as tests
-use Rattle.cg_certcheck_laws.specs.Events.{Event, marks_next, size, meets, events}
-use Rattle.cg_certcheck_laws.specs.Pass.{bind, row, Cursor, step, made, check}
+use Rattle.cg_certcheck_def.specs.Events as tests
+use Rattle.cg_certcheck_def.specs.Events.{Event, marks_next, size, meets, events}
+use Rattle.cg_certcheck_def.specs.Pass.{bind, row, Cursor, step, made, check}
 use Rattle.cg_certcheck_laws.proofs.PassParts.{value, Passes, PassesShape, moved, got, meets_got}
 use Rattle.cg_certcheck_laws.proofs.PassSteps.{run, next, last_part, past, past_past, past_two, past_three, Agree, agree_push, agree_left, agree_first, agree_second, split_is}
 use Rattle.cg_typing.specs.Contexts.{Context, push, first, second, among}

@@ -7,7 +7,7 @@ use Rattle.cg_base.specs.Types as types
 use Rattle.cg_base.specs.Types.{Tau, fields, part, Parts}
 use Rattle.cg_cert.specs.declared.cert.CertFun.{CertFun}
 use Rattle.cg_cert.specs.declared.fault.CertFault.TheVariants.{C2}
-use Rattle.cg_check_laws.specs.NormalForm.{core_fields}
+use Rattle.cg_check_def.specs.NormalForm.{core_fields}
 use Rattle.cg_core.specs.declared.derivation.Mark.{Mark}
 use Rattle.cg_core.specs.declared.derivation.Node.TheVariants as nodes
 use Rattle.cg_core.specs.Derivations.{derivation}
@@ -15,12 +15,12 @@ use Rattle.cg_core.specs.Kernels.{Function, Body}
 use Rattle.cg_core.specs.Terms.{Tree, term, Shape, var, unit, bool, lit, fun, op, app, lets, let_bang, if_else, con, case_of, esac, struct, member, take_field, put, cast, annot, none, more, Named, end, field}
 use Rattle.cg_faults.specs.Events.{field_directions, next_direction, later_directions}
 use Rattle.cg_faults.specs.Plain.{plain_in, plain_parts}
-use Rattle.cg_certcheck_laws.specs.Events as tests
-use Rattle.cg_certcheck_laws.specs.Events.{Event, event, behind, strings_at, marks_next, size, field_sizes, field_strings, is_record, is_named, is_over, nodes_next, funs_behind, events, field_events, body_events, maybe_body_events, function_events, cert_events, first_failing}
+use Rattle.cg_certcheck_def.specs.Events as tests
+use Rattle.cg_certcheck_def.specs.Events.{Event, event, behind, strings_at, marks_next, size, field_sizes, field_strings, is_record, is_named, is_over, nodes_next, funs_behind, events, field_events, body_events, maybe_body_events, function_events, cert_events, first_failing}
 use Rattle.cg_certcheck_laws.specs.Laws.{body_kept, all_kept, PassAnswersTheFirstFault}
-use Rattle.cg_certcheck_laws.specs.Pass.{Out, bind, row, stands, wanted, Cursor, step, Got, GotFields, made, no_fields, in_front, check, check_shape, check_fields, check_body, from_body, check_functions, Kept, verdict}
-use Rattle.cg_certcheck_laws.specs.Reads.{trees_at}
-use Rattle.cg_certcheck_laws.specs.Tests.{splits}
+use Rattle.cg_certcheck_def.specs.Pass.{Out, bind, row, stands, wanted, Cursor, step, Got, GotFields, made, no_fields, in_front, check, check_shape, check_fields, check_body, from_body, check_functions, Kept, verdict}
+use Rattle.cg_certcheck_def.specs.Reads.{trees_at}
+use Rattle.cg_certcheck_def.specs.Tests.{splits}
 use Rattle.cg_certcheck_laws.proofs.PassBinders.{pass_app, pass_put, pass_let, pass_let_bang, pass_take, pass_if, pass_case}
 use Rattle.cg_certcheck_laws.proofs.PassParts.{value, Passes, PassesShape, got, pass_var, pass_unit, pass_bool, pass_lit, pass_fun, pass_unary, pass_binary, pass_con, pass_esac, pass_member, pass_cast, pass_annot}
 use Rattle.cg_certcheck_laws.proofs.PassSteps.{run, next, last_part, guarded, right_holds, left_holds, past, past_past, past_step, Agree, agree_left, agree_second}

@@ -4,7 +4,7 @@ use Rattle.cg_base.specs.declared.kind.Kinds.{Kinds}
 use Rattle.cg_base.specs.declared.place.Place.{Place}
 use Rattle.cg_base.specs.Types as types
 use Rattle.cg_base.specs.Types.{Tau}
-use Rattle.cg_check_laws.specs.NormalForm.{noted, operand_type}
+use Rattle.cg_check_def.specs.NormalForm.{noted, operand_type}
 use Rattle.cg_core.specs.declared.derivation.Mark.{Mark}
 use Rattle.cg_core.specs.declared.derivation.Node.TheVariants as nodes
 use Rattle.cg_core.specs.declared.op.Op.{Op}
@@ -12,8 +12,8 @@ use Rattle.cg_core.specs.Derivations.{Derivation}
 use Rattle.cg_core.specs.Kernels.{Function}
 use Rattle.cg_core.specs.Terms.{Tree, term, lit, op, none, more, Note}
 use Rattle.cg_kinds.specs.Kinds.{is_word}
-use Rattle.cg_certcheck_laws.specs.Events.{Event, behind, meets, unary_events, binary_events, guided_reached, guided_number}
-use Rattle.cg_certcheck_laws.specs.Pass.{row, Cursor, step, Got, Way, made, unary, binary, operated_both, reach_literal}
+use Rattle.cg_certcheck_def.specs.Events.{Event, behind, meets, unary_events, binary_events, guided_reached, guided_number}
+use Rattle.cg_certcheck_def.specs.Pass.{row, Cursor, step, Got, Way, made, unary, binary, operated_both, reach_literal}
 use Rattle.cg_certcheck_laws.proofs.PassSteps.{run, next, last_part, met, in_direction, right_holds}
 use Rattle.cg_typing.specs.Contexts.{Context}
 use Rattle.cg_typing.specs.Operators.{Sort, arithmetic, equality, order, logic, takes, gives, operand}

@@ -6,7 +6,7 @@ use Rattle.cg_base.specs.declared.place.Place.{Place}
 use Rattle.cg_base.specs.Types as types
 use Rattle.cg_base.specs.Types.{Tau}
 use Rattle.cg_cert.specs.declared.cert.CertNode.{CertNode}
-use Rattle.cg_check_laws.specs.NormalForm.{noted, core, core_shape}
+use Rattle.cg_check_def.specs.NormalForm.{noted, core, core_shape}
 use Rattle.cg_core.specs.declared.at.At.{At}
 use Rattle.cg_core.specs.declared.derivation.Node.{Node}
 use Rattle.cg_core.specs.declared.derivation.Node.TheVariants as nodes
@@ -15,11 +15,11 @@ use Rattle.cg_core.specs.Kernels.{Function}
 use Rattle.cg_core.specs.Terms.{Tree, term, Shape, var, unit, bool, lit, fun, op, con, esac, member, cast, annot, none, more, Arg}
 use Rattle.cg_faults.specs.Plain.{plain, plain_in, plain_at, mentioned}
 use Rattle.cg_kinds.specs.Kinds.{or_unit}
-use Rattle.cg_certcheck_laws.specs.Events as tests
-use Rattle.cg_certcheck_laws.specs.Events.{Event, behind, marks_next, strings_at, size, size_below, no_strings, meets, is_number, is_alternative, alternative_held, is_cast, value_of, reached, unary_events, binary_events, guided_reached, guided_number, events, events_shape}
-use Rattle.cg_certcheck_laws.specs.Pass.{Out, bind, wanted, row, reach, Cursor, step, Got, made, binary, check, check_shape}
-use Rattle.cg_certcheck_laws.specs.Reads.{tree_at, tree_of}
-use Rattle.cg_certcheck_laws.specs.Tests.{is_present, drops_all, drops_but}
+use Rattle.cg_certcheck_def.specs.Events as tests
+use Rattle.cg_certcheck_def.specs.Events.{Event, behind, marks_next, strings_at, size, size_below, no_strings, meets, is_number, is_alternative, alternative_held, is_cast, value_of, reached, unary_events, binary_events, guided_reached, guided_number, events, events_shape}
+use Rattle.cg_certcheck_def.specs.Pass.{Out, bind, wanted, row, reach, Cursor, step, Got, made, binary, check, check_shape}
+use Rattle.cg_certcheck_def.specs.Reads.{tree_at, tree_of}
+use Rattle.cg_certcheck_def.specs.Tests.{is_present, drops_all, drops_but}
 use Rattle.cg_certcheck_laws.proofs.PassOperators.{operand_value, unary_is, binary_is}
 use Rattle.cg_certcheck_laws.proofs.PassSteps.{run, next, last_part, met, in_direction, right_holds, join_tests, past, past_step, past_two, step_is, Agree, agree_left, agree_second, look_is, split_is}
 use Rattle.cg_typing.specs.Contexts.{Context, look, first, second, shares}

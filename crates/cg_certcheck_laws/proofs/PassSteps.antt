@@ -18,9 +18,9 @@ use Rattle.cg_core.specs.Kernels.{Function}
 use Rattle.cg_core.specs.Terms.{Shape, Note}
 use Rattle.cg_faults.specs.Plain.{plain_at, banged_where}
 use Rattle.cg_kinds.specs.Kinds.{bang, or_unit}
-use Rattle.cg_certcheck_laws.specs.Events.{Event, event, behind, marks_next, strings_at, meets, one_string, split_reached}
-use Rattle.cg_certcheck_laws.specs.Pass.{Out, bind, test, row, Cursor, step, made, split_at}
-use Rattle.cg_certcheck_laws.specs.Tests.{splits, splits_where, is_present}
+use Rattle.cg_certcheck_def.specs.Events.{Event, event, behind, marks_next, strings_at, meets, one_string, split_reached}
+use Rattle.cg_certcheck_def.specs.Pass.{Out, bind, test, row, Cursor, step, made, split_at}
+use Rattle.cg_certcheck_def.specs.Tests.{splits, splits_where, is_present}
 use Rattle.cg_typing.specs.Contexts.{Context, look, push, first, second}
 use Rattle.cg_typing.specs.Trees.{first_marks}
 

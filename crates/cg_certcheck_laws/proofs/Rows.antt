@@ -11,8 +11,8 @@ use Rattle.cg_core.specs.Kernels.{Function}
 use Rattle.cg_core.specs.Terms.{Tree}
 use Rattle.cg_faults.specs.Plain.{plain, plain_in}
 use Rattle.cg_faults.specs.Same.{same}
-use Rattle.cg_certcheck_laws.specs.Events.{Event, event, AllHold, is_some, name_at, strings_at, marks_next, behind, no_strings, one_string, meets}
-use Rattle.cg_certcheck_laws.specs.Tests.{same_node}
+use Rattle.cg_certcheck_def.specs.Events.{Event, event, AllHold, is_some, name_at, strings_at, marks_next, behind, no_strings, one_string, meets}
+use Rattle.cg_certcheck_def.specs.Tests.{same_node}
 use Rattle.cg_typing.specs.Contexts.{Context, Splits}
 use Rattle.cg_typing.specs.Trees.{first_marks}
 use Rattle.cg_check_laws.proofs.SameTypes.{same_is, same_refl}

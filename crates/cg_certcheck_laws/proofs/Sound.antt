@@ -6,8 +6,8 @@ use Rattle.cg_base.specs.declared.place.Place.{Place}
 use Rattle.cg_core.specs.Kernels.{Function}
 use Rattle.cg_core.specs.Terms.{Tree, term, Shape, var, unit, bool, lit, fun, op, app, lets, let_bang, if_else, con, case_of, esac, struct, member, take_field, put, cast, annot, none, more, Named, end, field}
 use Rattle.cg_faults.specs.Events as faults
-use Rattle.cg_lawful.specs.Lawful.{AreSome, field_names}
-use Rattle.cg_certcheck_laws.specs.Events.{events_shape}
+use Rattle.cg_core_def.specs.Lawful.{AreSome, field_names}
+use Rattle.cg_certcheck_def.specs.Events.{events_shape}
 use Rattle.cg_certcheck_laws.proofs.Limits.{limits_append}
 use Rattle.cg_certcheck_laws.proofs.Rows.{hold_left, hold_right}
 use Rattle.cg_certcheck_laws.proofs.SoundBinders.{sound_app, sound_put, sound_let, sound_let_bang, sound_take}

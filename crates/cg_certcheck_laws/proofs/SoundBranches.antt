@@ -13,8 +13,8 @@ use Rattle.cg_faults.specs.Events as faults
 use Rattle.cg_faults.specs.Events.{after, upto, scope_end}
 use Rattle.cg_faults.specs.Occurrences.{used}
 use Rattle.cg_faults.specs.Plain.{plain, plain_in}
-use Rattle.cg_check_laws.specs.NormalForm.{core}
-use Rattle.cg_certcheck_laws.specs.Events.{Event, events, size, behind, marks_next}
+use Rattle.cg_check_def.specs.NormalForm.{core}
+use Rattle.cg_certcheck_def.specs.Events.{Event, events, size, behind, marks_next}
 use Rattle.cg_typing.specs.Contexts.{Context, push, first, second}
 use Rattle.cg_typing.specs.Parts.{alternative_in, held, with_part}
 use Rattle.cg_typing.specs.Rules.{Derives, second_branch, note_at}

@@ -12,12 +12,12 @@ use Rattle.cg_core.specs.Kernels.{Function}
 use Rattle.cg_core.specs.Terms.{Tree, term, struct, Named, end, field}
 use Rattle.cg_faults.specs.Events as faults
 use Rattle.cg_faults.specs.Events.{Before, LimitsHold, after, next_direction, later_directions}
-use Rattle.cg_lawful.specs.Lawful.{AreSome, field_names, AreLawfulFields}
-use Rattle.cg_check_laws.specs.NormalForm.{core, core_fields}
-use Rattle.cg_certcheck_laws.specs.Reads.{tree_at, trees_at}
-use Rattle.cg_certcheck_laws.specs.Events.{Event, AllHold, events, field_events, field_strings, size, field_sizes, strings_at, is_some, name_at}
-use Rattle.cg_certcheck_laws.specs.Events as certs
-use Rattle.cg_certcheck_laws.specs.Tests.{splits}
+use Rattle.cg_core_def.specs.Lawful.{AreSome, field_names, AreLawfulFields}
+use Rattle.cg_check_def.specs.NormalForm.{core, core_fields}
+use Rattle.cg_certcheck_def.specs.Reads.{tree_at, trees_at}
+use Rattle.cg_certcheck_def.specs.Events.{Event, AllHold, events, field_events, field_strings, size, field_sizes, strings_at, is_some, name_at}
+use Rattle.cg_certcheck_def.specs.Events as certs
+use Rattle.cg_certcheck_def.specs.Tests.{splits}
 use Rattle.cg_typing.specs.Contexts.{Context, first, second}
 use Rattle.cg_typing.specs.Rules.{Derives, DerivesFields}
 use Rattle.cg_check_laws.proofs.Clean.{Within, within_first, within_second}

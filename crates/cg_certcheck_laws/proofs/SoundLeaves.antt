@@ -16,10 +16,10 @@ use Rattle.cg_faults.specs.Events as faults
 use Rattle.cg_faults.specs.Events.{Before, LimitsHold}
 use Rattle.cg_faults.specs.Plain.{plain_at, mentioned}
 use Rattle.cg_kinds.specs.Kinds.{is_word}
-use Rattle.cg_check_laws.specs.NormalForm.{core}
-use Rattle.cg_certcheck_laws.specs.Reads.{tree_at, tree_of}
-use Rattle.cg_certcheck_laws.specs.Events.{AllHold, leaf_reached, row, events, events_shape, size, size_below, no_strings}
-use Rattle.cg_certcheck_laws.specs.Tests.{is_present, drops_all, drops_but}
+use Rattle.cg_check_def.specs.NormalForm.{core}
+use Rattle.cg_certcheck_def.specs.Reads.{tree_at, tree_of}
+use Rattle.cg_certcheck_def.specs.Events.{AllHold, leaf_reached, row, events, events_shape, size, size_below, no_strings}
+use Rattle.cg_certcheck_def.specs.Tests.{is_present, drops_all, drops_but}
 use Rattle.cg_typing.specs.Contexts.{Context, look}
 use Rattle.cg_typing.specs.Functions.{asked_by, are_good_arguments}
 use Rattle.cg_typing.specs.Parts.{in_range}

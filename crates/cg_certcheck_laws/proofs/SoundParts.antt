@@ -14,9 +14,9 @@ use Rattle.cg_core.specs.Terms.{Tree, term, op, con, esac, member, cast, annot, 
 use Rattle.cg_faults.specs.Events as faults
 use Rattle.cg_faults.specs.Events.{after}
 use Rattle.cg_faults.specs.Plain.{plain, plain_in}
-use Rattle.cg_check_laws.specs.NormalForm.{core, operand_type}
-use Rattle.cg_certcheck_laws.specs.Events.{Event, events, size, is_some, name_at, no_strings, behind, marks_next, guided_reached, guided_number, value_of}
-use Rattle.cg_certcheck_laws.specs.Tests.{same_node}
+use Rattle.cg_check_def.specs.NormalForm.{core, operand_type}
+use Rattle.cg_certcheck_def.specs.Events.{Event, events, size, is_some, name_at, no_strings, behind, marks_next, guided_reached, guided_number, value_of}
+use Rattle.cg_certcheck_def.specs.Tests.{same_node}
 use Rattle.cg_typing.specs.Contexts.{Context, first, second, shares}
 use Rattle.cg_typing.specs.Operators.{sort_of, takes, gives, operand}
 use Rattle.cg_typing.specs.Parts.{is_left, is_last, field_in, alternative_in, held}

@@ -3,16 +3,16 @@ use Rattle.std.specs.Prelude.{◌≡◌, ◌↔◌, Option, Some, None, List, []
 use Rattle.cg_cert.specs.Certificates.{certificate}
 use Rattle.cg_cert.specs.declared.cert.Cert.{Cert}
 use Rattle.cg_cert.specs.declared.cert.CertFun.{CertFun}
-use Rattle.cg_check_laws.specs.NormalForm.{core}
+use Rattle.cg_check_def.specs.NormalForm.{core}
 use Rattle.cg_core.specs.Derivations.{Derivation}
 use Rattle.cg_core.specs.Kernels.{Function, Body}
 use Rattle.cg_core.specs.Terms.{Tree, Note}
 use Rattle.cg_faults.specs.Events.{LimitsHold, kernel_events}
-use Rattle.cg_lawful.specs.Lawful.{IsLawfulKernel}
-use Rattle.cg_certcheck_laws.specs.Events.{AllHold, first_failing, cert_events, nodes_next, funs_behind}
-use Rattle.cg_certcheck_laws.specs.Pass.{Kept, check_cert, verdict}
-use Rattle.cg_certcheck_laws.specs.Reads.{tree_at}
-use Rattle.cg_pieces.specs.Bodies.{core_in, tree_in}
+use Rattle.cg_core_def.specs.Lawful.{IsLawfulKernel}
+use Rattle.cg_certcheck_def.specs.Events.{AllHold, first_failing, cert_events, nodes_next, funs_behind}
+use Rattle.cg_certcheck_def.specs.Pass.{Kept, check_cert, verdict}
+use Rattle.cg_certcheck_def.specs.Reads.{tree_at}
+use Rattle.cg_check_pieces.specs.Bodies.{core_in, tree_in}
 use Rattle.cg_typing.specs.Kept.{AreKept}
 use Rattle.cg_typing.specs.Parts.{taken_by, given_by}
 

@@ -1,5 +1,1 @@
-pub mod Events
 pub mod Laws
-pub mod Pass
-pub mod Reads
-pub mod Tests

@@ -1,4 +1,3 @@
-pub mod Computing
 pub mod Numbers
 pub mod Operating
 pub mod Paths

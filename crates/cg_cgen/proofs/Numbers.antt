@@ -5,7 +5,7 @@ use Rattle.std.proofs.Math.Pow.{mod-mod-pow}
 use Rattle.cg_base.specs.declared.kind.Word.{Word}
 use Rattle.cg_base.specs.declared.kind.Word.TheVariants.{U8, U16, U32, U64}
 use Rattle.cg_base.specs.Words.{bits}
-use Rattle.cg_crun.specs.Operations.{flag}
+use Rattle.cg_cmachine_def.specs.Operations.{flag}
 use Rattle.cg_cgen.specs.Code.{inner}
 
 -- the bits of a word are among those of its inner word

@@ -24,12 +24,12 @@ use Rattle.cg_ctree.specs.declared.why.Why.TheVariants.{ByZero, ShiftTooFar, Kin
 use Rattle.cg_ctree.specs.Trees.{Stmt, Block, stop, also, assign, branch, to_block, stmt_of}
 use Rattle.cg_heap.specs.declared.cell.Scalar.TheVariants.{Word as NumberScalar}
 use Rattle.cg_heap.specs.Stored.{Stored}
-use Rattle.cg_crun.specs.Layouts.{Layout, cell}
-use Rattle.cg_crun.specs.Operands.{Value, literal, Frame, give}
-use Rattle.cg_crun.specs.Operations.{flag, word_value, operation, computed, flipped, converted}
-use Rattle.cg_crun.specs.Outcomes.{ok, no, on, State, done, lift}
-use Rattle.cg_crun.specs.Runs.{Linked, Calls, goes, onward, choose, plain, judged_word, assigned, run_assign, run_stmt, run_block}
-use Rattle.cg_operations.specs.Operators.{truth, on_one, on_two}
+use Rattle.cg_cmachine_def.specs.Layouts.{Layout, cell}
+use Rattle.cg_cmachine_def.specs.Operands.{Value, literal, Frame, give}
+use Rattle.cg_cmachine_def.specs.Operations.{flag, word_value, operation, computed, flipped, converted}
+use Rattle.cg_cmachine_def.specs.Outcomes.{ok, no, on, State, done, lift}
+use Rattle.cg_cmachine_def.specs.Runs.{Linked, Calls, goes, onward, choose, plain, judged_word, assigned, run_assign, run_stmt, run_block}
+use Rattle.cg_eval_operations.specs.Operators.{truth, on_one, on_two}
 use Rattle.cg_cgen.specs.Code.{inner, computed_by, only, divided_by, shifted_by, op_code}
 use Rattle.cg_cgen.specs.Meanings.{IsNumber, IsPart, IsApart, set, Changes, Computes, OperatorsCompute}
 use Rattle.cg_cgen.proofs.Numbers.{kept, bits_kept, cast, whole, small, flag_is_small, width_fits, bit_fits, difference, complement_kept}

@@ -15,11 +15,11 @@ use Rattle.cg_ctree.specs.declared.why.Why.TheVariants.{NoCell, KindsDiffer}
 use Rattle.cg_heap.specs.declared.cell.Scalar.{Scalar}
 use Rattle.cg_heap.specs.declared.cell.Scalar.TheVariants.{Unset, Word as NumberScalar, Address}
 use Rattle.cg_heap.specs.Stored.{Stored}
-use Rattle.cg_crun.specs.Layouts.{Layout, cell, pointer, group, size, Spot, spot, walk, pointed}
-use Rattle.cg_crun.specs.Operands.{Value, literal, typed, Variable, Frame, look, number_at, address_at, only, read, part_of, read_part, read_members, read_arrow, read_path, judge, present, scalars_in, target_of, has_part, word_in, give}
-use Rattle.cg_crun.specs.Outcomes.{Judged, ok, no, on, found}
-use Rattle.cg_crun.specs.Runs.{Linked, judged, judged_word}
-use Rattle.cg_crun.specs.Targets.{spliced, with_scalars, write}
+use Rattle.cg_cmachine_def.specs.Layouts.{Layout, cell, pointer, group, size, Spot, spot, walk, pointed}
+use Rattle.cg_cmachine_def.specs.Operands.{Value, literal, typed, Variable, Frame, look, number_at, address_at, only, read, part_of, read_part, read_members, read_arrow, read_path, judge, present, scalars_in, target_of, has_part, word_in, give}
+use Rattle.cg_cmachine_def.specs.Outcomes.{Judged, ok, no, on, found}
+use Rattle.cg_cmachine_def.specs.Runs.{Linked, judged, judged_word}
+use Rattle.cg_cmachine_def.specs.Targets.{spliced, with_scalars, write}
 use Rattle.cg_cgen.specs.Meanings.{IsNumber, IsPart, IsApart, set}
 
 -- ---- what is read is in range

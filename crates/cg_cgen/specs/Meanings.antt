@@ -5,18 +5,18 @@ use Rattle.cg_base.specs.declared.kind.Word.{Word}
 use Rattle.cg_base.specs.Words.{bits}
 use Rattle.cg_core.specs.declared.op.Op.{Op}
 use Rattle.cg_core.specs.declared.op.Op.TheVariants as ops
-use Rattle.cg_crun.specs.Layouts.{Layout, Spot, cell, walk}
-use Rattle.cg_crun.specs.Operands.{Frame, Value, Variable, give, look}
-use Rattle.cg_crun.specs.Outcomes.{State, done, ok}
-use Rattle.cg_crun.specs.Runs.{Calls, Linked, goes, judged, run_block}
-use Rattle.cg_crun.specs.Targets.{spliced, with_scalars}
+use Rattle.cg_cmachine_def.specs.Layouts.{Layout, Spot, cell, walk}
+use Rattle.cg_cmachine_def.specs.Operands.{Frame, Value, Variable, give, look}
+use Rattle.cg_cmachine_def.specs.Outcomes.{State, done, ok}
+use Rattle.cg_cmachine_def.specs.Runs.{Calls, Linked, goes, judged, run_block}
+use Rattle.cg_cmachine_def.specs.Targets.{spliced, with_scalars}
 use Rattle.cg_ctree.specs.declared.tree.COpnd.{COpnd}
 use Rattle.cg_ctree.specs.declared.tree.COpnd.TheVariants.{Number, Path}
 use Rattle.cg_ctree.specs.declared.tree.CPath.{CPath}
 use Rattle.cg_ctree.specs.Trees.{Stmt, to_block}
 use Rattle.cg_heap.specs.declared.cell.Scalar.TheVariants.{Word as NumberScalar}
 use Rattle.cg_heap.specs.Stored.{Stored}
-use Rattle.cg_operations.specs.Operators.{on_one, on_two}
+use Rattle.cg_eval_operations.specs.Operators.{on_one, on_two}
 use Rattle.cg_cgen.specs.Code.{op_code, word_given}
 
 -- ---- operands

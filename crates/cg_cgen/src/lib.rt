@@ -1,5 +1,5 @@
 //! The C of operators, by [`op_stmts`]: statements that do on words of C what an operator does on numbers (docs/LANGUAGE.md,
-//! "Operators in C"). Dispatch functions and iterators join here.
+//! "Operators in C").
 #![tactic(auto)]
 
 mod copies;
@@ -8,5 +8,5 @@ mod ops;
 #[cfg(test)]
 mod tests;
 
-pub use law::{operators_compute, sums_compute};
+pub use law::operators_compute;
 pub use ops::op_stmts;

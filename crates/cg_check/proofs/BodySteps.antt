@@ -2,9 +2,9 @@
 use Rattle.std.proofs.Common.{◌≡◌, ◌<◌, ◌≤◌, ◌+◌, ℕ, Option, Ok, Err, List, ◌∷◌, length, map, drop, get_or, refl, ap, ◌∙◌}
 use Rattle.std.proofs.lemmas.List.{at_drop_more, at_drop_all}
 use Rattle.cg_check.specs.Bodies.{as_lists}
-use Rattle.cg_pieces.proofs.BodySteps.{ahead, nothing_more}
-use Rattle.cg_pieces.specs.Bodies.{Both, Lists, joined, lists_in, no_lists, one_more}
-use Rattle.cg_check_laws.specs.Pass.{Out, bind, check_all, check_function}
+use Rattle.cg_check_pieces.proofs.BodySteps.{ahead, nothing_more}
+use Rattle.cg_check_pieces.specs.Bodies.{Both, Lists, joined, lists_in, no_lists, one_more}
+use Rattle.cg_check_def.specs.Pass.{Out, bind, check_all, check_function}
 use Rattle.cg_core.specs.declared.kernel.KFun.{KFun}
 use Rattle.cg_core.specs.Kernels.{Function, function_of}
 

@@ -6,9 +6,9 @@ use Rattle.cg_base.specs.Types as types
 use Rattle.cg_base.specs.Types.{Tau}
 use Rattle.cg_check.specs.Forms.{esac_by, struct_by, scoped, let_by, let_bang_by, if_by, matched_by, case_by, member_by, taken_by, take_by, put_by}
 use Rattle.cg_check.specs.Operators.{binary_by, by_left, by_right, is_by_right, unary_by}
-use Rattle.cg_nodes.specs.Nodes as forms
-use Rattle.cg_nodes.specs.Scopes.{fine}
-use Rattle.cg_check_laws.specs.Pass.{Out, Got, Way, unary, binary, operated, operated_both, bind, need, meet, none_bad, check, check_shape, leave, observers_test, branches_test}
+use Rattle.cg_check_nodes.specs.Nodes as forms
+use Rattle.cg_check_nodes.specs.Scopes.{fine}
+use Rattle.cg_check_def.specs.Pass.{Out, Got, Way, unary, binary, operated, operated_both, bind, need, meet, none_bad, check, check_shape, leave, observers_test, branches_test}
 use Rattle.cg_core.specs.declared.at.At.{At}
 use Rattle.cg_core.specs.declared.op.Op.{Op}
 use Rattle.cg_core.specs.declared.term.Seen.{Seen}
@@ -16,7 +16,7 @@ use Rattle.cg_core.specs.Kernels.{Function}
 use Rattle.cg_core.specs.Terms.{Tree, Named, lets, let_bang, if_else, case_of, esac, struct, member, take_field, put}
 use Rattle.cg_faults.specs.declared.rule.Rule.{Rule}
 use Rattle.cg_faults.specs.declared.rule.Rule.TheVariants.{K2, K3, K4, K5, K6, K7, T1, T5, T6, T7, T8, T9, T10, T12}
-use Rattle.cg_faults.specs.declared.uses.Use.{Use}
+use Rattle.cg_check_uses.specs.declared.entry.Use.{Use}
 use Rattle.cg_faults.specs.Plain.{plain_at, observed}
 use Rattle.cg_faults.specs.Same.{same}
 use Rattle.cg_kinds.specs.Kinds.{kinds, is_word}
@@ -24,7 +24,7 @@ use Rattle.cg_typing.specs.Contexts.{push, drops, shares}
 use Rattle.cg_typing.specs.Operators.{Sort, arithmetic, equality, order, logic, takes}
 use Rattle.cg_typing.specs.Parts.{field_in, alternative_in, held, is_there, is_last, is_left, is_read_only, may_be_put_over, with_part}
 use Rattle.cg_typing.specs.Rules.{note_at, second_branch}
-use Rattle.cg_uses.specs.Uses.{flag_at, mark, mark_but, seen_places, last, front}
+use Rattle.cg_check_uses.specs.Uses.{flag_at, mark, mark_but, seen_places, last, front}
 
 -- steps that answer alike
 same_steps : {A B : Type 0} (x : Out A) (f g : A → Out B) → ((a : A) → f a ≡ g a) → bind x f ≡ bind x g

@@ -2,17 +2,17 @@
 use Rattle.std.proofs.Common.{◌≡◌, Option, Some, None, Ok, Err, List, [], ◌∷◌, map, refl, sym, ap, ◌∙◌}
 use Rattle.cg_base.specs.declared.place.Place.{Place}
 use Rattle.cg_base.specs.Types.{Tau}
-use Rattle.cg_pieces.specs.declared.kept.KeptBodies.{KeptBodies}
-use Rattle.cg_context.specs.declared.stop.Stop.{Stop}
-use Rattle.cg_context.specs.declared.stop.Stop.TheVariants.{Rule as Broken, Size, Memory}
+use Rattle.cg_check_pieces.specs.declared.kept.KeptBodies.{KeptBodies}
+use Rattle.cg_check_context.specs.declared.stop.Stop.{Stop}
+use Rattle.cg_check_context.specs.declared.stop.Stop.TheVariants.{Rule as Broken, Size, Memory}
 use Rattle.cg_check.specs.Bodies.{as_lists, refusal_of}
-use Rattle.cg_pieces.specs.Bodies.{Both, Lists, core_in, tree_in, lists_in, lists_of}
+use Rattle.cg_check_pieces.specs.Bodies.{Both, Lists, core_in, tree_in, lists_in, lists_of}
 use Rattle.cg_check.specs.Judged.{AreTypesWithin, Refuses, IsChecked}
-use Rattle.cg_context.specs.View.{Agrees}
+use Rattle.cg_check_context.specs.View.{Agrees}
 use Rattle.cg_check_laws.proofs.Main.{kept}
 use Rattle.cg_check_laws.proofs.OnePass.{first_fault}
-use Rattle.cg_check_laws.specs.Kept.{body_core, body_tree, body_kept, function_core, function_tree, function_kept}
-use Rattle.cg_check_laws.specs.Pass.{check_kernel, verdict}
+use Rattle.cg_check_def.specs.Kept.{body_core, body_tree, body_kept, function_core, function_tree, function_kept}
+use Rattle.cg_check_def.specs.Pass.{check_kernel, verdict}
 use Rattle.cg_core.specs.declared.derivation.Deriv.{Deriv}
 use Rattle.cg_core.specs.declared.kernel.Kernel.{Kernel}
 use Rattle.cg_core.specs.declared.term.Term.{Term}
@@ -22,7 +22,7 @@ use Rattle.cg_faults.specs.Events.{Fault, kernel_events, first_failing}
 use Rattle.cg_faults.specs.Fails.{Fails}
 use Rattle.cg_faults.specs.Rule.{Test, rule, type_limit}
 use Rattle.cg_faults_laws.proofs.Occurring.{kernels_are_accepted_or_at_fault}
-use Rattle.cg_lawful.specs.Lawful.{IsLawfulKernel}
+use Rattle.cg_core_def.specs.Lawful.{IsLawfulKernel}
 use Rattle.cg_typing.specs.Accepted.{IsAcceptedKernel}
 use Rattle.cg_typing.specs.declared.checked.Checked.{Checked}
 use Rattle.cg_typing.specs.Holds.{kernel_in, cores_in, trees_in}

@@ -5,10 +5,10 @@ use Rattle.cg_base.specs.declared.place.Place.{Place}
 use Rattle.cg_base.specs.Types as types
 use Rattle.cg_base.specs.Types.{Tau}
 use Rattle.cg_check.proofs.PassSteps.{size, sizes, size_fields}
-use Rattle.cg_context.proofs.SourceSteps.{types_long}
-use Rattle.cg_pieces.proofs.FieldSteps.{more_named}
+use Rattle.cg_check_context.proofs.SourceSteps.{types_long}
+use Rattle.cg_check_pieces.proofs.FieldSteps.{more_named}
 use Rattle.cg_core.specs.declared.term.FieldTerm.{FieldTerm}
-use Rattle.cg_check_laws.specs.Pass.{check_shape, leaf}
+use Rattle.cg_check_def.specs.Pass.{check_shape, leaf}
 use Rattle.cg_core.specs.declared.derivation.Node.TheVariants as nodes
 use Rattle.cg_core.specs.declared.op.Op.{Op}
 use Rattle.cg_core.specs.declared.term.Form.{the_lemmas}

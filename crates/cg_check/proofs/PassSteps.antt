@@ -1,8 +1,8 @@
 -- What the pass over a term goes by: sizes of terms.
 use Rattle.std.proofs.Common.{ℕ, ◌+◌}
 use Rattle.cg_base.specs.declared.place.Place.{Place}
-use Rattle.cg_context.proofs.ObservedSteps.{restored, seen_types}
-use Rattle.cg_context.proofs.SourceSteps.{types_pushed}
+use Rattle.cg_check_context.proofs.ObservedSteps.{restored, seen_types}
+use Rattle.cg_check_context.proofs.SourceSteps.{types_pushed}
 use Rattle.cg_core.specs.Terms.{Tree, term, Shape, var, unit, bool, lit, fun, op, app, lets, let_bang, if_else, con, case_of, esac, struct, member, take_field, put, cast, annot, Trees, none, more, Named, end, field}
 
 -- the size of a term

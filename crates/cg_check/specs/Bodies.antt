@@ -3,13 +3,13 @@ use Rattle.std.specs.Prelude.{Option, Some, Ok, List}
 use Rattle.cg_base.specs.declared.limit.Limit.TheVariants.{Ty}
 use Rattle.cg_check.specs.declared.refusal.Refusal.{Refusal}
 use Rattle.cg_check.specs.declared.refusal.Refusal.TheVariants.{Rule as Refused, Limit as Beyond, Memory as Short}
-use Rattle.cg_context.specs.declared.stop.Stop.{Stop}
-use Rattle.cg_context.specs.declared.stop.Stop.TheVariants.{Rule as Broken, Size, Memory}
-use Rattle.cg_check_laws.specs.Pass.{Out, Got, bind}
-use Rattle.cg_pieces.specs.Bodies.{Both, Lists, both_of, lists_in}
-use Rattle.cg_pieces.specs.declared.kept.KeptBody.{KeptBody}
-use Rattle.cg_uses.specs.Marks.{kept_new, settled}
-use Rattle.cg_uses.specs.Uses.{last}
+use Rattle.cg_check_context.specs.declared.stop.Stop.{Stop}
+use Rattle.cg_check_context.specs.declared.stop.Stop.TheVariants.{Rule as Broken, Size, Memory}
+use Rattle.cg_check_def.specs.Pass.{Out, Got, bind}
+use Rattle.cg_check_pieces.specs.Bodies.{Both, Lists, both_of, lists_in}
+use Rattle.cg_check_pieces.specs.declared.kept.KeptBody.{KeptBody}
+use Rattle.cg_check_uses.specs.Marks.{kept_new, settled}
+use Rattle.cg_check_uses.specs.Uses.{last}
 
 -- of a body that comes to this, where its argument is present: its core and its derivation
 abbrev pub both_in : Got → Both

@@ -5,9 +5,9 @@ use Rattle.cg_base.specs.declared.kind.Sigil.TheVariants.{U}
 use Rattle.cg_base.specs.declared.place.Place.{Place}
 use Rattle.cg_base.specs.Types as types
 use Rattle.cg_base.specs.Types.{Tau, fields}
-use Rattle.cg_nodes.specs.Nodes as forms
-use Rattle.cg_nodes.specs.Scopes.{fine, scope_end, taken_end}
-use Rattle.cg_check_laws.specs.Pass.{Out, Got, bind, need, meet, check, check_fields, observers_test, branches_test}
+use Rattle.cg_check_nodes.specs.Nodes as forms
+use Rattle.cg_check_nodes.specs.Scopes.{fine, scope_end, taken_end}
+use Rattle.cg_check_def.specs.Pass.{Out, Got, bind, need, meet, check, check_fields, observers_test, branches_test}
 use Rattle.cg_core.specs.declared.at.At.{At}
 use Rattle.cg_core.specs.declared.term.Seen.{Seen}
 use Rattle.cg_core.specs.Kernels.{Function}
@@ -19,7 +19,7 @@ use Rattle.cg_kinds.specs.Kinds.{kinds}
 use Rattle.cg_typing.specs.Contexts.{push, shares}
 use Rattle.cg_typing.specs.Parts.{field_in, alternative_in, held, is_there, is_last, is_left, is_read_only, may_be_put_over, with_part}
 use Rattle.cg_typing.specs.Rules.{note_at, second_branch}
-use Rattle.cg_uses.specs.Uses.{mark, mark_but, seen_places, front}
+use Rattle.cg_check_uses.specs.Uses.{mark, mark_but, seen_places, front}
 
 -- what a part holds that is named, after the tests on it
 abbrev pub alternative_held : At → Tau → Out Tau

@@ -2,7 +2,7 @@
 use Rattle.std.specs.Prelude.{◌≡◌, Result, Ok, Err, List, map, ⊤}
 use Rattle.cg_base.specs.declared.limit.Limit.TheVariants.{Ty}
 use Rattle.cg_base.specs.declared.place.Place.{Place}
-use Rattle.cg_check_laws.specs.Kept.{function_core, function_tree}
+use Rattle.cg_check_def.specs.Kept.{function_core, function_tree}
 use Rattle.cg_core.specs.declared.kernel.Kernel.{Kernel}
 use Rattle.cg_core.specs.Kernels.{Function, kernel_of}
 use Rattle.cg_faults.specs.Events.{LimitsHold, kernel_events}

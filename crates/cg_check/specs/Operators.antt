@@ -3,12 +3,12 @@ use Rattle.std.specs.Prelude.{Bool, false, cond, List, Option, Some, None, Ok}
 use Rattle.cg_base.specs.declared.place.Place.{Place}
 use Rattle.cg_base.specs.Types as types
 use Rattle.cg_base.specs.Types.{Tau}
-use Rattle.cg_check_laws.specs.Pass.{Got, Out, Way, bind, meet, need, operated, operated_both}
+use Rattle.cg_check_def.specs.Pass.{Got, Out, Way, bind, meet, need, operated, operated_both}
 use Rattle.cg_core.specs.declared.op.Op.{Op}
 use Rattle.cg_faults.specs.declared.rule.Rule.TheVariants.{T12}
 use Rattle.cg_kinds.specs.Kinds.{is_word}
 use Rattle.cg_typing.specs.Operators.{Sort, arithmetic, logic, takes}
-use Rattle.cg_uses.specs.Uses.{mark}
+use Rattle.cg_check_uses.specs.Uses.{mark}
 
 -- the operand that is checked first: as the node says, or as the guide of the other one
 abbrev pub first_operand : Sort → Option Tau → Place → (Option Tau → Out Got) → Out Got

@@ -4,30 +4,30 @@ ghost use Rattle.std.specs.Option.{option_copied};
 ghost use Rattle.cg_base.specs.Types.{type_of};
 ghost use Rattle.cg_check.specs.Forms.{case_end, esac_end, if_end, may_be_made_of as may_be_made_of_way, member_end, put_end, record_type};
 ghost use Rattle.cg_check.specs.Operators.{both_end, guided_direction as guided_direction_of, is_by_right as is_by_right_of, one_end, operator_type as operator_type_of};
-ghost use Rattle.cg_check_laws.specs.Pass.{meet as meet_by, need as need_by, test};
-ghost use Rattle.cg_context.specs.View.{Agrees, entries_of, types_in};
+ghost use Rattle.cg_check_def.specs.Pass.{meet as meet_by, need as need_by, test};
+ghost use Rattle.cg_check_context.specs.View.{Agrees, entries_of, types_in};
 ghost use Rattle.cg_core.specs.Kernels.{function_of, the_field};
 ghost use Rattle.cg_core.specs.Terms.{arg_of, to_named};
 ghost use Rattle.cg_faults.specs.declared.rule.Rule.TheVariants.{T11, T12};
 ghost use Rattle.cg_faults.specs.Rule.{type_limit};
-ghost use Rattle.cg_nodes.specs.Boxed.{in_box};
-ghost use Rattle.cg_nodes.specs.Fields.{fields_of};
-ghost use Rattle.cg_nodes.specs.Gots.{got_of};
-ghost use Rattle.cg_nodes.specs.Nodes as forms;
-ghost use Rattle.cg_parts.specs.Views.{the_sort};
-ghost use Rattle.cg_pieces.specs.View.{bounds_of, way_of};
+ghost use Rattle.cg_check_nodes.specs.Boxed.{in_box};
+ghost use Rattle.cg_check_nodes.specs.Fields.{fields_of};
+ghost use Rattle.cg_check_nodes.specs.Gots.{got_of};
+ghost use Rattle.cg_check_nodes.specs.Nodes as forms;
+ghost use Rattle.cg_typing_parts.specs.Views.{the_sort};
+ghost use Rattle.cg_check_pieces.specs.View.{bounds_of, way_of};
 ghost use Rattle.cg_typing.specs.Operators.{takes as takes_by};
 ghost use Rattle.cg_typing.specs.Parts.{given_by, is_small_enough as small_by, widens as widens_by};
 
 use cg_base::{Items, Memory, Place, Ty};
-use cg_context::{Known, Source, Stop, branches, but_last, last_type, meet, member_type, need};
+use cg_check_context::{Known, Source, Stop, branches, but_last, last_type, meet, member_type, need};
 use cg_core::{At, FieldTerm, Op, TyArg};
 use cg_faults::Rule;
-use cg_nodes::{
+use cg_check_nodes::{
     Fields, Got, annot_node, app_node, boxed, boxed_tested, case_node, cast_node, copied,
     esac_node, if_node, member_node, operated, operated_both, put_node, record_node, struct_node,
 };
-use cg_parts::{Sort, is_made_of, is_small_enough, takes, widens, with_part};
+use cg_typing_parts::{Sort, is_made_of, is_small_enough, takes, widens, with_part};
 use std::alloc::Global;
 
 /// A part whose type is within the limit.

@@ -5,30 +5,31 @@ ghost use Rattle.std.specs.Prelude.{◌≡◌, IfOk, Ok, Some, [], ◌∷◌, fa
 ghost use Rattle.cg_base.specs.Types.{type_of};
 ghost use Rattle.cg_core.specs.Derivations.{derivation_of};
 ghost use Rattle.cg_core.specs.Kernels.{body_of, function_of, kernel_of, the_term};
-ghost use Rattle.cg_lawful.specs.Lawful.{IsLawfulKernel};
-ghost use Rattle.cg_check_laws.specs.Pass as pass;
+ghost use Rattle.cg_core_def.specs.Lawful.{IsLawfulKernel};
+ghost use Rattle.cg_check_def.specs.Pass as pass;
 ghost use Rattle.cg_check.specs.Bodies.{a_body, as_lists, both_in, refusal_of};
-ghost use Rattle.cg_pieces.specs.Bodies.{lists_of, maybe_both};
-ghost use Rattle.cg_context.specs.Ended.{ended};
+ghost use Rattle.cg_check_pieces.specs.Bodies.{lists_of, maybe_both};
+ghost use Rattle.cg_check_context.specs.Ended.{ended};
 ghost use Rattle.cg_check.specs.Judged.{Judges};
-ghost use Rattle.cg_context.specs.View.{Agrees, entries_of, fresh};
-ghost use Rattle.cg_pieces.specs.View.{bounds_of};
-ghost use Rattle.cg_nodes.specs.Gots.{got_of};
-ghost use Rattle.cg_uses.specs.Marks as splits;
-ghost use Rattle.cg_uses.specs.Uses as tables;
+ghost use Rattle.cg_check_context.specs.View.{Agrees, entries_of, fresh};
+ghost use Rattle.cg_check_pieces.specs.View.{bounds_of};
+ghost use Rattle.cg_check_nodes.specs.Gots.{got_of};
+ghost use Rattle.cg_check_uses.specs.Marks as splits;
+ghost use Rattle.cg_check_uses.specs.Uses as tables;
 
 use crate::Refusal;
 use crate::pass::check_term;
 use cg_base::{Items, Limit, Memory, Place, Ty};
-use cg_context::{Known, Source, Stop, end_scope};
+use cg_check_context::{Known, Source, Stop, end_scope};
 use cg_core::{Deriv, KBody, KFun, Kernel, Term};
-use cg_faults::{Rule, Use};
+use cg_faults::Rule;
+use cg_check_uses::Use;
 use cg_kinds::kinds_of;
-use cg_nodes::Got;
-use cg_parts::has_word_arrays;
-use cg_pieces::{KeptBodies, KeptBody};
+use cg_check_nodes::Got;
+use cg_typing_parts::has_word_arrays;
+use cg_check_pieces::{KeptBodies, KeptBody};
 use cg_typing::Checked;
-use cg_uses::{keep_new, leave, settle};
+use cg_check_uses::{keep_new, leave, settle};
 use std::alloc::Global;
 
 /// Judges a lawful kernel (docs/LANGUAGE.md, "Typing"). Ok exactly where the typing rules derive it and no type passes the limit: the

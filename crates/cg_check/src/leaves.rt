@@ -2,24 +2,24 @@
 ghost use Rattle.std.specs.Prelude.{◌≡◌, IfOk, length, map, None};
 ghost use Rattle.std.specs.Option.{option_copied};
 ghost use Rattle.cg_base.specs.Types.{type_of, unit as unit_type};
-ghost use Rattle.cg_check_laws.specs.Pass.{check_shape, leaf as leaf_by};
-ghost use Rattle.cg_context.specs.View.{Agrees, entries_of, types_in};
+ghost use Rattle.cg_check_def.specs.Pass.{check_shape, leaf as leaf_by};
+ghost use Rattle.cg_check_context.specs.View.{Agrees, entries_of, types_in};
 ghost use Rattle.cg_core.specs.declared.derivation.Node.TheVariants as nodes;
 ghost use Rattle.cg_core.specs.Kernels.{function_of, the_core_form};
 ghost use Rattle.cg_core.specs.Terms as terms;
 ghost use Rattle.cg_core.specs.Terms.{arg_of};
 ghost use Rattle.cg_faults.specs.Plain.{mentioned as mentioned_type};
-ghost use Rattle.cg_nodes.specs.Gots.{got_of};
-ghost use Rattle.cg_pieces.specs.View.{bounds_of, way_of};
+ghost use Rattle.cg_check_nodes.specs.Gots.{got_of};
+ghost use Rattle.cg_check_pieces.specs.View.{bounds_of, way_of};
 
 use cg_base::{Fun, Items, Place, Ty};
-use cg_context::{Known, Source, Stop, may_touch, meet, need, type_at};
+use cg_check_context::{Known, Source, Stop, may_touch, meet, need, type_at};
 use cg_core::{Form, Node, Op, Term, TyArg, Typed};
 use cg_faults::Rule;
-use cg_nodes::{Got, boxed, copied, leaf_of};
-use cg_parts::{arguments_fault, in_range, is_word, mentioned};
-use cg_pieces::copied_arguments;
-use cg_uses::{no_uses, one_use};
+use cg_check_nodes::{Got, boxed, copied, leaf_of};
+use cg_typing_parts::{arguments_fault, in_range, is_word, mentioned};
+use cg_check_pieces::copied_arguments;
+use cg_check_uses::{no_uses, one_use};
 use std::alloc::Global;
 
 // A core of this type and form.
@@ -33,7 +33,7 @@ fn plain(place: Place, ty: Ty, form: Form<Typed>) -> Term<Typed>
 }
 
 // A leaf that uses no variable.
-#[tactic(auto, using(cg_context::proofs::SourceSteps::types_long))]
+#[tactic(auto, using(cg_check_context::proofs::SourceSteps::types_long))]
 fn check_leaf(
     source: &Source,
     context: &Vec<Known>,
@@ -121,7 +121,7 @@ pub(crate) fn check_literal(
 }
 
 /// A function that is mentioned.
-#[tactic(auto, using(cg_context::proofs::ScopeSteps::arguments_go, cg_context::proofs::ScopeSteps::arguments_stop))]
+#[tactic(auto, using(cg_check_context::proofs::ScopeSteps::arguments_go, cg_check_context::proofs::ScopeSteps::arguments_stop))]
 pub(crate) fn check_mention(
     source: &Source,
     context: &Vec<Known>,

@@ -1,5 +1,5 @@
 // The pass over a term.
-#![tactic(auto, unfolding(cg_check_laws::specs::Pass::check, crate::proofs::PassSteps::size), using(crate::proofs::PassSteps::pass_steps))]
+#![tactic(auto, unfolding(cg_check_def::specs::Pass::check, crate::proofs::PassSteps::size), using(crate::proofs::PassSteps::pass_steps))]
 
 ghost use Rattle.std.specs.Prelude.{◌≡◌, IfOk, Ok, map, None, false, true};
 ghost use Rattle.std.specs.Option.{option_copied};
@@ -7,22 +7,22 @@ ghost use Rattle.cg_base.specs.Types.{type_of, part_of, to_parts};
 ghost use Rattle.cg_core.specs.Kernels.{function_of, the_field, the_term};
 ghost use Rattle.cg_core.specs.Terms as terms;
 ghost use Rattle.cg_core.specs.Terms.{arg_of, to_named, to_trees};
-ghost use Rattle.cg_check_laws.specs.Pass.{bind, check as check_of, check_shape, check_fields as fields_by, need as need_by};
-ghost use Rattle.cg_context.specs.View.{Agrees, entries_of, types_in};
-ghost use Rattle.cg_pieces.specs.View.{bounds_of, shape_at, way_of};
-ghost use Rattle.cg_nodes.specs.Gots.{got_of};
+ghost use Rattle.cg_check_def.specs.Pass.{bind, check as check_of, check_shape, check_fields as fields_by, need as need_by};
+ghost use Rattle.cg_check_context.specs.View.{Agrees, entries_of, types_in};
+ghost use Rattle.cg_check_pieces.specs.View.{bounds_of, shape_at, way_of};
+ghost use Rattle.cg_check_nodes.specs.Gots.{got_of};
 ghost use Rattle.cg_typing.specs.Contexts.{push as push_of};
 ghost use Rattle.cg_typing.specs.Rules.{is_literal as literal_of, note_at as note_of};
-ghost use Rattle.cg_nodes.specs.Fields.{fields_of};
+ghost use Rattle.cg_check_nodes.specs.Fields.{fields_of};
 ghost use Rattle.cg_check.specs.Forms.{case_by, esac_by, if_by, let_bang_by, let_by, member_by, other_by, put_by, scoped, struct_by, take_by, taken_by};
-ghost use Rattle.cg_context.specs.Observed.{see};
+ghost use Rattle.cg_check_context.specs.Observed.{see};
 ghost use Rattle.cg_check.specs.Operators.{binary_by, by_left, by_right, first_operand, right_direction, unary_by};
 ghost use Rattle.cg_faults.specs.Events.{part_directions};
 ghost use Rattle.cg_faults.specs.Plain.{observed};
-ghost use Rattle.cg_parts.specs.Views.{the_sort};
+ghost use Rattle.cg_typing_parts.specs.Views.{the_sort};
 ghost use Rattle.cg_faults.specs.declared.rule.Rule.TheVariants.{T12};
 ghost use Rattle.cg_typing.specs.Operators.{sort_of as sort_by, takes as takes_by};
-ghost use Rattle.cg_uses.specs.Uses as tables;
+ghost use Rattle.cg_check_uses.specs.Uses as tables;
 ghost use Rattle.cg_typing.specs.Parts.{with_part as with_part_of};
 
 use crate::ends::{
@@ -32,19 +32,19 @@ use crate::ends::{
 };
 use crate::leaves::{check_bare, check_bool, check_literal, check_mention, check_unit, check_var};
 use cg_base::{Items, Name, Part, Place, Ty};
-use cg_context::{
+use cg_check_context::{
     Known, Source, Stop, alternative_type, flags_of, injected_type, inner, inner_two, leave, need,
     observe, observe_all, put_type, restore, taken_type,
 };
 use cg_core::{At, FieldTerm, Form, Op, Seen, Term, TyArg};
 use cg_faults::Rule;
-use cg_nodes::{
+use cg_check_nodes::{
     Fields, Got, are_none, behind_observed, boxed, boxed_tested, con_node, end_scoped, end_taken,
     enter_both, enter_copy, in_front, let_bang_node, let_node, no_fields, take_node,
 };
-use cg_parts::{Sort, has_word_arrays, is_word, sort_of, with_part};
-use cg_pieces::{is_literal, later_wanted, next_wanted, other_way, parts_of};
-use cg_uses::{mark, seen_places};
+use cg_typing_parts::{Sort, has_word_arrays, is_word, sort_of, with_part};
+use cg_check_pieces::{is_literal, later_wanted, next_wanted, other_way, parts_of};
+use cg_check_uses::{mark, seen_places};
 
 /// What a term comes to, in a context and a direction, behind parts that touched some variables: as the pass answers it.
 #[cycle(check)]

@@ -10,7 +10,7 @@ use Rattle.cg_core.specs.Terms.{Tree, term}
 use Rattle.cg_kinds.specs.Kinds.{bang}
 use Rattle.cg_typing.specs.Contexts.{Context, look, mark_at, push, first_side, second_side, first, second, among}
 use Rattle.cg_faults.specs.Events.{Event, RulesHold}
-use Rattle.cg_check_laws.specs.NormalForm.{pick, marks, core}
+use Rattle.cg_check_def.specs.NormalForm.{pick, marks, core}
 use Rattle.cg_faults.specs.Plain.{plain_at, plain_in, banged_where, observed}
 use Rattle.cg_typing.specs.Rules.{type_at}
 

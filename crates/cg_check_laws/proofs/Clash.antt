@@ -10,7 +10,7 @@ use Rattle.cg_core.specs.declared.op.Op.TheVariants.{Complement, Not}
 use Rattle.cg_core.specs.declared.term.Seen.{Seen as Observer}
 use Rattle.cg_core.specs.Kernels.{Function}
 use Rattle.cg_core.specs.Terms.{Tree, term, Shape, var, unit, bool, lit, fun, op, app, lets, let_bang, if_else, con, case_of, esac, struct, member, take_field, put, cast, annot, none, more, Named, end, field}
-use Rattle.cg_lawful.specs.Lawful.{IsLawfulTerm, AreLawfulFields, operands}
+use Rattle.cg_core_def.specs.Lawful.{IsLawfulTerm, AreLawfulFields, operands}
 use Rattle.cg_typing.specs.Contexts.{push, among, shares}
 use Rattle.cg_faults.specs.Events.{Event, Before, after, after_seen, upto, observer_events, scope_end, events, events_shape, field_events, record_events, field_directions, next_direction, later_directions, RulesHold}
 use Rattle.cg_faults.specs.Occurrences.{touched, touched_fields}

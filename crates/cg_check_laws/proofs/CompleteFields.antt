@@ -12,7 +12,7 @@ use Rattle.cg_core.specs.Kernels.{Function}
 use Rattle.cg_core.specs.Terms.{Tree, term, struct, Named, end, field, Note, erased, erased_named}
 use Rattle.cg_typing.specs.Contexts.{Context, first, second, drops}
 use Rattle.cg_faults.specs.Events.{Before, after, next_direction, later_directions, part_directions, events, field_events, RulesHold}
-use Rattle.cg_check_laws.specs.NormalForm.{core, core_fields}
+use Rattle.cg_check_def.specs.NormalForm.{core, core_fields}
 use Rattle.cg_faults.specs.Occurrences.{touched, touched_fields, used_fields, sightings, sightings_fields}
 use Rattle.cg_typing.specs.Operators.{along}
 use Rattle.cg_faults.specs.Plain.{plain_at, plain_parts, are_fields}

@@ -10,7 +10,7 @@ use Rattle.cg_core.specs.Terms.{Tree, term, op, none, more, Note, erased}
 use Rattle.cg_kinds.specs.Kinds.{is_word}
 use Rattle.cg_typing.specs.Contexts.{first, second}
 use Rattle.cg_faults.specs.Events.{Event, Before, after, guided, binary_events, unary_events, events, RulesHold}
-use Rattle.cg_check_laws.specs.NormalForm.{operand_type}
+use Rattle.cg_check_def.specs.NormalForm.{operand_type}
 use Rattle.cg_faults.specs.Occurrences.{touched, used, sightings}
 use Rattle.cg_typing.specs.Operators.{Sort, arithmetic, equality, order, logic, sort_of, takes, gives, operand}
 use Rattle.cg_faults.specs.Plain.{plain, plain_in}

@@ -15,7 +15,7 @@ use Rattle.cg_typing.specs.Contexts.{Context, drops, shares}
 use Rattle.cg_faults.specs.Same.{same}
 use Rattle.cg_faults.specs.Events.{Event, Before, meets, argument_events, asked_event, events, RulesHold}
 use Rattle.cg_typing.specs.Functions.{Asked, these, a_cell, an_element, nothing, asked_by, next_asked, later_asked, meets_asked, are_good_arguments}
-use Rattle.cg_check_laws.specs.NormalForm.{noted, core}
+use Rattle.cg_check_def.specs.NormalForm.{noted, core}
 use Rattle.cg_faults.specs.Occurrences.{sightings}
 use Rattle.cg_typing.specs.Parts.{in_range, widens, is_variant, is_there, is_left, is_last, field_in, alternative_in, held, has_word_arrays}
 use Rattle.cg_faults.specs.Plain.{plain, plain_in, plain_at, mentioned}

@@ -5,8 +5,8 @@ use Rattle.cg_base.specs.declared.place.Place.{Place}
 use Rattle.cg_base.specs.Types.{Tau}
 use Rattle.cg_core.specs.Kernels.{Function}
 use Rattle.cg_core.specs.Terms.{Tree, term, Shape, var, unit, bool, lit, fun, op, app, lets, let_bang, if_else, con, case_of, esac, struct, member, take_field, put, cast, annot, none, more, Named, end, field, erased, erased_named}
-use Rattle.cg_lawful.specs.Lawful.{AreLawfulFields}
-use Rattle.cg_check_laws.specs.NormalForm.{core, core_fields}
+use Rattle.cg_core_def.specs.Lawful.{AreLawfulFields}
+use Rattle.cg_check_def.specs.NormalForm.{core, core_fields}
 use Rattle.cg_check_laws.proofs.Clash.{Lawful, at_most_two}
 
 two : {A B C : Type 0} (f : A → B → C) {a a' : A} {b b' : B} → a ≡ a' → b ≡ b' → f a b ≡ f a' b'

@@ -8,7 +8,8 @@ use Rattle.cg_core.specs.Terms.{Tree, unit, var}
 use Rattle.cg_faults.specs.Same.{same}
 use Rattle.cg_faults.specs.declared.rule.Rule.TheVariants.{T1}
 use Rattle.cg_kinds.specs.Kinds.{kinds, both}
-use Rattle.cg_check_laws.specs.Cases.{with_body, only, node, spot, UnitFails, BoolFails, LitFails, NewFails, DroppedFails, Faults}
+use Rattle.cg_typing.specs.Samples.{node, spot}
+use Rattle.cg_check_laws.specs.Cases.{with_body, only, UnitFails, BoolFails, LitFails, NewFails, DroppedFails, Faults}
 use Rattle.cg_faults.specs.Conditions.{Condition, typed, Breaks, conditions}
 use Rattle.cg_faults.specs.Fails.{Moment, at_signature, at_node, at_end, NodeBefore, MomentBefore, Judged, JudgedBefore, root_of, FailsInSignature, FailsInFunction, FailsAt, Fails}
 use Rattle.cg_typing.specs.Library.{state}

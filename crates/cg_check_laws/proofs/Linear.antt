@@ -11,7 +11,7 @@ use Rattle.cg_core.specs.Terms.{Tree, term, Shape, var, unit, bool, lit, fun, op
 use Rattle.cg_typing.specs.Contexts.{Context, look, mark_at, push, first_side, second_side, first, second, among, drops, shares, Fits, Splits, Drops, DropsBut}
 use Rattle.cg_typing.specs.Rules.{Derives, DerivesFields}
 use Rattle.cg_typing.specs.Trees.{marks_of, first_marks}
-use Rattle.cg_check_laws.specs.Uses.{InTurn, InView, Uses, UsesFields, LinearVariablesAreUsedOnce}
+use Rattle.cg_check_def.specs.Uses.{InTurn, InView, Uses, UsesFields, LinearVariablesAreUsedOnce}
 use Rattle.cg_check_laws.proofs.Basics.{apart, look_first, look_second, length_first, length_second, length_push, look_old, look_within}
 
 module _ (vars : List Kinds) where

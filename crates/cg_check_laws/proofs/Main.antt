@@ -8,14 +8,14 @@ use Rattle.cg_base.specs.Types.{Tau, arrow}
 use Rattle.cg_core.specs.Derivations.{Derivation}
 use Rattle.cg_core.specs.Kernels.{Function, Body}
 use Rattle.cg_core.specs.Terms.{Tree, term, Note, erased}
-use Rattle.cg_lawful.specs.Lawful.{IsLawfulFunction, IsLawfulBody}
+use Rattle.cg_core_def.specs.Lawful.{IsLawfulFunction, IsLawfulBody}
 use Rattle.cg_typing.specs.Contexts.{look, drops}
 use Rattle.cg_typing.specs.Accepted.{kinds_of_vars, IsTypedMaybe, IsAcceptedFunction}
 use Rattle.cg_faults.specs.Events.{nowhere, scope_end, events, body_events, function_events, RulesHold}
-use Rattle.cg_check_laws.specs.Kept.{body_core, body_tree, function_core, function_tree}
+use Rattle.cg_check_def.specs.Kept.{body_core, body_tree, function_core, function_tree}
 use Rattle.cg_typing.specs.Kept.{IsKeptMaybe, IsKept, AreKept}
 use Rattle.cg_check_laws.specs.Laws.{BodiesAreJudgedExactly, KernelsAreJudgedExactly, OccurrenceMarksServe, OneCore, NormalFormsAreKept}
-use Rattle.cg_check_laws.specs.NormalForm.{core, tree}
+use Rattle.cg_check_def.specs.NormalForm.{core, tree}
 use Rattle.cg_faults.specs.Occurrences.{touched, used, sightings}
 use Rattle.cg_typing.specs.Parts.{is_arrow, taken_by, given_by}
 use Rattle.cg_faults.specs.Plain.{plain_at}

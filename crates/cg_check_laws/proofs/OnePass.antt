@@ -9,16 +9,16 @@ use Rattle.cg_base.specs.Types.{Tau, part, fields}
 use Rattle.cg_core.specs.Kernels.{Function, Body}
 use Rattle.cg_core.specs.Terms.{Tree, term, Shape, var, unit, bool, lit, fun, op, app, lets, let_bang, if_else, con, case_of, esac, struct, member, take_field, put, cast, annot, none, more, Named, end, field}
 use Rattle.cg_faults.specs.declared.rule.Rule.TheVariants.{T1, T4, T14}
-use Rattle.cg_lawful.specs.Lawful.{AreLawfulFields, IsLawfulFunction, IsLawfulBody}
+use Rattle.cg_core_def.specs.Lawful.{AreLawfulFields, IsLawfulFunction, IsLawfulBody}
 use Rattle.cg_typing.specs.Accepted.{kinds_of_vars}
 use Rattle.cg_faults.specs.Events.{Before, after, nowhere, next_direction, later_directions, field_directions, events, events_shape, field_events, scope_end, body_events, function_events, kernel_events}
-use Rattle.cg_check_laws.specs.Kept.{body_kept, function_kept}
+use Rattle.cg_check_def.specs.Kept.{body_kept, function_kept}
 use Rattle.cg_check_laws.specs.Laws.{PassAnswersTheFirstFault}
-use Rattle.cg_check_laws.specs.NormalForm.{core, core_fields}
+use Rattle.cg_check_def.specs.NormalForm.{core, core_fields}
 use Rattle.cg_faults.specs.Occurrences.{touched_fields, used_fields, sightings_fields, touched, used, sightings}
 use Rattle.cg_typing.specs.Parts.{is_arrow, taken_by, given_by, has_word_arrays}
-use Rattle.cg_check_laws.specs.Pass.{need, check, check_shape, check_fields, check_body, check_function, check_all}
-use Rattle.cg_uses.specs.Uses.{both, mark, flag_at}
+use Rattle.cg_check_def.specs.Pass.{need, check, check_shape, check_fields, check_body, check_function, check_all}
+use Rattle.cg_check_uses.specs.Uses.{both, mark, flag_at}
 use Rattle.cg_faults.specs.Plain.{plain_in, plain_parts, is_made_of}
 use Rattle.cg_check_laws.proofs.Clash.{at_most_two, at_least_one}
 use Rattle.cg_check_laws.proofs.Own.{use_fields, own_strings, own_trees, value, parts_in, field_values}

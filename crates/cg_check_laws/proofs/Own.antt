@@ -13,11 +13,11 @@ use Rattle.cg_core.specs.Terms.{Tree, term, Shape, var, unit, bool, lit, fun, op
 use Rattle.cg_faults.specs.Events.{next_direction, later_directions}
 use Rattle.cg_faults.specs.Occurrences.{touched_fields, used_fields, sightings_fields}
 use Rattle.cg_faults.specs.Plain.{plain_in}
-use Rattle.cg_check_laws.specs.NormalForm.{core, core_fields}
-use Rattle.cg_check_laws.specs.Pass.{is_end, Got, GotFields}
-use Rattle.cg_uses.specs.Marks.{marks_of_uses, marks_seen, settled, kept_new, kept_seen, kept_beside, one_part, two_parts, three_parts}
-use Rattle.cg_uses.specs.Uses.{use_of, table, join, seen_places, last, front}
-use Rattle.cg_faults.specs.declared.uses.Use.{Use}
+use Rattle.cg_check_def.specs.NormalForm.{core, core_fields}
+use Rattle.cg_check_def.specs.Pass.{is_end, Got, GotFields}
+use Rattle.cg_check_uses.specs.Marks.{marks_of_uses, marks_seen, settled, kept_new, kept_seen, kept_beside, one_part, two_parts, three_parts}
+use Rattle.cg_check_uses.specs.Uses.{use_of, table, join, seen_places, last, front}
+use Rattle.cg_check_uses.specs.declared.entry.Use.{Use}
 use Rattle.cg_check_laws.proofs.PassSteps.{first_bad, uses}
 
 -- what fields do with each variable

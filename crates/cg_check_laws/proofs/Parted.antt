@@ -8,7 +8,7 @@ use Rattle.cg_core.specs.declared.term.Seen.{Seen as Observer}
 use Rattle.cg_kinds.specs.Kinds.{bang}
 use Rattle.cg_kinds.proofs.Laws.{bang_free}
 use Rattle.cg_typing.specs.Contexts.{Context, look, mark_at, push, first_side, second_side, first, second, among, drops, shares, Fits, Splits, Drops, DropsBut}
-use Rattle.cg_check_laws.specs.NormalForm.{pick, marks}
+use Rattle.cg_check_def.specs.NormalForm.{pick, marks}
 use Rattle.cg_faults.specs.Plain.{plain_at, observed}
 use Rattle.cg_check_laws.proofs.Basics.{or_else, below_suc, below_or_not, look_first, look_second, length_first, length_second, length_push, look_old, look_new, at_old, at_new, look_past, mark_marks, length_marks, at_banged, length_banged}
 

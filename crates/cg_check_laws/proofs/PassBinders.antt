@@ -16,8 +16,8 @@ use Rattle.cg_typing.specs.Contexts.{push, among, shares}
 use Rattle.cg_faults.specs.Events.{Event, Before, after, after_seen, upto, observer_events, scope_end, branch_events, events}
 use Rattle.cg_faults.specs.Occurrences.{touched, used, sightings}
 use Rattle.cg_typing.specs.Parts.{is_arrow, is_read_only, is_there, is_left, may_be_put_over, taken_by, field_in, alternative_in, held, with_part}
-use Rattle.cg_check_laws.specs.Pass.{Out, need, Got, leave, observers_test, branches_test, check}
-use Rattle.cg_uses.specs.Uses.{use_of, both, join, join_seen, mark, mark_but, seen_at, seen_places, both_seen, last, front, table}
+use Rattle.cg_check_def.specs.Pass.{Out, need, Got, leave, observers_test, branches_test, check}
+use Rattle.cg_check_uses.specs.Uses.{use_of, both, join, join_seen, mark, mark_but, seen_at, seen_places, both_seen, last, front, table}
 use Rattle.cg_faults.specs.Plain.{plain, plain_in, plain_at, observed}
 use Rattle.cg_typing.specs.Rules.{note_at, second_branch}
 use Rattle.cg_check_laws.proofs.Basics.{length_push, length_banged}

@@ -19,11 +19,11 @@ use Rattle.cg_typing.specs.Functions.{Asked, these, a_cell, an_element, nothing,
 use Rattle.cg_faults.specs.Occurrences.{touched, used, Sighting, sightings}
 use Rattle.cg_typing.specs.Operators.{Sort, arithmetic, equality, order, logic, sort_of, takes, gives, operand}
 use Rattle.cg_typing.specs.Parts.{is_variant, is_there, is_left, is_last, field_in, alternative_in, held, has_word_arrays}
-use Rattle.cg_check_laws.specs.NormalForm.{operand_type, core, core_shape}
-use Rattle.cg_check_laws.specs.Pass.{Out, need, meet, made, Got, Way, unary, binary, arguments, asked_test, check, check_shape}
-use Rattle.cg_uses.specs.Marks.{marks_of_uses, one_part, two_parts}
-use Rattle.cg_uses.specs.Uses.{use_of, both, join, mark}
-use Rattle.cg_faults.specs.declared.uses.Use.{Use}
+use Rattle.cg_check_def.specs.NormalForm.{operand_type, core, core_shape}
+use Rattle.cg_check_def.specs.Pass.{Out, need, meet, made, Got, Way, unary, binary, arguments, asked_test, check, check_shape}
+use Rattle.cg_check_uses.specs.Marks.{marks_of_uses, one_part, two_parts}
+use Rattle.cg_check_uses.specs.Uses.{use_of, both, join, mark}
+use Rattle.cg_check_uses.specs.declared.entry.Use.{Use}
 use Rattle.cg_faults.specs.Plain.{plain, plain_in, plain_at}
 use Rattle.cg_typing.specs.Rules.{is_literal}
 use Rattle.cg_check_laws.proofs.Basics.{or_none}

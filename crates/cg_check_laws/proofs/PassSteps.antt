@@ -12,9 +12,9 @@ use Rattle.cg_faults.specs.Same.{same}
 use Rattle.cg_typing.specs.Contexts.{push, among, drops}
 use Rattle.cg_faults.specs.Events.{Event, event, judged, Before, after, after_seen, upto, meets, scope_end, branch_events, first_failing}
 use Rattle.cg_faults.specs.Occurrences.{touched, used, Sighting, sightings, sightings_among}
-use Rattle.cg_check_laws.specs.Pass.{Out, bind, test, need, meet, made, none_bad, leave, branches_test, verdict}
-use Rattle.cg_uses.specs.Uses.{use_of, first_of, both, table, join, join_seen, mark, mark_but, seen_at, is_seen, seen_places, both_seen, flag_at, last, front}
-use Rattle.cg_faults.specs.declared.uses.Use.{Use}
+use Rattle.cg_check_def.specs.Pass.{Out, bind, test, need, meet, made, none_bad, leave, branches_test, verdict}
+use Rattle.cg_check_uses.specs.Uses.{use_of, first_of, both, table, join, join_seen, mark, mark_but, seen_at, is_seen, seen_places, both_seen, flag_at, last, front}
+use Rattle.cg_check_uses.specs.declared.entry.Use.{Use}
 use Rattle.cg_faults.specs.Rule.{Test}
 use Rattle.cg_check_laws.proofs.Basics.{bool_is, length_push, below_suc}
 use Rattle.cg_check_laws.proofs.SameTypes.{same_is}

@@ -6,9 +6,9 @@ use Rattle.cg_core.specs.declared.derivation.Mark.{Mark}
 use Rattle.cg_core.specs.declared.derivation.Mark.TheVariants.{Right}
 use Rattle.cg_core.specs.Derivations as trees
 use Rattle.cg_core.specs.Derivations.{Derivation, Derivations, derivation}
-use Rattle.cg_uses.specs.Marks.{keep_all, settle, settle_behind, settled, raised, kept_beside, kept_seen, kept_new}
-use Rattle.cg_uses.specs.Uses.{table, pairs, flag_at, is_seen}
-use Rattle.cg_faults.specs.declared.uses.Use.{Use}
+use Rattle.cg_check_uses.specs.Marks.{keep_all, settle, settle_behind, settled, raised, kept_beside, kept_seen, kept_new}
+use Rattle.cg_check_uses.specs.Uses.{table, pairs, flag_at, is_seen}
+use Rattle.cg_check_uses.specs.declared.entry.Use.{Use}
 use Rattle.cg_check_laws.proofs.Basics.{bool_is}
 
 -- one position is another, which computes

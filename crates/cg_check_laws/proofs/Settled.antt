@@ -18,9 +18,9 @@ use Rattle.cg_faults.specs.Plain.{plain, observed}
 use Rattle.cg_typing.specs.Contexts.{Context, push, first, second, among}
 use Rattle.cg_typing.specs.Parts.{field_in, alternative_in, held, with_part}
 use Rattle.cg_typing.specs.Trees.{one, two, three}
-use Rattle.cg_check_laws.specs.NormalForm.{marks_between, marks_observed, marks_before_branches, marks_before_fields, tree, tree_shape, field_trees, field_marks}
-use Rattle.cg_uses.specs.Marks.{marks_of_uses, marks_seen, settled, kept_new, kept_seen, kept_beside, two_parts}
-use Rattle.cg_uses.specs.Uses.{both, join, seen_at, is_seen, seen_places, last, front}
+use Rattle.cg_check_def.specs.NormalForm.{marks_between, marks_observed, marks_before_branches, marks_before_fields, tree, tree_shape, field_trees, field_marks}
+use Rattle.cg_check_uses.specs.Marks.{marks_of_uses, marks_seen, settled, kept_new, kept_seen, kept_beside, two_parts}
+use Rattle.cg_check_uses.specs.Uses.{both, join, seen_at, is_seen, seen_places, last, front}
 use Rattle.cg_check_laws.proofs.Basics.{or_none}
 use Rattle.cg_check_laws.proofs.Own.{own, own_shape, own_strings, own_trees, use_fields, field_uses}
 use Rattle.cg_check_laws.proofs.PassSteps.{use_in, uses, seen_among, join_table, last_table, front_table}

@@ -7,7 +7,7 @@ use Rattle.cg_base.specs.Types as types
 use Rattle.cg_base.specs.Types.{Tau, fields}
 use Rattle.cg_core.specs.Kernels.{Function}
 use Rattle.cg_core.specs.Terms.{Tree, term, Shape, var, unit, bool, lit, fun, op, app, lets, let_bang, if_else, con, case_of, esac, struct, member, take_field, put, cast, annot, none, more, Named, end, field}
-use Rattle.cg_lawful.specs.Lawful.{AreSome, field_names}
+use Rattle.cg_core_def.specs.Lawful.{AreSome, field_names}
 use Rattle.cg_check_laws.proofs.Basics.{hold_left}
 use Rattle.cg_check_laws.proofs.Clash.{at_most_two, at_least_one}
 use Rattle.cg_check_laws.proofs.SoundBinders.{sound_app, sound_put, sound_let, sound_take, sound_let_bang}

@@ -10,7 +10,7 @@ use Rattle.cg_core.specs.Terms.{Tree, term, app, lets, let_bang, take_field, put
 use Rattle.cg_kinds.specs.Kinds.{bang}
 use Rattle.cg_typing.specs.Contexts.{Context, push, first, second, among, drops}
 use Rattle.cg_faults.specs.Events.{Event, Before, after, after_seen, upto, observer_events, scope_end, events, RulesHold}
-use Rattle.cg_check_laws.specs.NormalForm.{core, tree, marks}
+use Rattle.cg_check_def.specs.NormalForm.{core, tree, marks}
 use Rattle.cg_faults.specs.Occurrences.{touched, used, sightings, sightings_among}
 use Rattle.cg_typing.specs.Parts.{is_arrow, taken_by, given_by, field_in, held, with_part}
 use Rattle.cg_faults.specs.Plain.{plain, plain_at, observed}

@@ -10,7 +10,7 @@ use Rattle.cg_core.specs.Terms.{Tree, term, if_else, case_of}
 use Rattle.cg_kinds.specs.Kinds.{kinds}
 use Rattle.cg_typing.specs.Contexts.{Context, look, push, first, second, drops}
 use Rattle.cg_faults.specs.Events.{Event, Before, after, upto, scope_end, branch_events, events, RulesHold}
-use Rattle.cg_check_laws.specs.NormalForm.{core, tree, marks}
+use Rattle.cg_check_def.specs.NormalForm.{core, tree, marks}
 use Rattle.cg_faults.specs.Occurrences.{touched, used, sightings}
 use Rattle.cg_typing.specs.Parts.{alternative_in, held, with_part}
 use Rattle.cg_faults.specs.Plain.{plain, plain_in, plain_at}

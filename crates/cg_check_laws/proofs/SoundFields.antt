@@ -8,10 +8,10 @@ use Rattle.cg_base.specs.Types as types
 use Rattle.cg_base.specs.Types.{Tau, fields, Parts, part}
 use Rattle.cg_core.specs.Kernels.{Function}
 use Rattle.cg_core.specs.Terms.{Tree, term, Named, end, field}
-use Rattle.cg_lawful.specs.Lawful.{AreLawfulFields}
+use Rattle.cg_core_def.specs.Lawful.{AreLawfulFields}
 use Rattle.cg_typing.specs.Contexts.{Context, look, first, second, drops}
 use Rattle.cg_faults.specs.Events.{Event, Before, after, part_directions, next_direction, later_directions, events, field_events, RulesHold}
-use Rattle.cg_check_laws.specs.NormalForm.{core, core_fields, tree, marks_before_fields, field_trees, field_marks}
+use Rattle.cg_check_def.specs.NormalForm.{core, core_fields, tree, marks_before_fields, field_trees, field_marks}
 use Rattle.cg_faults.specs.Occurrences.{touched, touched_fields, sightings, sightings_fields}
 use Rattle.cg_typing.specs.Operators.{along}
 use Rattle.cg_faults.specs.Plain.{plain, plain_in, plain_at, plain_parts, are_fields}

@@ -8,11 +8,11 @@ use Rattle.cg_base.specs.declared.place.Place.{Place}
 use Rattle.cg_base.specs.Types.{Tau, word}
 use Rattle.cg_core.specs.Kernels.{Function}
 use Rattle.cg_core.specs.Terms.{Tree, term, Shape, var, unit, bool, lit, fun, Arg}
-use Rattle.cg_lawful.specs.Lawful.{Takes}
+use Rattle.cg_core_def.specs.Lawful.{Takes}
 use Rattle.cg_typing.specs.Contexts.{Context, look, drops}
 use Rattle.cg_faults.specs.Events.{Event, Before, meets, argument_events, asked_event, events, events_shape, RulesHold}
 use Rattle.cg_typing.specs.Functions.{fun_type, Asked, these, a_cell, an_element, nothing, asked_by, next_asked, later_asked, meets_asked, are_good_arguments}
-use Rattle.cg_check_laws.specs.NormalForm.{core, tree}
+use Rattle.cg_check_def.specs.NormalForm.{core, tree}
 use Rattle.cg_faults.specs.Occurrences.{touched, sightings}
 use Rattle.cg_typing.specs.Parts.{in_range, has_word_arrays}
 use Rattle.cg_faults.specs.Plain.{plain, plain_in, plain_at, mentioned}

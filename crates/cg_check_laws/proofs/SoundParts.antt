@@ -10,7 +10,7 @@ use Rattle.cg_core.specs.Kernels.{Function}
 use Rattle.cg_core.specs.Terms.{Tree, term, var, unit, bool, lit, fun, op, app, lets, let_bang, if_else, con, case_of, esac, struct, member, take_field, put, cast, annot, none, more, Arg}
 use Rattle.cg_typing.specs.Contexts.{Context, look, first, second}
 use Rattle.cg_faults.specs.Events.{Event, Before, after, meets, binary_events, guided, unary_events, events, RulesHold}
-use Rattle.cg_check_laws.specs.NormalForm.{core, tree, marks, operand_type}
+use Rattle.cg_check_def.specs.NormalForm.{core, tree, marks, operand_type}
 use Rattle.cg_faults.specs.Occurrences.{touched, sightings}
 use Rattle.cg_typing.specs.Operators.{Sort, arithmetic, equality, order, logic, sort_of, takes, gives, operand}
 use Rattle.cg_typing.specs.Parts.{alternative_in, held}

@@ -26,12 +26,10 @@ use Rattle.cg_faults.specs.Fails.{Fails}
 use Rattle.cg_typing.specs.Library.{state, array, pair, unboxed, whole}
 use Rattle.cg_faults.specs.Rule.{Test, rule, type_limit}
 use Rattle.cg_typing.specs.Rules.{Derives}
+use Rattle.cg_typing.specs.Samples.{cell, core, named, node, spot, u8, u16, u32, written, x}
 use Rattle.cg_typing.specs.Trees.{leaf, one, two, three}
 
 -- ---- what a case says
-
-abbrev pub spot : ℕ → Place
-spot n = record { line = 1; column = n }
 
 -- the argument of a body is bound at column 0
 abbrev pub body_at : Tree Place → Option Body
@@ -49,31 +47,7 @@ pub record IsDerived (functions : List Function) (argument result : Tau) (tree :
 abbrev pub IsRefused : List Function → Tau → Tau → Tree Place → Rule → ℕ → Type 0
 IsRefused functions argument result body r column = first_fault functions argument result body ≡ Some (rule r, spot column)
 
--- ---- words for terms
-
--- a node of a kernel term, and of a core
-abbrev pub node : ℕ → Shape Place → Tree Place
-node n shape = term (spot n) shape
-
-abbrev pub core : ℕ → Tau → Shape Note → Tree Note
-core n t shape = term (record { place = spot n; ty = t }) shape
-
-abbrev pub named : ℕ → List ℕ → At
-named n name = record { place = spot n; name = name }
-
-abbrev pub written : ℕ → Tau → Arg
-written n t = record { place = spot n; ty = t }
-
 -- ---- words for types and functions
-
-abbrev pub u8 : Tau
-u8 = word U8
-
-abbrev pub u16 : Tau
-u16 = word U16
-
-abbrev pub u32 : Tau
-u32 = word U32
 
 abbrev pub a : List ℕ
 a = codes "A"
@@ -81,13 +55,7 @@ a = codes "A"
 abbrev pub b : List ℕ
 b = codes "B"
 
-abbrev pub x : List ℕ
-x = codes "x"
-
--- `{x : U32}`, as it is written and as it is observed, and without its field; `#{x : U8}`
-abbrev pub cell : Tau
-cell = fields (whole x u32 types.end) W
-
+-- `{x : U32}!`, `{x : U32}` without its field, and `#{x : U8}`
 abbrev pub seen_cell : Tau
 seen_cell = fields (whole x u32 types.end) R
 

@@ -7,14 +7,14 @@ use Rattle.cg_base.specs.Types.{Tau}
 use Rattle.cg_core.specs.Derivations.{Derivation}
 use Rattle.cg_core.specs.Kernels.{Function, Body}
 use Rattle.cg_core.specs.Terms.{Tree, Note, erased}
-use Rattle.cg_lawful.specs.Lawful.{IsLawfulTerm, IsLawfulKernel}
+use Rattle.cg_core_def.specs.Lawful.{IsLawfulTerm, IsLawfulKernel}
 use Rattle.cg_typing.specs.Accepted.{IsTypedBody, IsAcceptedKernel}
 use Rattle.cg_faults.specs.Events.{RulesHold, LimitsHold, body_events, kernel_events, first_failing}
 use Rattle.cg_faults.specs.Fails.{Fails}
-use Rattle.cg_check_laws.specs.Kept.{function_core, function_tree, function_kept}
+use Rattle.cg_check_def.specs.Kept.{function_core, function_tree, function_kept}
 use Rattle.cg_typing.specs.Kept.{AreKept}
-use Rattle.cg_check_laws.specs.NormalForm.{tree}
-use Rattle.cg_check_laws.specs.Pass.{check_kernel, verdict}
+use Rattle.cg_check_def.specs.NormalForm.{tree}
+use Rattle.cg_check_def.specs.Pass.{check_kernel, verdict}
 use Rattle.cg_faults.specs.Rule.{Test}
 use Rattle.cg_typing.specs.Rules.{Derives}
 

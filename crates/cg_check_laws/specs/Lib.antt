@@ -1,6 +1,2 @@
 pub mod Cases
-pub mod Kept
 pub mod Laws
-pub mod NormalForm
-pub mod Pass
-pub mod Uses

@@ -1,6 +1,6 @@
 // The laws of typing, and cases of the rows: for each form a body that is derived, and one that is refused.
 ghost use Rattle.cg_check_laws.specs.Cases.{Leaves, Bindings, Branches, Records, TypeTooLarge, SightedRefused, Faults};
-ghost use Rattle.cg_check_laws.specs.Uses.{LinearVariablesAreUsedOnce};
+ghost use Rattle.cg_check_def.specs.Uses.{LinearVariablesAreUsedOnce};
 ghost use Rattle.cg_check_laws.specs.Laws.{BodiesAreJudgedExactly, KernelsAreJudgedExactly, OccurrenceMarksServe, OneCore, AcceptedWithinLimits, OneFault, NormalFormsAreKept, PassAnswersTheFirstFault};
 
 /// Variables, `()`, `True`, numbers and functions: shared twice, of another type, out of range, with a bad type argument.

@@ -4,18 +4,18 @@ use Rattle.std.proofs.lemmas.List.{drop-append-le, length-drop, take-append-le}
 use Rattle.std.proofs.lemmas.List.Elements.{All-nil}
 use Rattle.std.specs.List.{All}
 use Rattle.std.specs.Prelude.{if◌then◌else◌, replicate, slice_get, Result, Ok, Err, IfOk, IfErr}
-use Rattle.cg_cbuiltins.specs.Called.{state_of}
-use Rattle.cg_cbuiltins.specs.declared.changes.Changes.{Changes}
-use Rattle.cg_clayout.specs.declared.kind.Kind.{Kind}
-use Rattle.cg_clayout.specs.Kinds.{layout_of}
-use Rattle.cg_cresolve.specs.Lines.{IsAt, linked}
-use Rattle.cg_cresolve.specs.Resolutions.{IsFirst, IsHead, Resolution, blocks_in}
-use Rattle.cg_cresolve.specs.Scopes.{declared_as, total}
-use Rattle.cg_crun.specs.Layouts.{Layout, layout, size}
-use Rattle.cg_crun.specs.Operands as operands
-use Rattle.cg_crun.specs.Operands.{Value}
-use Rattle.cg_crun.specs.Outcomes.{Judged, ok, no, on, State, Outcome, IsCalm, lift, stuck, done, needs}
-use Rattle.cg_crun.specs.Runs.{Flow, Linked, answered, crun, fill, filled, find, linked_to, returned, run_block}
+use Rattle.cg_cmachine_builtins.specs.Called.{state_of}
+use Rattle.cg_cmachine_builtins.specs.declared.changes.Changes.{Changes}
+use Rattle.cg_cmachine_layout.specs.declared.kind.Kind.{Kind}
+use Rattle.cg_cmachine_layout.specs.Kinds.{layout_of}
+use Rattle.cg_cmachine_resolve.specs.Lines.{IsAt, linked}
+use Rattle.cg_cmachine_resolve.specs.Resolutions.{IsFirst, IsHead, Resolution, blocks_in}
+use Rattle.cg_cmachine_resolve.specs.Scopes.{declared_as, total}
+use Rattle.cg_cmachine_def.specs.Layouts.{Layout, layout, size}
+use Rattle.cg_cmachine_def.specs.Operands as operands
+use Rattle.cg_cmachine_def.specs.Operands.{Value}
+use Rattle.cg_cmachine_def.specs.Outcomes.{Judged, ok, no, on, State, Outcome, IsCalm, lift, stuck, done, needs}
+use Rattle.cg_cmachine_def.specs.Runs.{Flow, Linked, answered, crun, fill, filled, find, linked_to, returned, run_block}
 use Rattle.cg_ctree.specs.declared.tree.CBody.{CBody}
 use Rattle.cg_ctree.specs.declared.tree.CDecl.{CDecl}
 use Rattle.cg_ctree.specs.declared.tree.CFun.{CFun}
@@ -26,8 +26,8 @@ use Rattle.cg_heap.specs.declared.cell.Scalar.{Scalar}
 use Rattle.cg_heap.specs.declared.cell.Scalar.TheVariants.{Unset}
 use Rattle.cg_heap.specs.Stored.{Stored}
 use Rattle.cg_heap.specs.Calls.{Answer}
-use Rattle.cg_cvalues.specs.declared.fault.RunFault.{RunFault}
-use Rattle.cg_cvalues.specs.declared.fault.RunFault.TheVariants.{Stuck, Budget, Memory}
+use Rattle.cg_cmachine_values.specs.declared.fault.RunFault.{RunFault}
+use Rattle.cg_cmachine_values.specs.declared.fault.RunFault.TheVariants.{Stuck, Budget, Memory}
 use Rattle.cg_cmachine.specs.Abstracts.{Answers}
 use Rattle.cg_cmachine.specs.Answering.{Tells, started, sum_sizes}
 use Rattle.cg_cmachine.specs.Answers.{Runs}

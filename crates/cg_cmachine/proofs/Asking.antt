@@ -4,27 +4,27 @@ use Rattle.std.proofs.lemmas.List.{take_all}
 use Rattle.std.specs.List.{flat_map}
 use Rattle.std.specs.Prelude.{slice_get}
 use Rattle.std.specs.declared.option.Option.{Option}
-use Rattle.cg_cbuiltins.specs.Called as called
-use Rattle.cg_cbuiltins.specs.Called.{state_of}
-use Rattle.cg_cbuiltins.specs.declared.changes.Changes.{Changes}
-use Rattle.cg_clayout.specs.declared.kind.Kind.{Kind}
-use Rattle.cg_clayout.specs.Kinds.{layout_of}
-use Rattle.cg_cresolve.specs.Lines.{IsAt}
-use Rattle.cg_cresolve.specs.Resolutions.{IsHead, Resolution, next}
-use Rattle.cg_crun.specs.Layouts.{Layout, cell, group, layout, pointer, same_layout, size}
-use Rattle.cg_crun.specs.Operands as operands
-use Rattle.cg_crun.specs.Operands.{Value, literal, typed, give, read, scalars_of}
-use Rattle.cg_crun.specs.Outcomes.{Judged, ok, no, on, State, Outcome, IsCalm, done, stuck, needs, astray, bind, lift}
-use Rattle.cg_crun.specs.Runs.{Flow, agree, answered, has_size, onward, state_behind}
+use Rattle.cg_cmachine_builtins.specs.Called as called
+use Rattle.cg_cmachine_builtins.specs.Called.{state_of}
+use Rattle.cg_cmachine_builtins.specs.declared.changes.Changes.{Changes}
+use Rattle.cg_cmachine_layout.specs.declared.kind.Kind.{Kind}
+use Rattle.cg_cmachine_layout.specs.Kinds.{layout_of}
+use Rattle.cg_cmachine_resolve.specs.Lines.{IsAt}
+use Rattle.cg_cmachine_resolve.specs.Resolutions.{IsHead, Resolution, next}
+use Rattle.cg_cmachine_def.specs.Layouts.{Layout, cell, group, layout, pointer, same_layout, size}
+use Rattle.cg_cmachine_def.specs.Operands as operands
+use Rattle.cg_cmachine_def.specs.Operands.{Value, literal, typed, give, read, scalars_of}
+use Rattle.cg_cmachine_def.specs.Outcomes.{Judged, ok, no, on, State, Outcome, IsCalm, done, stuck, needs, astray, bind, lift}
+use Rattle.cg_cmachine_def.specs.Runs.{Flow, agree, answered, has_size, onward, state_behind}
 use Rattle.cg_ctree.specs.declared.tree.CDecl.{CDecl}
 use Rattle.cg_ctree.specs.declared.tree.CFun.{CFun}
 use Rattle.cg_ctree.specs.declared.tree.CStruct.{CStruct}
 use Rattle.cg_ctree.specs.declared.why.Why.{Why}
 use Rattle.cg_ctree.specs.declared.why.Why.TheVariants.{KindsDiffer}
-use Rattle.cg_cvalues.proofs.Giving.{give_typed}
-use Rattle.cg_cvalues.specs.Values.{Tries, slots_from}
-use Rattle.cg_cvalues.specs.declared.fault.RunFault.{RunFault}
-use Rattle.cg_cvalues.specs.declared.fault.RunFault.TheVariants.{Stuck, Budget, Memory}
+use Rattle.cg_cmachine_values.proofs.Giving.{give_typed}
+use Rattle.cg_cmachine_values.specs.Values.{Tries, slots_from}
+use Rattle.cg_cmachine_values.specs.declared.fault.RunFault.{RunFault}
+use Rattle.cg_cmachine_values.specs.declared.fault.RunFault.TheVariants.{Stuck, Budget, Memory}
 use Rattle.std.specs.Prelude.{Err, IfOk, Ok, Result, ◌*◌}
 use Rattle.cg_cmachine.specs.declared.machine.Machine.{Machine}
 use Rattle.cg_cmachine.specs.declared.machine.Next.{Next}

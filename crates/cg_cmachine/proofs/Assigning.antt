@@ -2,8 +2,8 @@
 use Rattle.std.proofs.Common.{◌≡◌, ℕ, ◌<◌, true, nat_eq, Some, None, List, map, length, refl, sym, ap, ◌∙◌, subst}
 use Rattle.std.specs.Option.{option_map}
 use Rattle.cg_base.specs.declared.kind.Word.TheVariants.{U8}
-use Rattle.cg_cbuiltins.specs.Called.{built_in_of, into_place, state_of}
-use Rattle.cg_clayout.specs.Kinds.{shape_layout}
+use Rattle.cg_cmachine_builtins.specs.Called.{built_in_of, into_place, state_of}
+use Rattle.cg_cmachine_layout.specs.Kinds.{shape_layout}
 use Rattle.cg_cmachine.proofs.Layers.{found_at}
 use Rattle.cg_cmachine.proofs.Within.{right_within}
 use Rattle.cg_cmachine.proofs.Whole.{WholeIf, WholeGiven, called_whole, new_whole, plain_whole}
@@ -11,23 +11,23 @@ use Rattle.cg_cmachine.specs.declared.machine.Machine.{Machine}
 use Rattle.cg_cmachine.specs.Flat.{IsRightWithin, plain_at, put_at, word_at}
 use Rattle.cg_cmachine.specs.Machine.{Asked, abstract_call, by_names, calls, entered, framed, function_at, landing, program, scope_at}
 use Rattle.cg_cmachine.specs.Statements.{assigns, called_aside, called_to}
-use Rattle.cg_cresolve.specs.declared.line.Callee.{Callee}
-use Rattle.cg_cresolve.specs.declared.line.Callee.TheVariants as callee
-use Rattle.cg_cresolve.specs.declared.line.Right.{Right}
-use Rattle.cg_cresolve.specs.declared.line.Right.TheVariants as right
-use Rattle.cg_cresolve.specs.Lines.{Calls as IsCalled, IsRight, IsWhole, Leads, Means}
-use Rattle.cg_cresolve.specs.Resolutions.{Resolution, lines_at}
-use Rattle.cg_cresolve.specs.Scopes.{Scope, frame_of, total}
-use Rattle.cg_crun.proofs.Depth.{calls_fixed}
-use Rattle.cg_crun.specs.BuiltIns.{Given, called, make_struct}
-use Rattle.cg_crun.specs.Layouts.{pointed, size}
-use Rattle.cg_crun.specs.Operands as operands
-use Rattle.cg_crun.specs.Operands.{Value, address_in, word_in}
-use Rattle.cg_crun.specs.Operations.{computed, converted, flag, flipped, word_value}
-use Rattle.cg_crun.specs.Outcomes.{Judged, ok, no, on, State, Outcome, done, stuck, needs, astray, bind, lift}
-use Rattle.cg_crun.specs.Runs as runs
-use Rattle.cg_crun.specs.Runs.{Linked, goes, assigned, assigned_call, assigned_given, call_abstract, dropped_call, find, judged_word, plain, run_assign, run_function}
-use Rattle.cg_crun.specs.Targets.{Written}
+use Rattle.cg_cmachine_resolve.specs.declared.line.Callee.{Callee}
+use Rattle.cg_cmachine_resolve.specs.declared.line.Callee.TheVariants as callee
+use Rattle.cg_cmachine_resolve.specs.declared.line.Right.{Right}
+use Rattle.cg_cmachine_resolve.specs.declared.line.Right.TheVariants as right
+use Rattle.cg_cmachine_resolve.specs.Lines.{Calls as IsCalled, IsRight, IsWhole, Leads, Means}
+use Rattle.cg_cmachine_resolve.specs.Resolutions.{Resolution, lines_at}
+use Rattle.cg_cmachine_resolve.specs.Scopes.{Scope, frame_of, total}
+use Rattle.cg_cmachine_laws.proofs.Depth.{calls_fixed}
+use Rattle.cg_cmachine_def.specs.BuiltIns.{Given, called, make_struct}
+use Rattle.cg_cmachine_def.specs.Layouts.{pointed, size}
+use Rattle.cg_cmachine_def.specs.Operands as operands
+use Rattle.cg_cmachine_def.specs.Operands.{Value, address_in, word_in}
+use Rattle.cg_cmachine_def.specs.Operations.{computed, converted, flag, flipped, word_value}
+use Rattle.cg_cmachine_def.specs.Outcomes.{Judged, ok, no, on, State, Outcome, done, stuck, needs, astray, bind, lift}
+use Rattle.cg_cmachine_def.specs.Runs as runs
+use Rattle.cg_cmachine_def.specs.Runs.{Linked, goes, assigned, assigned_call, assigned_given, call_abstract, dropped_call, find, judged_word, plain, run_assign, run_function}
+use Rattle.cg_cmachine_def.specs.Targets.{Written}
 use Rattle.cg_ctree.specs.declared.tree.COpnd.{COpnd}
 use Rattle.cg_ctree.specs.declared.tree.CPath.{CPath}
 use Rattle.cg_ctree.specs.declared.tree.CRhs.{CRhs}
@@ -35,9 +35,9 @@ use Rattle.cg_ctree.specs.declared.tree.CRhs.TheVariants.{Opnd, Conv, Binary, Fl
 use Rattle.cg_ctree.specs.declared.tree.CStruct.{CStruct}
 use Rattle.cg_ctree.specs.declared.why.Why.TheVariants.{NoFunction}
 use Rattle.cg_ctree.specs.Trees.{Block, also, assign, block_of, call, function_of}
-use Rattle.cg_cvalues.specs.declared.place.Operand.{Operand}
-use Rattle.cg_cvalues.specs.declared.place.Place.{Place}
-use Rattle.cg_cvalues.specs.Values.{Changed, judged, judged_all, write_place}
+use Rattle.cg_cmachine_values.specs.declared.place.Operand.{Operand}
+use Rattle.cg_cmachine_values.specs.declared.place.Place.{Place}
+use Rattle.cg_cmachine_values.specs.Values.{Changed, judged, judged_all, write_place}
 use Rattle.cg_heap.specs.declared.cell.Scalar.{Scalar}
 use Rattle.cg_heap.specs.Stored.{Stored}
 

@@ -1,14 +1,14 @@
 -- Calls by what is called.
 use Rattle.std.proofs.Common.{◌≡◌, List, refl, arith}
 use Rattle.std.specs.Prelude.{IfOk, Err, Ok, Result}
-use Rattle.cg_cbuiltins.specs.Called.{state_of}
-use Rattle.cg_cbuiltins.specs.declared.built_in.BuiltIn.{BuiltIn}
-use Rattle.cg_cresolve.specs.declared.line.Callee.{Callee}
-use Rattle.cg_cresolve.specs.declared.line.Callee.TheVariants as callee
-use Rattle.cg_cresolve.specs.Resolutions.{Resolution}
-use Rattle.cg_crun.specs.Operands.{Value}
-use Rattle.cg_cvalues.specs.declared.fault.RunFault.{RunFault}
-use Rattle.cg_cvalues.specs.declared.place.Place.{Place}
+use Rattle.cg_cmachine_builtins.specs.Called.{state_of}
+use Rattle.cg_cmachine_builtins.specs.declared.built_in.BuiltIn.{BuiltIn}
+use Rattle.cg_cmachine_resolve.specs.declared.line.Callee.{Callee}
+use Rattle.cg_cmachine_resolve.specs.declared.line.Callee.TheVariants as callee
+use Rattle.cg_cmachine_resolve.specs.Resolutions.{Resolution}
+use Rattle.cg_cmachine_def.specs.Operands.{Value}
+use Rattle.cg_cmachine_values.specs.declared.fault.RunFault.{RunFault}
+use Rattle.cg_cmachine_values.specs.declared.place.Place.{Place}
 use Rattle.cg_heap.specs.Stored.{Stored}
 use Rattle.cg_cmachine.specs.declared.machine.Machine.{Machine}
 use Rattle.cg_cmachine.specs.declared.machine.Next.{Next}

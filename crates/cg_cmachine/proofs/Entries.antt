@@ -5,16 +5,16 @@ use Rattle.std.specs.Option.{is_some}
 use Rattle.std.specs.Prelude.{get_or, replicate, slice_get}
 use Rattle.std.specs.declared.option.Option.{Option}
 use Rattle.cg_base.specs.Words.{bits}
-use Rattle.cg_clayout.specs.declared.kind.Kind.{Kind}
-use Rattle.cg_clayout.specs.Kinds.{layout_of}
-use Rattle.cg_cresolve.specs.Lines.{IsAt, IsWhole}
-use Rattle.cg_cresolve.specs.Resolutions.{IsFirst, IsHead, Resolution, blocks_in, lines_at, next}
-use Rattle.cg_cresolve.specs.Scopes.{Scope, declared_as, frame_of as scoped, locals_of, total}
-use Rattle.cg_crun.specs.Layouts.{Layout, cell, group, layout, pointer, same_layout, size}
-use Rattle.cg_crun.specs.Operands as operands
-use Rattle.cg_crun.specs.Operands.{Value, literal, typed, give, scalars_of}
-use Rattle.cg_crun.specs.Outcomes.{Judged, ok, no, on, State, Outcome, stuck, done, bind, lift}
-use Rattle.cg_crun.specs.Runs.{Linked, enter, onward, returned, run_block, unset}
+use Rattle.cg_cmachine_layout.specs.declared.kind.Kind.{Kind}
+use Rattle.cg_cmachine_layout.specs.Kinds.{layout_of}
+use Rattle.cg_cmachine_resolve.specs.Lines.{IsAt, IsWhole}
+use Rattle.cg_cmachine_resolve.specs.Resolutions.{IsFirst, IsHead, Resolution, blocks_in, lines_at, next}
+use Rattle.cg_cmachine_resolve.specs.Scopes.{Scope, declared_as, frame_of as scoped, locals_of, total}
+use Rattle.cg_cmachine_def.specs.Layouts.{Layout, cell, group, layout, pointer, same_layout, size}
+use Rattle.cg_cmachine_def.specs.Operands as operands
+use Rattle.cg_cmachine_def.specs.Operands.{Value, literal, typed, give, scalars_of}
+use Rattle.cg_cmachine_def.specs.Outcomes.{Judged, ok, no, on, State, Outcome, stuck, done, bind, lift}
+use Rattle.cg_cmachine_def.specs.Runs.{Linked, enter, onward, returned, run_block, unset}
 use Rattle.cg_ctree.specs.declared.tree.CBody.{CBody}
 use Rattle.cg_ctree.specs.declared.tree.CDecl.{CDecl}
 use Rattle.cg_ctree.specs.declared.tree.CFun.{CFun}
@@ -22,15 +22,15 @@ use Rattle.cg_ctree.specs.declared.tree.CStruct.{CStruct}
 use Rattle.cg_ctree.specs.declared.why.Why.{Why}
 use Rattle.cg_ctree.specs.declared.why.Why.TheVariants.{KindsDiffer, NoBody, NoFunction}
 use Rattle.cg_ctree.specs.Trees.{Block, block_of}
-use Rattle.cg_cvalues.proofs.Giving.{give_typed, same_sizes, size_pointer, size_word}
-use Rattle.cg_cvalues.specs.declared.value.CValue.{CValue}
-use Rattle.cg_cvalues.specs.declared.value.CValue.TheVariants as value
-use Rattle.cg_cvalues.specs.declared.fault.RunFault.{RunFault}
-use Rattle.cg_cvalues.specs.declared.fault.RunFault.TheVariants.{Stuck, Budget, Memory}
-use Rattle.cg_cvalues.specs.Values.{Tries, value_of}
+use Rattle.cg_cmachine_values.proofs.Giving.{give_typed, same_sizes, size_pointer, size_word}
+use Rattle.cg_cmachine_values.specs.declared.value.CValue.{CValue}
+use Rattle.cg_cmachine_values.specs.declared.value.CValue.TheVariants as value
+use Rattle.cg_cmachine_values.specs.declared.fault.RunFault.{RunFault}
+use Rattle.cg_cmachine_values.specs.declared.fault.RunFault.TheVariants.{Stuck, Budget, Memory}
+use Rattle.cg_cmachine_values.specs.Values.{Tries, value_of}
 use Rattle.cg_heap.specs.Stored.{Stored}
-use Rattle.cg_cbuiltins.specs.Called.{state_of}
-use Rattle.cg_cbuiltins.specs.declared.changes.Changes.{Changes}
+use Rattle.cg_cmachine_builtins.specs.Called.{state_of}
+use Rattle.cg_cmachine_builtins.specs.declared.changes.Changes.{Changes}
 use Rattle.std.specs.Prelude.{IfErr, IfOk, Err, Ok, Result}
 use Rattle.cg_heap.specs.declared.cell.Scalar.{Scalar}
 use Rattle.cg_heap.specs.declared.cell.Scalar.TheVariants.{Address, Unset, Word}

@@ -1,30 +1,30 @@
 -- Statements, and where they end, as equations.
 use Rattle.std.proofs.Common.{◌≡◌, ℕ, List, [], ◌∷◌, ◌++◌, refl, sym, ap, ◌∙◌}
-use Rattle.cg_cbuiltins.specs.Called.{state_of}
-use Rattle.cg_cresolve.specs.declared.code.Position.{Position}
-use Rattle.cg_cresolve.specs.declared.line.Callee.{Callee}
-use Rattle.cg_cresolve.specs.declared.line.Line.{Line}
-use Rattle.cg_cresolve.specs.declared.line.Right.{Right}
-use Rattle.cg_cresolve.specs.declared.line.Right.TheVariants as right
-use Rattle.cg_cresolve.specs.Resolutions.{IsLine, Resolution, lines_at, next}
-use Rattle.cg_crun.specs.Operands as operands
-use Rattle.cg_crun.specs.Operands.{Value, typed, scalars_of}
-use Rattle.cg_crun.specs.Outcomes.{State, Outcome, done, stuck, needs, lift}
-use Rattle.cg_crun.specs.Runs.{Flow, back, goes, onward}
+use Rattle.cg_cmachine_builtins.specs.Called.{state_of}
+use Rattle.cg_cmachine_resolve.specs.declared.code.Position.{Position}
+use Rattle.cg_cmachine_resolve.specs.declared.line.Callee.{Callee}
+use Rattle.cg_cmachine_resolve.specs.declared.line.Line.{Line}
+use Rattle.cg_cmachine_resolve.specs.declared.line.Right.{Right}
+use Rattle.cg_cmachine_resolve.specs.declared.line.Right.TheVariants as right
+use Rattle.cg_cmachine_resolve.specs.Resolutions.{IsLine, Resolution, lines_at, next}
+use Rattle.cg_cmachine_def.specs.Operands as operands
+use Rattle.cg_cmachine_def.specs.Operands.{Value, typed, scalars_of}
+use Rattle.cg_cmachine_def.specs.Outcomes.{State, Outcome, done, stuck, needs, lift}
+use Rattle.cg_cmachine_def.specs.Runs.{Flow, back, goes, onward}
 use Rattle.cg_ctree.specs.declared.why.Why.TheVariants.{NoReturn}
-use Rattle.cg_cvalues.specs.declared.place.Operand.{Operand}
-use Rattle.cg_cvalues.specs.declared.place.Place.{Place}
+use Rattle.cg_cmachine_values.specs.declared.place.Operand.{Operand}
+use Rattle.cg_cmachine_values.specs.declared.place.Place.{Place}
 use Rattle.cg_heap.specs.Stored.{Stored}
 use Rattle.cg_cmachine.specs.declared.machine.Frame.{Frame}
 use Rattle.cg_cmachine.specs.declared.machine.Kont.{Kont}
 use Rattle.cg_cmachine.specs.declared.machine.Kont.TheVariants.{After, Return}
 use Rattle.cg_cmachine.specs.declared.machine.Machine.{Machine}
 use Rattle.cg_cmachine.specs.Flat.{plain_at, put_at}
-use Rattle.cg_cvalues.specs.declared.fault.RunFault.{RunFault}
-use Rattle.cg_cvalues.specs.declared.fault.RunFault.TheVariants.{Stuck, Budget, Memory}
+use Rattle.cg_cmachine_values.specs.declared.fault.RunFault.{RunFault}
+use Rattle.cg_cmachine_values.specs.declared.fault.RunFault.TheVariants.{Stuck, Budget, Memory}
 use Rattle.cg_heap.specs.declared.cell.Scalar.{Scalar}
 use Rattle.std.specs.Prelude.{Err}
-use Rattle.cg_cbuiltins.specs.declared.changes.Changes.{Changes}
+use Rattle.cg_cmachine_builtins.specs.declared.changes.Changes.{Changes}
 use Rattle.cg_cmachine.specs.Machine.{Asked, Cont, Ends, Went, IsTyped, block, by_names, lay_at, landed, on_kont, waits}
 use Rattle.cg_cmachine.specs.Statements.{assigns}
 use Rattle.cg_cmachine.proofs.Stands.{block_needs, block_none}

@@ -6,21 +6,21 @@ use Rattle.cg_cmachine.proofs.Stands.{form_here}
 use Rattle.cg_cmachine.specs.declared.machine.Machine.{Machine}
 use Rattle.cg_cmachine.specs.Flat.{put_at}
 use Rattle.cg_cmachine.specs.Machine.{Asked, IsFrame, block, by_names, calls, framed, landed_here, landing, lay_at, program, scope_at}
-use Rattle.cg_cresolve.specs.declared.code.Position.{Position}
-use Rattle.cg_cresolve.specs.declared.line.Action.{Action}
-use Rattle.cg_cresolve.specs.declared.line.Action.TheVariants as action
-use Rattle.cg_cresolve.specs.declared.line.Line.{Line}
-use Rattle.cg_cresolve.specs.declared.line.Right.{Right}
-use Rattle.cg_cresolve.specs.Lines.{DoesForm, IsWhole}
-use Rattle.cg_cresolve.specs.Resolutions.{Resolution, IsLine, blocks_in, lines_at, next}
-use Rattle.cg_crun.specs.Operands.{Value}
-use Rattle.cg_crun.specs.Outcomes.{State, done}
-use Rattle.cg_crun.specs.Runs.{goes, run_block}
+use Rattle.cg_cmachine_resolve.specs.declared.code.Position.{Position}
+use Rattle.cg_cmachine_resolve.specs.declared.line.Action.{Action}
+use Rattle.cg_cmachine_resolve.specs.declared.line.Action.TheVariants as action
+use Rattle.cg_cmachine_resolve.specs.declared.line.Line.{Line}
+use Rattle.cg_cmachine_resolve.specs.declared.line.Right.{Right}
+use Rattle.cg_cmachine_resolve.specs.Lines.{DoesForm, IsWhole}
+use Rattle.cg_cmachine_resolve.specs.Resolutions.{Resolution, IsLine, blocks_in, lines_at, next}
+use Rattle.cg_cmachine_def.specs.Operands.{Value}
+use Rattle.cg_cmachine_def.specs.Outcomes.{State, done}
+use Rattle.cg_cmachine_def.specs.Runs.{goes, run_block}
 use Rattle.cg_ctree.specs.declared.tree.CCase.{CCase}
 use Rattle.cg_ctree.specs.declared.tree.CStmt.{CStmt, CStmt-F, out-CStmt}
 use Rattle.cg_ctree.specs.declared.tree.CStmt.TheOpen as form
 use Rattle.cg_ctree.specs.Trees.{also, block_of, to_block}
-use Rattle.cg_cvalues.specs.declared.place.Place.{Place}
+use Rattle.cg_cmachine_values.specs.declared.place.Place.{Place}
 
 -- behind the last statement, and one further
 pub block_past : (r : Resolution) (asked : Asked) (n : ℕ) (at : Position) → lines_at r at ≡ [] → block r asked n (next at) ≡ block r asked n at

@@ -3,11 +3,11 @@ use Rattle.std.proofs.Common.{◌≡◌, ℕ, ◌+◌, List, [], map, slice_get,
 use Rattle.std.proofs.lemmas.Option.{get_or_from_slice_get}
 use Rattle.std.proofs.lemmas.List.{drop_all, length-drop}
 use Rattle.cg_cmachine.specs.Machine.{scope_at}
-use Rattle.cg_cresolve.specs.declared.code.Position.{Position}
-use Rattle.cg_cresolve.specs.declared.line.Line.{Line}
-use Rattle.cg_cresolve.specs.Lines.{IsAt, Stands, Whole}
-use Rattle.cg_cresolve.specs.Resolutions.{Resolution, IsLine, blocks_in, lines_at, next}
-use Rattle.cg_cresolve.specs.Scopes.{scope_of}
+use Rattle.cg_cmachine_resolve.specs.declared.code.Position.{Position}
+use Rattle.cg_cmachine_resolve.specs.declared.line.Line.{Line}
+use Rattle.cg_cmachine_resolve.specs.Lines.{IsAt, Stands, Whole}
+use Rattle.cg_cmachine_resolve.specs.Resolutions.{Resolution, IsLine, blocks_in, lines_at, next}
+use Rattle.cg_cmachine_resolve.specs.Scopes.{scope_of}
 use Rattle.cg_ctree.specs.declared.tree.CCase.{CCase, fold_out-CCase}
 use Rattle.cg_ctree.specs.declared.tree.CFun.{CFun}
 use Rattle.cg_ctree.specs.declared.tree.CStmt.{CStmt, CStmt-F, out-CStmt, fold_out-CStmt}

@@ -1,7 +1,7 @@
 -- What resolved statements do is what the definition says.
 use Rattle.std.proofs.Common.{◌≡◌, ℕ, zero, suc, ◌<◌, Bool, true, false, cond, nat_eq, Some, List, [], ◌∷◌, map, length, slice_get, refl, sym, ap, ◌∙◌, subst}
-use Rattle.cg_cbuiltins.specs.Called.{state_of}
-use Rattle.cg_clayout.specs.Kinds.{layout_of}
+use Rattle.cg_cmachine_builtins.specs.Called.{state_of}
+use Rattle.cg_cmachine_layout.specs.Kinds.{layout_of}
 use Rattle.cg_cmachine.proofs.Assigning.{aside_is, assign_is, lifted, word_is}
 use Rattle.cg_cmachine.proofs.Layers.{case_is, form_of, stmt_is, stands_here, block_lines}
 use Rattle.cg_cmachine.proofs.Within.{does_within}
@@ -10,28 +10,28 @@ use Rattle.cg_cmachine.specs.declared.machine.Machine.{Machine}
 use Rattle.cg_cmachine.specs.Flat.{IsActionWithin, first_case, word_at}
 use Rattle.cg_cmachine.specs.Machine.{Asked, IsFrame, block, calls, framed, inner, inner_case, lay_at, program, scope_at, turned}
 use Rattle.cg_cmachine.specs.Statements.{acts}
-use Rattle.cg_cresolve.specs.declared.code.Position.{Position}
-use Rattle.cg_cresolve.specs.declared.line.Action.{Action}
-use Rattle.cg_cresolve.specs.declared.line.Action.TheVariants as action
-use Rattle.cg_cresolve.specs.declared.line.Line.{Line}
-use Rattle.cg_cresolve.specs.Lines.{AreCases, DoesForm, IsBlock, Means}
-use Rattle.cg_cresolve.specs.Resolutions.{Resolution, IsLine, blocks_in, lines_at, next}
-use Rattle.cg_cresolve.specs.Scopes.{Scope, total}
-use Rattle.cg_crun.proofs.Depth.{turns_fixed}
-use Rattle.cg_crun.specs.Layouts.{Layout}
-use Rattle.cg_crun.specs.Operands as operands
-use Rattle.cg_crun.specs.Operands.{give}
-use Rattle.cg_crun.specs.Outcomes.{Judged, ok, no, on, State, Outcome, done, needs, lift}
-use Rattle.cg_crun.specs.Runs as runs
-use Rattle.cg_crun.specs.Runs.{Linked, goes, back, onward, choose, dropped_call, run_block, run_cases, run_stmt, turns}
+use Rattle.cg_cmachine_resolve.specs.declared.code.Position.{Position}
+use Rattle.cg_cmachine_resolve.specs.declared.line.Action.{Action}
+use Rattle.cg_cmachine_resolve.specs.declared.line.Action.TheVariants as action
+use Rattle.cg_cmachine_resolve.specs.declared.line.Line.{Line}
+use Rattle.cg_cmachine_resolve.specs.Lines.{AreCases, DoesForm, IsBlock, Means}
+use Rattle.cg_cmachine_resolve.specs.Resolutions.{Resolution, IsLine, blocks_in, lines_at, next}
+use Rattle.cg_cmachine_resolve.specs.Scopes.{Scope, total}
+use Rattle.cg_cmachine_laws.proofs.Depth.{turns_fixed}
+use Rattle.cg_cmachine_def.specs.Layouts.{Layout}
+use Rattle.cg_cmachine_def.specs.Operands as operands
+use Rattle.cg_cmachine_def.specs.Operands.{give}
+use Rattle.cg_cmachine_def.specs.Outcomes.{Judged, ok, no, on, State, Outcome, done, needs, lift}
+use Rattle.cg_cmachine_def.specs.Runs as runs
+use Rattle.cg_cmachine_def.specs.Runs.{Linked, goes, back, onward, choose, dropped_call, run_block, run_cases, run_stmt, turns}
 use Rattle.cg_ctree.specs.declared.tree.CCase.{CCase}
 use Rattle.cg_ctree.specs.declared.tree.COpnd.{COpnd}
 use Rattle.cg_ctree.specs.declared.tree.CStmt.{CStmt, CStmt-F, out-CStmt}
 use Rattle.cg_ctree.specs.declared.tree.CStmt.TheOpen as form
 use Rattle.cg_ctree.specs.declared.tree.CStruct.{CStruct}
 use Rattle.cg_ctree.specs.Trees.{Stmt, also, assign, block_of, branch, call, case, case_of, return', switch, to_block, to_cases, while}
-use Rattle.cg_cvalues.specs.declared.place.Operand.{Operand}
-use Rattle.cg_cvalues.specs.Values.{judged, judged_all}
+use Rattle.cg_cmachine_values.specs.declared.place.Operand.{Operand}
+use Rattle.cg_cmachine_values.specs.Values.{judged, judged_all}
 use Rattle.cg_heap.specs.declared.cell.Scalar.{Scalar}
 use Rattle.cg_heap.specs.Stored.{Stored}
 

@@ -1,21 +1,21 @@
 -- The steps of the machine, as equations.
 use Rattle.std.proofs.Common.{◌≡◌, ℕ, zero, suc, List, [], ◌∷◌, ◌++◌, refl, sym, ap, ◌∙◌, arith, Err}
-use Rattle.cg_cbuiltins.specs.Called as called
-use Rattle.cg_cbuiltins.specs.Called.{Lands}
-use Rattle.cg_cbuiltins.specs.declared.changes.Changes.{Changes}
+use Rattle.cg_cmachine_builtins.specs.Called as called
+use Rattle.cg_cmachine_builtins.specs.Called.{Lands}
+use Rattle.cg_cmachine_builtins.specs.declared.changes.Changes.{Changes}
 use Rattle.cg_cmachine.specs.declared.machine.Kont.{Kont}
 use Rattle.cg_cmachine.specs.declared.machine.Kont.TheVariants.{After, Return}
 use Rattle.cg_cmachine.specs.declared.machine.Machine.{Machine}
 use Rattle.cg_cmachine.specs.Machine.{Asked, Cont, Went, block, on_kont, program, waits, waits_from}
-use Rattle.cg_cresolve.specs.Resolutions.{Resolution}
-use Rattle.cg_crun.specs.BuiltIns.{Given}
-use Rattle.cg_crun.specs.Operands as operands
-use Rattle.cg_crun.specs.Operands.{Value}
-use Rattle.cg_crun.specs.Outcomes.{Judged, ok, State, Outcome, done, stuck, needs, astray, bind, lift}
-use Rattle.cg_crun.specs.Runs.{Flow, choose, goes, back, onward, returned}
+use Rattle.cg_cmachine_resolve.specs.Resolutions.{Resolution}
+use Rattle.cg_cmachine_def.specs.BuiltIns.{Given}
+use Rattle.cg_cmachine_def.specs.Operands as operands
+use Rattle.cg_cmachine_def.specs.Operands.{Value}
+use Rattle.cg_cmachine_def.specs.Outcomes.{Judged, ok, State, Outcome, done, stuck, needs, astray, bind, lift}
+use Rattle.cg_cmachine_def.specs.Runs.{Flow, choose, goes, back, onward, returned}
 use Rattle.cg_ctree.specs.declared.why.Why.{Why}
-use Rattle.cg_cvalues.specs.declared.fault.RunFault.{RunFault}
-use Rattle.cg_cvalues.specs.declared.fault.RunFault.TheVariants.{Stuck, Budget, Memory}
+use Rattle.cg_cmachine_values.specs.declared.fault.RunFault.{RunFault}
+use Rattle.cg_cmachine_values.specs.declared.fault.RunFault.TheVariants.{Stuck, Budget, Memory}
 use Rattle.cg_heap.specs.declared.cell.Scalar.{Scalar}
 use Rattle.cg_heap.specs.Stored.{Stored}
 

@@ -3,18 +3,18 @@ use Rattle.std.proofs.Common.{◌≡◌, ℕ, ◌+◌, ◌*◌, ◌-◌, ◌<◌
 use Rattle.std.specs.declared.option.Option.{Option}
 use Rattle.cg_base.specs.declared.kind.Word.{Word}
 use Rattle.cg_base.specs.declared.kind.Word.TheVariants.{U32}
-use Rattle.cg_cbuiltins.specs.Called.{into_place}
-use Rattle.cg_clayout.specs.declared.kind.Part.{Part}
-use Rattle.cg_clayout.specs.Kinds.{layout_of}
-use Rattle.cg_crun.specs.BuiltIns.{BuiltIn, Given, as_asked, is_there, pointer_of, new_alone, free, create, free_array, length_of, get, put, called, array_of, length_at, next_answer, granted, make_struct, make_array, number_of, with_element_at}
-use Rattle.cg_crun.specs.Layouts.{Layout, pointer, spot}
-use Rattle.cg_crun.specs.Operands.{Value, typed, address_at, give, only, present}
-use Rattle.cg_crun.specs.Outcomes.{Judged, ok, no, on, State, Outcome, done, stuck, needs, astray, bind, lift, spend_for}
-use Rattle.cg_crun.specs.Targets.{spliced, with_cell_at, written_cell}
+use Rattle.cg_cmachine_builtins.specs.Called.{into_place}
+use Rattle.cg_cmachine_layout.specs.declared.kind.Part.{Part}
+use Rattle.cg_cmachine_layout.specs.Kinds.{layout_of}
+use Rattle.cg_cmachine_def.specs.BuiltIns.{BuiltIn, Given, as_asked, is_there, pointer_of, new_alone, free, create, free_array, length_of, get, put, called, array_of, length_at, next_answer, granted, make_struct, make_array, number_of, with_element_at}
+use Rattle.cg_cmachine_def.specs.Layouts.{Layout, pointer, spot}
+use Rattle.cg_cmachine_def.specs.Operands.{Value, typed, address_at, give, only, present}
+use Rattle.cg_cmachine_def.specs.Outcomes.{Judged, ok, no, on, State, Outcome, done, stuck, needs, astray, bind, lift, spend_for}
+use Rattle.cg_cmachine_def.specs.Targets.{spliced, with_cell_at, written_cell}
 use Rattle.cg_ctree.specs.declared.why.Why.{Why}
-use Rattle.cg_cvalues.specs.declared.place.Place.{Place}
-use Rattle.cg_cvalues.specs.declared.place.Place.TheVariants.{Nowhere, Local, Behind}
-use Rattle.cg_cvalues.specs.Values.{Changed, overwritten, write_behind, write_cell, write_place}
+use Rattle.cg_cmachine_values.specs.declared.place.Place.{Place}
+use Rattle.cg_cmachine_values.specs.declared.place.Place.TheVariants.{Nowhere, Local, Behind}
+use Rattle.cg_cmachine_values.specs.Values.{Changed, overwritten, write_behind, write_cell, write_place}
 use Rattle.cg_heap.proofs.TopSteps.{top_stays}
 use Rattle.cg_heap.specs.declared.cell.Cell.{Cell}
 use Rattle.cg_heap.specs.declared.cell.Cell.TheVariants.{Slots}

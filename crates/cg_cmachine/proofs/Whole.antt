@@ -4,24 +4,24 @@ use Rattle.std.proofs.lemmas.Bool.{eqb-true, leb-true}
 use Rattle.std.proofs.lemmas.List.{length-take, length-take-le, length-drop}
 use Rattle.cg_base.specs.declared.kind.Word.{Word}
 use Rattle.cg_base.specs.declared.kind.Word.TheVariants.{U8, U32}
-use Rattle.cg_clayout.specs.declared.kind.Part.{Part}
-use Rattle.cg_clayout.specs.Kinds.{layout_of}
+use Rattle.cg_cmachine_layout.specs.declared.kind.Part.{Part}
+use Rattle.cg_cmachine_layout.specs.Kinds.{layout_of}
 use Rattle.cg_cmachine.specs.Machine.{IsTyped}
 use Rattle.cg_cmachine.specs.Flat.{IsRightWithin, plain_at, word_at}
-use Rattle.cg_cresolve.specs.declared.line.Right.{Right}
-use Rattle.cg_cresolve.specs.declared.line.Right.TheVariants as right
-use Rattle.cg_cresolve.specs.Lines.{IsWhole}
-use Rattle.cg_crun.specs.BuiltIns.{BuiltIn, Given, new_alone, free, create, free_array, length_of, get, put, called, array_of, element_at, length_at, next_answer, granted, is_there, make_struct, make_array, number_of, pointer_of}
-use Rattle.cg_crun.specs.Layouts.{Layout, Spot, cell, pointer, group, layout, size}
-use Rattle.cg_crun.specs.Operands.{Value, literal, typed, read, read_part, part_of, has_part, number_at, address_at, address_in, only, present, scalars_in, scalars_of}
-use Rattle.cg_crun.specs.Operations.{word_value, operation, computed}
-use Rattle.cg_crun.specs.Outcomes.{Judged, ok, no, on, State, Outcome, done, stuck, needs, astray, bind, lift, spend_for}
-use Rattle.cg_crun.specs.Runs.{Linked, answered, call_abstract, has_size, state_behind}
-use Rattle.cg_cvalues.specs.declared.place.Operand.{Operand}
-use Rattle.cg_cvalues.specs.declared.place.Operand.TheVariants as operand
-use Rattle.cg_cvalues.specs.declared.place.Place.{Place}
-use Rattle.cg_cvalues.specs.declared.place.Place.TheVariants.{Nowhere, Local, Behind}
-use Rattle.cg_cvalues.specs.Values.{IsOperandWithin, IsWithin, judged, read_behind, read_cell, read_place, slots_from}
+use Rattle.cg_cmachine_resolve.specs.declared.line.Right.{Right}
+use Rattle.cg_cmachine_resolve.specs.declared.line.Right.TheVariants as right
+use Rattle.cg_cmachine_resolve.specs.Lines.{IsWhole}
+use Rattle.cg_cmachine_def.specs.BuiltIns.{BuiltIn, Given, new_alone, free, create, free_array, length_of, get, put, called, array_of, element_at, length_at, next_answer, granted, is_there, make_struct, make_array, number_of, pointer_of}
+use Rattle.cg_cmachine_def.specs.Layouts.{Layout, Spot, cell, pointer, group, layout, size}
+use Rattle.cg_cmachine_def.specs.Operands.{Value, literal, typed, read, read_part, part_of, has_part, number_at, address_at, address_in, only, present, scalars_in, scalars_of}
+use Rattle.cg_cmachine_def.specs.Operations.{word_value, operation, computed}
+use Rattle.cg_cmachine_def.specs.Outcomes.{Judged, ok, no, on, State, Outcome, done, stuck, needs, astray, bind, lift, spend_for}
+use Rattle.cg_cmachine_def.specs.Runs.{Linked, answered, call_abstract, has_size, state_behind}
+use Rattle.cg_cmachine_values.specs.declared.place.Operand.{Operand}
+use Rattle.cg_cmachine_values.specs.declared.place.Operand.TheVariants as operand
+use Rattle.cg_cmachine_values.specs.declared.place.Place.{Place}
+use Rattle.cg_cmachine_values.specs.declared.place.Place.TheVariants.{Nowhere, Local, Behind}
+use Rattle.cg_cmachine_values.specs.Values.{IsOperandWithin, IsWithin, judged, read_behind, read_cell, read_place, slots_from}
 use Rattle.cg_ctree.specs.declared.why.Why.TheVariants.{KindsDiffer, NoCell}
 use Rattle.cg_ctree.specs.Trees.{Function}
 use Rattle.cg_heap.specs.Calls.{Answer}

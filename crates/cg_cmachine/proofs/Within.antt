@@ -1,12 +1,12 @@
 -- The operands of resolved statements stand within the frame.
 use Rattle.std.proofs.Common.{List}
 use Rattle.cg_cmachine.specs.Flat.{IsActionWithin, IsRightWithin}
-use Rattle.cg_cresolve.specs.declared.line.Action.{Action}
-use Rattle.cg_cresolve.specs.declared.line.Action.TheVariants as action
-use Rattle.cg_cresolve.specs.declared.line.Right.{Right}
-use Rattle.cg_cresolve.specs.declared.line.Right.TheVariants as right
-use Rattle.cg_cresolve.specs.Lines.{DoesForm, IsRight, Whole}
-use Rattle.cg_cresolve.specs.Scopes.{Scope, total}
+use Rattle.cg_cmachine_resolve.specs.declared.line.Action.{Action}
+use Rattle.cg_cmachine_resolve.specs.declared.line.Action.TheVariants as action
+use Rattle.cg_cmachine_resolve.specs.declared.line.Right.{Right}
+use Rattle.cg_cmachine_resolve.specs.declared.line.Right.TheVariants as right
+use Rattle.cg_cmachine_resolve.specs.Lines.{DoesForm, IsRight, Whole}
+use Rattle.cg_cmachine_resolve.specs.Scopes.{Scope, total}
 use Rattle.cg_ctree.specs.declared.tree.CCase.{CCase}
 use Rattle.cg_ctree.specs.declared.tree.CRhs.{CRhs}
 use Rattle.cg_ctree.specs.declared.tree.CRhs.TheVariants.{Opnd, Conv, Binary, Flip, IsNull, Call, New}

@@ -1,12 +1,12 @@
 -- What comes of a call that a table answers.
 use Rattle.std.specs.Prelude.{◌≡◌, ℕ, ◌+◌, ◌<◌, List, ◌++◌, Some, Result, Ok, Err}
-use Rattle.cg_cbuiltins.specs.declared.changes.Changes.{Changes}
-use Rattle.cg_crun.specs.Layouts.{Layout}
-use Rattle.cg_crun.specs.Operands.{Value, read}
-use Rattle.cg_crun.specs.Outcomes.{Judged, ok, on, State, Outcome, bind, done, lift}
-use Rattle.cg_crun.specs.Runs.{answered, has_size}
-use Rattle.cg_cvalues.specs.declared.fault.RunFault.{RunFault}
-use Rattle.cg_cvalues.specs.declared.fault.RunFault.TheVariants.{Stuck, Budget, Memory}
+use Rattle.cg_cmachine_builtins.specs.declared.changes.Changes.{Changes}
+use Rattle.cg_cmachine_def.specs.Layouts.{Layout}
+use Rattle.cg_cmachine_def.specs.Operands.{Value, read}
+use Rattle.cg_cmachine_def.specs.Outcomes.{Judged, ok, on, State, Outcome, bind, done, lift}
+use Rattle.cg_cmachine_def.specs.Runs.{answered, has_size}
+use Rattle.cg_cmachine_values.specs.declared.fault.RunFault.{RunFault}
+use Rattle.cg_cmachine_values.specs.declared.fault.RunFault.TheVariants.{Stuck, Budget, Memory}
 use Rattle.cg_heap.specs.Calls.{Answer}
 use Rattle.cg_heap.specs.declared.cell.Scalar.{Scalar}
 use Rattle.cg_heap.specs.Stored.{Stored}

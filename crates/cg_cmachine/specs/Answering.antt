@@ -1,13 +1,13 @@
 -- The beginning of a run.
 use Rattle.std.specs.Prelude.{◌≡◌, ℕ, ◌+◌, List, [], ◌∷◌, Option, None}
 use Rattle.std.specs.Option.{option_map}
-use Rattle.cg_cbuiltins.specs.declared.changes.Changes.{Changes}
+use Rattle.cg_cmachine_builtins.specs.declared.changes.Changes.{Changes}
 use Rattle.cg_cmachine.specs.declared.answer.Ran.{Ran}
 use Rattle.cg_cmachine.specs.Machine.{Asked, function_at, program}
-use Rattle.cg_cresolve.specs.Resolutions.{Resolution}
-use Rattle.cg_crun.specs.Layouts.{Layout, size}
-use Rattle.cg_crun.specs.Outcomes.{Outcome}
-use Rattle.cg_crun.specs.Runs.{start}
+use Rattle.cg_cmachine_resolve.specs.Resolutions.{Resolution}
+use Rattle.cg_cmachine_def.specs.Layouts.{Layout, size}
+use Rattle.cg_cmachine_def.specs.Outcomes.{Outcome}
+use Rattle.cg_cmachine_def.specs.Runs.{start}
 use Rattle.cg_ctree.specs.Trees.{function_of}
 use Rattle.cg_heap.specs.Calls.{Answer}
 use Rattle.cg_heap.specs.declared.cell.Scalar.{Scalar}

@@ -1,9 +1,9 @@
 -- What a run answers (docs/LANGUAGE.md, "The C subset").
 use Rattle.std.specs.Prelude.{◌≡◌, ℕ, ◌+◌, Result, Ok, Err, List}
-use Rattle.cg_crun.specs.Outcomes.{Outcome, done, stuck, needs}
+use Rattle.cg_cmachine_def.specs.Outcomes.{Outcome, done, stuck, needs}
 use Rattle.cg_cmachine.specs.declared.answer.Ran.{Ran}
-use Rattle.cg_cvalues.specs.declared.fault.RunFault.{RunFault}
-use Rattle.cg_cvalues.specs.declared.fault.RunFault.TheVariants.{Stuck, Budget, Memory}
+use Rattle.cg_cmachine_values.specs.declared.fault.RunFault.{RunFault}
+use Rattle.cg_cmachine_values.specs.declared.fault.RunFault.TheVariants.{Stuck, Budget, Memory}
 use Rattle.cg_heap.specs.declared.cell.Scalar.{Scalar}
 use Rattle.cg_heap.specs.Stored.{Stored}
 

@@ -1,17 +1,17 @@
 -- What stands on the right of an assignment, in a frame of slots.
 use Rattle.std.specs.Prelude.{ℕ, List, [], ◌∷◌, cond, nat_eq, Option, Some, None}
 use Rattle.cg_base.specs.declared.kind.Word.TheVariants.{U8}
-use Rattle.cg_cresolve.specs.declared.line.Action.{Action}
-use Rattle.cg_cresolve.specs.declared.line.Action.TheVariants as action
-use Rattle.cg_cresolve.specs.declared.line.Right.{Right}
-use Rattle.cg_cresolve.specs.declared.line.Right.TheVariants as right
-use Rattle.cg_crun.specs.Operands.{Value, address_in, word_in}
-use Rattle.cg_crun.specs.Operations.{flag, word_value, converted, computed, flipped}
-use Rattle.cg_crun.specs.Outcomes.{Judged, ok, no, on, State, Outcome, done, lift}
+use Rattle.cg_cmachine_resolve.specs.declared.line.Action.{Action}
+use Rattle.cg_cmachine_resolve.specs.declared.line.Action.TheVariants as action
+use Rattle.cg_cmachine_resolve.specs.declared.line.Right.{Right}
+use Rattle.cg_cmachine_resolve.specs.declared.line.Right.TheVariants as right
+use Rattle.cg_cmachine_def.specs.Operands.{Value, address_in, word_in}
+use Rattle.cg_cmachine_def.specs.Operations.{flag, word_value, converted, computed, flipped}
+use Rattle.cg_cmachine_def.specs.Outcomes.{Judged, ok, no, on, State, Outcome, done, lift}
 use Rattle.cg_ctree.specs.declared.why.Why.TheVariants.{KindsDiffer}
-use Rattle.cg_cvalues.specs.declared.place.Operand.{Operand}
-use Rattle.cg_cvalues.specs.declared.place.Place.{Place}
-use Rattle.cg_cvalues.specs.Values.{AreWithin, IsOperandWithin, IsWithin, judged, write_place}
+use Rattle.cg_cmachine_values.specs.declared.place.Operand.{Operand}
+use Rattle.cg_cmachine_values.specs.declared.place.Place.{Place}
+use Rattle.cg_cmachine_values.specs.Values.{AreWithin, IsOperandWithin, IsWithin, judged, write_place}
 use Rattle.cg_heap.specs.declared.cell.Scalar.{Scalar}
 use Rattle.cg_heap.specs.Stored.{Stored}
 

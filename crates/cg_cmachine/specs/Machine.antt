@@ -2,32 +2,32 @@
 use Rattle.std.specs.Prelude.{◌≡◌, ℕ, ◌+◌, ◌*◌, ◌<◌, ◌^◌, List, [], ◌∷◌, ◌++◌, length, map, slice_get, Option, Some, None, Result, Ok, Err}
 use Rattle.std.specs.List.{All}
 use Rattle.std.specs.Option.{option_map}
-use Rattle.cg_cbuiltins.specs.Called.{state_of}
-use Rattle.cg_cbuiltins.specs.declared.changes.Changes.{Changes}
+use Rattle.cg_cmachine_builtins.specs.Called.{state_of}
+use Rattle.cg_cmachine_builtins.specs.declared.changes.Changes.{Changes}
 use Rattle.cg_cmachine.specs.declared.machine.Frame.{Frame}
 use Rattle.cg_cmachine.specs.declared.machine.Kont.{Kont}
 use Rattle.cg_cmachine.specs.declared.machine.Kont.TheVariants.{After, Return}
 use Rattle.cg_cmachine.specs.declared.machine.Machine.{Machine}
 use Rattle.cg_cmachine.specs.declared.machine.Next.{Next}
 use Rattle.cg_cmachine.specs.declared.machine.Next.TheVariants.{Goes, Back, Ask}
-use Rattle.cg_clayout.specs.Kinds.{layout_of}
-use Rattle.cg_cresolve.specs.declared.code.Position.{Position}
-use Rattle.cg_cresolve.specs.declared.line.Callee.{Callee}
-use Rattle.cg_cresolve.specs.declared.line.Callee.TheVariants as callee
-use Rattle.cg_cresolve.specs.Lines.{linked}
-use Rattle.cg_cresolve.specs.Resolutions.{Resolution, lines_at, next}
-use Rattle.cg_cresolve.specs.Scopes.{Scope, frame_of as scoped, scope_of, total}
-use Rattle.cg_crun.specs.Layouts.{Layout, group, empty, layout, size}
-use Rattle.cg_crun.specs.Operands.{Value, typed, scalars_of}
-use Rattle.cg_crun.specs.Operands as operands
-use Rattle.cg_crun.specs.Outcomes.{Judged, ok, no, on, State, Outcome, done, stuck, needs, astray, bind}
-use Rattle.cg_crun.specs.Runs.{Calls, Flow, Linked, assigned, back, call_abstract, calls_in, choose, goes, onward, returned, run_block, run_function}
+use Rattle.cg_cmachine_layout.specs.Kinds.{layout_of}
+use Rattle.cg_cmachine_resolve.specs.declared.code.Position.{Position}
+use Rattle.cg_cmachine_resolve.specs.declared.line.Callee.{Callee}
+use Rattle.cg_cmachine_resolve.specs.declared.line.Callee.TheVariants as callee
+use Rattle.cg_cmachine_resolve.specs.Lines.{linked}
+use Rattle.cg_cmachine_resolve.specs.Resolutions.{Resolution, lines_at, next}
+use Rattle.cg_cmachine_resolve.specs.Scopes.{Scope, frame_of as scoped, scope_of, total}
+use Rattle.cg_cmachine_def.specs.Layouts.{Layout, group, empty, layout, size}
+use Rattle.cg_cmachine_def.specs.Operands.{Value, typed, scalars_of}
+use Rattle.cg_cmachine_def.specs.Operands as operands
+use Rattle.cg_cmachine_def.specs.Outcomes.{Judged, ok, no, on, State, Outcome, done, stuck, needs, astray, bind}
+use Rattle.cg_cmachine_def.specs.Runs.{Calls, Flow, Linked, assigned, back, call_abstract, calls_in, choose, goes, onward, returned, run_block, run_function}
 use Rattle.cg_ctree.specs.declared.tree.CFun.{CFun}
 use Rattle.cg_ctree.specs.declared.why.Why.TheVariants.{NoCase, NoFunction, KindsDiffer}
 use Rattle.cg_ctree.specs.Trees.{assign, Block, also, block_of, function_of}
-use Rattle.cg_cvalues.specs.declared.fault.RunFault.{RunFault}
-use Rattle.cg_cvalues.specs.declared.fault.RunFault.TheVariants.{Stuck, Budget, Memory}
-use Rattle.cg_cvalues.specs.Values.{value_of}
+use Rattle.cg_cmachine_values.specs.declared.fault.RunFault.{RunFault}
+use Rattle.cg_cmachine_values.specs.declared.fault.RunFault.TheVariants.{Stuck, Budget, Memory}
+use Rattle.cg_cmachine_values.specs.Values.{value_of}
 use Rattle.cg_heap.specs.Calls.{Answer}
 use Rattle.cg_heap.specs.declared.cell.Scalar.{Scalar}
 use Rattle.cg_heap.specs.Stored.{Stored}

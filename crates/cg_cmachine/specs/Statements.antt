@@ -1,24 +1,24 @@
 -- What an action does, in the state at hand.
 use Rattle.std.specs.Prelude.{ℕ, List, true, false}
-use Rattle.cg_cbuiltins.specs.Called.{built_in_of, into_place, state_of}
-use Rattle.cg_clayout.specs.Kinds.{layout_of, shape_layout}
+use Rattle.cg_cmachine_builtins.specs.Called.{built_in_of, into_place, state_of}
+use Rattle.cg_cmachine_layout.specs.Kinds.{layout_of, shape_layout}
 use Rattle.cg_cmachine.specs.declared.machine.Machine.{Machine}
 use Rattle.cg_cmachine.specs.Flat.{first_case, plain_at, put_at, word_at}
 use Rattle.cg_cmachine.specs.Machine.{Asked, block, by_names, called_in, framed, inner, inner_case, landed_here, turned}
-use Rattle.cg_cresolve.specs.declared.line.Action.{Action}
-use Rattle.cg_cresolve.specs.declared.line.Action.TheVariants as action
-use Rattle.cg_cresolve.specs.declared.line.Callee.{Callee}
-use Rattle.cg_cresolve.specs.declared.line.Callee.TheVariants as callee
-use Rattle.cg_cresolve.specs.declared.line.Right.{Right}
-use Rattle.cg_cresolve.specs.declared.line.Right.TheVariants as right
-use Rattle.cg_cresolve.specs.Resolutions.{Resolution, next}
-use Rattle.cg_crun.specs.BuiltIns.{called, make_struct}
-use Rattle.cg_crun.specs.Layouts.{size}
-use Rattle.cg_crun.specs.Operands.{Value, give}
-use Rattle.cg_crun.specs.Outcomes.{on, State, Outcome, done, bind, lift}
-use Rattle.cg_crun.specs.Runs.{Flow, back, choose, goes, onward}
-use Rattle.cg_cvalues.specs.declared.place.Place.{Place}
-use Rattle.cg_cvalues.specs.Values.{judged, judged_all}
+use Rattle.cg_cmachine_resolve.specs.declared.line.Action.{Action}
+use Rattle.cg_cmachine_resolve.specs.declared.line.Action.TheVariants as action
+use Rattle.cg_cmachine_resolve.specs.declared.line.Callee.{Callee}
+use Rattle.cg_cmachine_resolve.specs.declared.line.Callee.TheVariants as callee
+use Rattle.cg_cmachine_resolve.specs.declared.line.Right.{Right}
+use Rattle.cg_cmachine_resolve.specs.declared.line.Right.TheVariants as right
+use Rattle.cg_cmachine_resolve.specs.Resolutions.{Resolution, next}
+use Rattle.cg_cmachine_def.specs.BuiltIns.{called, make_struct}
+use Rattle.cg_cmachine_def.specs.Layouts.{size}
+use Rattle.cg_cmachine_def.specs.Operands.{Value, give}
+use Rattle.cg_cmachine_def.specs.Outcomes.{on, State, Outcome, done, bind, lift}
+use Rattle.cg_cmachine_def.specs.Runs.{Flow, back, choose, goes, onward}
+use Rattle.cg_cmachine_values.specs.declared.place.Place.{Place}
+use Rattle.cg_cmachine_values.specs.Values.{judged, judged_all}
 use Rattle.cg_heap.specs.declared.cell.Scalar.{Scalar}
 use Rattle.cg_heap.specs.Stored.{Stored}
 

@@ -2,24 +2,24 @@
 #![tactic(auto, using(crate::proofs::Asking::abstract_steps))]
 
 ghost use Rattle.std.specs.Prelude.{◌≡◌, ◌<◌, ◌≤◌, ◌+◌, ◌^◌, ◌++◌, Some, IfOk, IfErr, OnOk, map};
-ghost use Rattle.cg_cbuiltins.specs.Called.{Ends, state_of};
-ghost use Rattle.cg_clayout.specs.Kinds.{layout_of};
+ghost use Rattle.cg_cmachine_builtins.specs.Called.{Ends, state_of};
+ghost use Rattle.cg_cmachine_layout.specs.Kinds.{layout_of};
 ghost use Rattle.cg_cmachine.specs.Abstracts.{Answers, answered_value, read_whole};
 ghost use Rattle.cg_cmachine.specs.declared.machine.Next.TheVariants.{Ask, Goes};
 ghost use Rattle.cg_cmachine.specs.Machine.{IsLow, abstract_call, function_at, gathered, IsNext, IsState, Went, slack, said, weight};
-ghost use Rattle.cg_crun.specs.Outcomes.{IsCalm};
-ghost use Rattle.cg_cvalues.specs.declared.fault.RunFault.TheVariants.{Memory as Wanting};
-ghost use Rattle.cg_cvalues.specs.Values.{Tries, value_of};
+ghost use Rattle.cg_cmachine_def.specs.Outcomes.{IsCalm};
+ghost use Rattle.cg_cmachine_values.specs.declared.fault.RunFault.TheVariants.{Memory as Wanting};
+ghost use Rattle.cg_cmachine_values.specs.Values.{Tries, value_of};
 ghost use Rattle.cg_heap.specs.Calls.{Answer};
 
 use crate::calls::gather;
 use crate::machine::{Machine, Next, Run};
 use crate::running::land;
 use cg_base::{Items, Memory, Name};
-use cg_cbuiltins::Changes;
-use cg_clayout::Kind;
+use cg_cmachine_builtins::Changes;
+use cg_cmachine_layout::Kind;
 use cg_ctree::Why;
-use cg_cvalues::{CValue, RunFault, read_local};
+use cg_cmachine_values::{CValue, RunFault, read_local};
 use cg_heap::{Called, ExternHeap, Scalar, Store};
 use std::alloc::Global;
 

@@ -2,19 +2,19 @@
 #![tactic(auto, using(crate::proofs::Answering::answer_steps))]
 
 ghost use Rattle.std.specs.Prelude.{◌≡◌, ◌<◌, ◌≤◌, ◌^◌, [], Some, false, true, map, nat_eq, IfErr, IfOk, MatchOption, length};
-ghost use Rattle.cg_clayout.specs.Kinds.{layout_of};
+ghost use Rattle.cg_cmachine_layout.specs.Kinds.{layout_of};
 ghost use Rattle.cg_cmachine.specs.Answers.{Runs};
 ghost use Rattle.cg_cmachine.specs.Answering.{Tells, none_asked, started, sum_sizes};
 ghost use Rattle.cg_cmachine.specs.declared.machine.Next.TheVariants.{Goes};
 ghost use Rattle.cg_cmachine.specs.Machine.{IsLow, IsState, said};
-ghost use Rattle.cg_cresolve.specs.Lines.{IsAt, linked};
-ghost use Rattle.cg_cresolve.specs.Resolutions.{IsFirst, IsHead, blocks_in};
-ghost use Rattle.cg_crun.specs.Operands.{scalars_of};
-ghost use Rattle.cg_crun.specs.Outcomes.{IsCalm};
-ghost use Rattle.cg_crun.specs.Runs.{crun, linked_to};
+ghost use Rattle.cg_cmachine_resolve.specs.Lines.{IsAt, linked};
+ghost use Rattle.cg_cmachine_resolve.specs.Resolutions.{IsFirst, IsHead, blocks_in};
+ghost use Rattle.cg_cmachine_def.specs.Operands.{scalars_of};
+ghost use Rattle.cg_cmachine_def.specs.Outcomes.{IsCalm};
+ghost use Rattle.cg_cmachine_def.specs.Runs.{crun, linked_to};
 ghost use Rattle.cg_ctree.specs.Trees.{program_of};
-ghost use Rattle.cg_cvalues.specs.declared.fault.RunFault.TheVariants.{Memory};
-ghost use Rattle.cg_cvalues.specs.Values.{value_of};
+ghost use Rattle.cg_cmachine_values.specs.declared.fault.RunFault.TheVariants.{Memory};
+ghost use Rattle.cg_cmachine_values.specs.Values.{value_of};
 
 use crate::RunFault;
 use crate::abstracts::{call_table, listed};
@@ -22,11 +22,11 @@ use crate::calls::begin;
 use crate::machine::{Machine, Run};
 use crate::running::go_on;
 use cg_base::{Items, Name};
-use cg_cbuiltins::Changes;
-use cg_clayout::Kind;
-use cg_cresolve::{Head, Resolved};
+use cg_cmachine_builtins::Changes;
+use cg_cmachine_layout::Kind;
+use cg_cmachine_resolve::{Head, Resolved};
 use cg_ctree::{CProgram, Why};
-use cg_cvalues::{CValue, push_scalars};
+use cg_cmachine_values::{CValue, push_scalars};
 use cg_heap::{ExternHeap, Link, Scalar, Store};
 use cg_value::NoExtern;
 use std::alloc::Global;

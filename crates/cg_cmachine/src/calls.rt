@@ -2,30 +2,30 @@
 #![tactic(auto, using(crate::proofs::Entries::call_steps))]
 
 ghost use Rattle.std.specs.Prelude.{◌≡◌, ◌<◌, ◌≤◌, ◌+◌, ◌^◌, ◌++◌, ◌-◌, ℕ, IfErr, IfOk, false, true, length, map, replicate};
-ghost use Rattle.cg_clayout.specs.Kinds.{layout_of, shape_layout};
-ghost use Rattle.cg_cbuiltins.specs.Called.{built_in_of, into_place, state_of};
-ghost use Rattle.cg_cbuiltins.specs.declared.changes.Changes.{Changes as TheChanges};
+ghost use Rattle.cg_cmachine_layout.specs.Kinds.{layout_of, shape_layout};
+ghost use Rattle.cg_cmachine_builtins.specs.Called.{built_in_of, into_place, state_of};
+ghost use Rattle.cg_cmachine_builtins.specs.declared.changes.Changes.{Changes as TheChanges};
 ghost use Rattle.cg_cmachine.specs.declared.machine.Next.TheVariants.{Goes};
 ghost use Rattle.cg_cmachine.specs.Machine.{Asked, Enters, Follows, IsLow, IsNext, IsState, slack, by_names, called_in, entered, framed, gathered, landed_here, weight};
 ghost use Rattle.cg_cmachine.specs.Statements.{assigns, called_aside, called_to};
-ghost use Rattle.cg_cresolve.specs.declared.line.Right.TheVariants.{New};
-ghost use Rattle.cg_cresolve.specs.Resolutions.{Resolution};
-ghost use Rattle.cg_crun.specs.BuiltIns.{called, make_struct};
-ghost use Rattle.cg_crun.specs.Layouts.{size};
-ghost use Rattle.cg_crun.specs.Outcomes.{bind, done, lift};
-ghost use Rattle.cg_crun.specs.Runs.{goes};
-ghost use Rattle.cg_cvalues.specs.declared.fault.RunFault.TheVariants.{Memory};
-ghost use Rattle.cg_cvalues.specs.Values.{AreWithin, IsOperandWithin, IsWithin, Tries, judged_all, value_of};
+ghost use Rattle.cg_cmachine_resolve.specs.declared.line.Right.TheVariants.{New};
+ghost use Rattle.cg_cmachine_resolve.specs.Resolutions.{Resolution};
+ghost use Rattle.cg_cmachine_def.specs.BuiltIns.{called, make_struct};
+ghost use Rattle.cg_cmachine_def.specs.Layouts.{size};
+ghost use Rattle.cg_cmachine_def.specs.Outcomes.{bind, done, lift};
+ghost use Rattle.cg_cmachine_def.specs.Runs.{goes};
+ghost use Rattle.cg_cmachine_values.specs.declared.fault.RunFault.TheVariants.{Memory};
+ghost use Rattle.cg_cmachine_values.specs.Values.{AreWithin, IsOperandWithin, IsWithin, Tries, judged_all, value_of};
 ghost use Rattle.cg_heap.specs.declared.cell.Scalar.TheVariants.{Unset};
 ghost use Rattle.cg_heap.specs.Stored.{Stored};
 
 use crate::machine::{Frame, Kont, Machine, Next, Run};
 use cg_base::Name;
-use cg_cbuiltins::{BuiltIn, call, call_into, new_into};
-use cg_clayout::{Kind, Shape};
-use cg_cresolve::{Callee, Head, Position};
+use cg_cmachine_builtins::{BuiltIn, call, call_into, new_into};
+use cg_cmachine_layout::{Kind, Shape};
+use cg_cmachine_resolve::{Callee, Head, Position};
 use cg_ctree::Why;
-use cg_cvalues::{CValue, Operand, Place, RunFault, is_of, judge, judge_all, push_scalars};
+use cg_cmachine_values::{CValue, Operand, Place, RunFault, is_of, judge, judge_all, push_scalars};
 use cg_heap::{Scalar, Store};
 use std::alloc::Global;
 

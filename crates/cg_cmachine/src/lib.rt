@@ -12,4 +12,4 @@ mod statements;
 mod tests;
 
 pub use answer::{Ran, run_c, run_c_with};
-pub use cg_cvalues::RunFault;
+pub use cg_cmachine_values::RunFault;

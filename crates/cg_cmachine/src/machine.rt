@@ -1,9 +1,9 @@
 // The machine's state.
 use cg_base::Name;
-use cg_cbuiltins::Changes;
-use cg_clayout::Kind;
-use cg_cresolve::{Position, Resolved};
-use cg_cvalues::CValue;
+use cg_cmachine_builtins::Changes;
+use cg_cmachine_layout::Kind;
+use cg_cmachine_resolve::{Position, Resolved};
+use cg_cmachine_values::CValue;
 use cg_heap::Scalar;
 
 /// What is run, and with how many steps at most. The program lives for `'a`, its resolved form for `'i`.

@@ -2,26 +2,26 @@
 #![tactic(auto, using(crate::proofs::Forms::statement_steps))]
 
 ghost use Rattle.std.specs.Prelude.{◌≡◌, ◌<◌, ◌≤◌, ◌+◌, ◌^◌, ℕ, suc, IfOk, length};
-ghost use Rattle.cg_cbuiltins.specs.Called.{state_of};
+ghost use Rattle.cg_cmachine_builtins.specs.Called.{state_of};
 ghost use Rattle.cg_cmachine.specs.declared.machine.Next.TheVariants.{Back, Goes};
 ghost use Rattle.cg_cmachine.specs.Flat.{IsActionWithin, IsRightWithin, put_at};
 ghost use Rattle.cg_cmachine.specs.Machine.{Asked, Comes, Ends, Follows, IsKont, IsLow, IsNext, IsState, IsTyped, Went, by_names, framed, slack, lay_at, landed_here, on_kont, said, waits, weight};
 ghost use Rattle.cg_cmachine.specs.Statements.{acts, assigns};
-ghost use Rattle.cg_cresolve.specs.Lines.{IsWhole};
-ghost use Rattle.cg_cresolve.specs.Resolutions.{Resolution};
-ghost use Rattle.cg_crun.specs.Operands.{scalars_of};
-ghost use Rattle.cg_crun.specs.Outcomes.{IsCalm, done};
-ghost use Rattle.cg_crun.specs.Runs.{back as back_of, goes};
-ghost use Rattle.cg_cvalues.specs.Values.{IsWithin, value_of};
+ghost use Rattle.cg_cmachine_resolve.specs.Lines.{IsWhole};
+ghost use Rattle.cg_cmachine_resolve.specs.Resolutions.{Resolution};
+ghost use Rattle.cg_cmachine_def.specs.Operands.{scalars_of};
+ghost use Rattle.cg_cmachine_def.specs.Outcomes.{IsCalm, done};
+ghost use Rattle.cg_cmachine_def.specs.Runs.{back as back_of, goes};
+ghost use Rattle.cg_cmachine_values.specs.Values.{IsWithin, value_of};
 ghost use Rattle.cg_heap.specs.Stored.{Stored};
 
 use crate::abstracts::ask;
 use crate::calls::{call_aside, call_to, new_to};
 use crate::machine::{Frame, Kont, Machine, Next, Run};
 use crate::statements::{assign, branch, give_back, switch, turn};
-use cg_cresolve::{Action, Right};
+use cg_cmachine_resolve::{Action, Right};
 use cg_ctree::Why;
-use cg_cvalues::{CValue, Place, RunFault, write};
+use cg_cmachine_values::{CValue, Place, RunFault, write};
 use cg_heap::{ExternHeap, Store};
 use std::alloc::Global;
 

@@ -2,24 +2,24 @@
 #![tactic(auto, using(crate::proofs::Steps::machine_steps))]
 
 ghost use Rattle.std.specs.Prelude.{◌≡◌, ◌<◌, ◌≤◌, ◌+◌, ◌^◌, ℕ, IfOk, length};
-ghost use Rattle.cg_clayout.specs.Kinds.{layout_of};
-ghost use Rattle.cg_cbuiltins.specs.Called.{state_of};
+ghost use Rattle.cg_cmachine_layout.specs.Kinds.{layout_of};
+ghost use Rattle.cg_cmachine_builtins.specs.Called.{state_of};
 ghost use Rattle.cg_cmachine.specs.declared.machine.Next.TheVariants.{Goes};
 ghost use Rattle.cg_cmachine.specs.Flat.{IsRightWithin, first_case, plain_at, put_at, word_at};
 ghost use Rattle.cg_cmachine.specs.Machine.{Asked, Comes, Follows, IsNext, IsState, block, by_names, inner, inner_case, turned, weight};
-ghost use Rattle.cg_cresolve.specs.Resolutions.{Resolution};
-ghost use Rattle.cg_crun.specs.Operands.{give as give_of};
-ghost use Rattle.cg_crun.specs.Outcomes.{done, lift, on};
-ghost use Rattle.cg_crun.specs.Runs.{back as back_of, choose, onward};
-ghost use Rattle.cg_cresolve.specs.declared.line.Right.TheVariants.{Binary, IsNull};
+ghost use Rattle.cg_cmachine_resolve.specs.Resolutions.{Resolution};
+ghost use Rattle.cg_cmachine_def.specs.Operands.{give as give_of};
+ghost use Rattle.cg_cmachine_def.specs.Outcomes.{done, lift, on};
+ghost use Rattle.cg_cmachine_def.specs.Runs.{back as back_of, choose, onward};
+ghost use Rattle.cg_cmachine_resolve.specs.declared.line.Right.TheVariants.{Binary, IsNull};
 ghost use Rattle.cg_heap.specs.Stored.{Stored};
-ghost use Rattle.cg_cvalues.specs.Values.{IsOperandWithin, IsWithin, Tries, judged, value_of};
+ghost use Rattle.cg_cmachine_values.specs.Values.{IsOperandWithin, IsWithin, Tries, judged, value_of};
 
 use crate::machine::{Kont, Machine, Next};
 use cg_base::Word;
-use cg_cresolve::{Position, Right};
+use cg_cmachine_resolve::{Position, Right};
 use cg_ctree::{COp, Why};
-use cg_cvalues::{
+use cg_cmachine_values::{
     CValue, Operand, Place, RunFault, address_in, compute, convert, flip, give, judge, word_in,
     write,
 };

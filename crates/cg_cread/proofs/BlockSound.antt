@@ -5,11 +5,11 @@ use Rattle.cg_ctree.specs.declared.tree.COpnd.{COpnd}
 use Rattle.cg_ctree.specs.Spells.{Reading, ◌then◌, token, keyword, mark, most_open, braced, tagged, ReadsTest, ReadsStmt, ReadsBlock, ReadsCases}
 use Rattle.cg_ctree.specs.Tokens.{plain, Lexeme}
 use Rattle.cg_ctree.specs.Trees.{Stmt, Case, to_block, to_cases}
-use Rattle.cg_cparts.specs.Symbols.{Symbol, keyed, count, colon, semicolon, begin, end}
-use Rattle.cg_cparts.specs.declared.symbol.Keyword.TheVariants as key
-use Rattle.cg_cparts.proofs.Known.{Means, seen}
-use Rattle.cg_cpieces.proofs.LineSound.{LineIs}
-use Rattle.cg_cparts.proofs.Lists.{front}
+use Rattle.cg_cread_parts.specs.Symbols.{Symbol, keyed, count, colon, semicolon, begin, end}
+use Rattle.cg_cread_parts.specs.declared.symbol.Keyword.TheVariants as key
+use Rattle.cg_cread_parts.proofs.Known.{Means, seen}
+use Rattle.cg_cread_pieces.proofs.LineSound.{LineIs}
+use Rattle.cg_cread_parts.proofs.Lists.{front}
 use Rattle.cg_cread.specs.Blocks.{Level, Arms, Opened, Yes, No, Loop, InCase, Frame, frame, Gap, BehindYes, BehindElse, CaseWanted, CaseRead, Tagged, ColonRead, CaseClosed, BreakRead, Stuck, on_yes, on_wanted, on_case, on_tag, on_closed, on_break, gap_step, gap_opens, switched, gap_end}
 
 -- what is read of a `switch`, with its cases

@@ -7,19 +7,19 @@ use Rattle.cg_ctree.specs.declared.tree.COpnd.{COpnd}
 use Rattle.cg_ctree.specs.Spells.{Reading, ◌then◌, mark, most_open, ReadsStmt, ReadsBlock, ReadsLocals, ReadsFunction}
 use Rattle.cg_ctree.specs.Tokens.{Lexeme}
 use Rattle.cg_ctree.specs.Trees.{Stmt, branch, while, to_block}
-use Rattle.cg_cparts.specs.Declarations.{row_step, row_is_whole, is_whole}
-use Rattle.cg_cpieces.specs.Lines.{line_begin, line_end, line_test}
-use Rattle.cg_cparts.specs.Symbols.{Symbol, begin, end, semicolon, is_type}
-use Rattle.cg_cparts.specs.declared.declaration.Declaration.{Declaration}
-use Rattle.cg_cparts.specs.declared.declaration.Declaration.TheVariants.{Wanted}
-use Rattle.cg_cparts.specs.declared.declaration.Row.{Row}
-use Rattle.cg_cparts.specs.declared.head.Signature.{Signature}
-use Rattle.cg_cpieces.specs.declared.line.Test.{Test}
-use Rattle.cg_cpieces.specs.declared.line.Test.TheVariants as test
-use Rattle.cg_cpieces.specs.declared.line.Line.{Line}
-use Rattle.cg_cparts.proofs.DeclarationSound.{DeclarationRead, RowRead, SignatureRead, row_holds}
-use Rattle.cg_cparts.proofs.Known.{Means, seen}
-use Rattle.cg_cpieces.proofs.LineSound.{LineRead, LineIs, TestIs, begin_holds, line_holds, test_is, line_is}
+use Rattle.cg_cread_parts.specs.Declarations.{row_step, row_is_whole, is_whole}
+use Rattle.cg_cread_pieces.specs.Lines.{line_begin, line_end, line_test}
+use Rattle.cg_cread_parts.specs.Symbols.{Symbol, begin, end, semicolon, is_type}
+use Rattle.cg_cread_parts.specs.declared.declaration.Declaration.{Declaration}
+use Rattle.cg_cread_parts.specs.declared.declaration.Declaration.TheVariants.{Wanted}
+use Rattle.cg_cread_parts.specs.declared.declaration.Row.{Row}
+use Rattle.cg_cread_parts.specs.declared.head.Signature.{Signature}
+use Rattle.cg_cread_pieces.specs.declared.line.Test.{Test}
+use Rattle.cg_cread_pieces.specs.declared.line.Test.TheVariants as test
+use Rattle.cg_cread_pieces.specs.declared.line.Line.{Line}
+use Rattle.cg_cread_parts.proofs.DeclarationSound.{DeclarationRead, RowRead, SignatureRead, row_holds}
+use Rattle.cg_cread_parts.proofs.Known.{Means, seen}
+use Rattle.cg_cread_pieces.proofs.LineSound.{LineRead, LineIs, TestIs, begin_holds, line_holds, test_is, line_is}
 use Rattle.cg_cread.specs.Blocks.{Level, Opened, Yes, No, Loop, InCase, Frame, frame, Gap, gap_opens, gap_end}
 use Rattle.cg_cread.specs.Bodies.{Nest, Body, Locals, Statements, InLine, InGap, Closed, Stuck, nest, function_at, with_statement, opening, ended, opened, on_test, tested, on_line, on_gap, closes, on_end, on_statement, on_statements, on_locals, body_step}
 use Rattle.cg_cread.proofs.BlockSound.{GapRead, OpenedRead, StackRead, OpensIs, no_statement, no_case_read, stack_more, gap_holds, opens_is, gap_is}

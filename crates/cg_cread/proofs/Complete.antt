@@ -8,18 +8,18 @@ use Rattle.cg_ctree.specs.declared.tree.CTy.TheVariants as ty
 use Rattle.cg_ctree.specs.Spells.{mark, token, most_open, ReadsBlock, ReadsBody, ReadsFunction, ReadsStruct, Item, of_struct, of_function, ReadsItems, structs_of, functions_of, IsOnLaterLine, SpellsTokens}
 use Rattle.cg_ctree.specs.Tokens.{line, second_line, Lexeme}
 use Rattle.cg_ctree.specs.Trees.{Block, Body, Function, Program}
-use Rattle.cg_cparts.specs.Declarations.{declaration_step, row, row_step}
-use Rattle.cg_cparts.specs.Heads.{head_step}
-use Rattle.cg_cparts.specs.Symbols.{Symbol, named, keyed, begin, end, semicolon, first_include, is_type, symbol_of, token_of}
-use Rattle.cg_cparts.specs.declared.declaration.Declaration.TheVariants.{Wanted, StructRead, Typed}
-use Rattle.cg_cparts.specs.declared.declaration.Row.{Row}
-use Rattle.cg_cparts.specs.declared.head.Signature.{Signature}
-use Rattle.cg_cparts.specs.declared.head.Head.{Head}
-use Rattle.cg_cparts.specs.declared.head.Head.TheVariants as head
-use Rattle.cg_cparts.specs.declared.symbol.Keyword.TheVariants as key
-use Rattle.cg_cparts.proofs.Carried.{Moves, MovesAt}
-use Rattle.cg_cparts.proofs.DeclarationComplete.{in_a_row, in_head, row_read, head_read}
-use Rattle.cg_cparts.proofs.Known.{Fits}
+use Rattle.cg_cread_parts.specs.Declarations.{declaration_step, row, row_step}
+use Rattle.cg_cread_parts.specs.Heads.{head_step}
+use Rattle.cg_cread_parts.specs.Symbols.{Symbol, named, keyed, begin, end, semicolon, first_include, is_type, symbol_of, token_of}
+use Rattle.cg_cread_parts.specs.declared.declaration.Declaration.TheVariants.{Wanted, StructRead, Typed}
+use Rattle.cg_cread_parts.specs.declared.declaration.Row.{Row}
+use Rattle.cg_cread_parts.specs.declared.head.Signature.{Signature}
+use Rattle.cg_cread_parts.specs.declared.head.Head.{Head}
+use Rattle.cg_cread_parts.specs.declared.head.Head.TheVariants as head
+use Rattle.cg_cread_parts.specs.declared.symbol.Keyword.TheVariants as key
+use Rattle.cg_cread_parts.proofs.Carried.{Moves, MovesAt}
+use Rattle.cg_cread_parts.proofs.DeclarationComplete.{in_a_row, in_head, row_read, head_read}
+use Rattle.cg_cread_parts.proofs.Known.{Fits}
 use Rattle.cg_cread.specs.Bodies.{Locals, Statements, nest, with_body}
 use Rattle.cg_cread.specs.Machine.{State, Start, First, Second, Between, InHead, InMembers, MembersClosed, InBody, Failed, nothing, with_struct, with_function, on_item, finish}
 use Rattle.cg_cread.proofs.Steps.{run, Gives, move, nest_at, locals_on, members_on, head_on, first_on}

@@ -3,10 +3,10 @@ use Rattle.std.proofs.Common.{◌≡◌, ℕ, List, [], ◌∷◌, ◌++◌, ref
 use Rattle.std.proofs.lemmas.List.{append-nil}
 use Rattle.cg_base.specs.declared.place.Place.{Place}
 use Rattle.cg_base.specs.Reader.{Begins}
-use Rattle.cg_clexer.proofs.Walking.{walks_more, goes_on}
-use Rattle.cg_clexer.specs.Next.{Cursor, start, Stands, IsUnknown, Finishes, Gives, Walks}
-use Rattle.cg_clexer.specs.declared.token.TokenKind.{TokenKind}
-use Rattle.cg_clexer.specs.declared.token.TokenKind.TheVariants.{Unknown, End}
+use Rattle.cg_cread_lexer.proofs.Walking.{walks_more, goes_on}
+use Rattle.cg_cread_lexer.specs.Next.{Cursor, start, Stands, IsUnknown, Finishes, Gives, Walks}
+use Rattle.cg_cread_lexer.specs.declared.token.TokenKind.{TokenKind}
+use Rattle.cg_cread_lexer.specs.declared.token.TokenKind.TheVariants.{Unknown, End}
 use Rattle.cg_ctree.specs.declared.tree.CProgram.{CProgram}
 use Rattle.cg_ctree.specs.Spells.{SpellsTokens, CSpells}
 use Rattle.cg_ctree.specs.Tokens.{Lexeme, Lexes}

@@ -7,16 +7,16 @@ use Rattle.cg_ctree.specs.declared.tree.CStruct.{CStruct}
 use Rattle.cg_ctree.specs.Spells.{Reading, ◌then◌, token, mark, braced, ReadsLine, ReadsStructName, ReadsLocals, ReadsStruct, ReadsFunction, Item, of_struct, of_function, ReadsItem, ReadsItems, structs_of, functions_of, SpellsTokens}
 use Rattle.cg_ctree.specs.Tokens.{line, first_line, second_line, Lexeme}
 use Rattle.cg_ctree.specs.Trees.{Function, Program}
-use Rattle.cg_cparts.specs.Declarations.{row_is_whole}
-use Rattle.cg_cparts.specs.Heads.{head_end, head_struct, head_is_whole}
-use Rattle.cg_cparts.specs.Symbols.{Symbol, begin, end, semicolon, first_include, second_include, symbol_of}
-use Rattle.cg_cparts.specs.declared.declaration.Declaration.TheVariants.{Wanted}
-use Rattle.cg_cparts.specs.declared.declaration.Row.{Row}
-use Rattle.cg_cparts.specs.declared.head.Head.{Head}
-use Rattle.cg_cparts.specs.declared.head.Signature.{Signature}
-use Rattle.cg_cparts.proofs.DeclarationSound.{RowRead, HeadRead, HeadIs, StructIs, declaration_holds, row_holds, head_holds, head_is, head_struct_is}
-use Rattle.cg_cparts.proofs.Known.{Means, means, seen}
-use Rattle.cg_cparts.proofs.Lists.{front}
+use Rattle.cg_cread_parts.specs.Declarations.{row_is_whole}
+use Rattle.cg_cread_parts.specs.Heads.{head_end, head_struct, head_is_whole}
+use Rattle.cg_cread_parts.specs.Symbols.{Symbol, begin, end, semicolon, first_include, second_include, symbol_of}
+use Rattle.cg_cread_parts.specs.declared.declaration.Declaration.TheVariants.{Wanted}
+use Rattle.cg_cread_parts.specs.declared.declaration.Row.{Row}
+use Rattle.cg_cread_parts.specs.declared.head.Head.{Head}
+use Rattle.cg_cread_parts.specs.declared.head.Signature.{Signature}
+use Rattle.cg_cread_parts.proofs.DeclarationSound.{RowRead, HeadRead, HeadIs, StructIs, declaration_holds, row_holds, head_holds, head_is, head_struct_is}
+use Rattle.cg_cread_parts.proofs.Known.{Means, means, seen}
+use Rattle.cg_cread_parts.proofs.Lists.{front}
 use Rattle.cg_cread.specs.Bodies.{Body, Closed, body_step, body_end, body_is_closed}
 use Rattle.cg_cread.specs.Machine.{State, Start, First, Second, Between, InHead, InMembers, MembersClosed, InBody, Failed, nothing, with_struct, with_function, on_start, on_first, on_item, defined, members, declared, on_head, structured, on_members, on_struct, closed, in_body, at, step, finish}
 use Rattle.cg_cread.proofs.BodySound.{BodyRead, body_holds, whole_read}

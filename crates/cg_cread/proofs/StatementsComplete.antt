@@ -7,18 +7,18 @@ use Rattle.cg_ctree.specs.declared.tree.COpnd.{COpnd}
 use Rattle.cg_ctree.specs.Spells.{mark, token, ReadsTest, ReadsStmt, ReadsBlock, ReadsCases}
 use Rattle.cg_ctree.specs.Tokens.{Lexeme}
 use Rattle.cg_ctree.specs.Trees.{Stmt, assign, branch, while, switch, call, return', Block, stop, also, Cases, end, case, Case, to_block, to_cases, Program}
-use Rattle.cg_cpieces.specs.Lines.{line_begin, line_step, line_end}
-use Rattle.cg_cparts.specs.Symbols.{Symbol, named, keyed, count, begin, colon, semicolon, is_end, is_type, symbol_of, token_of}
-use Rattle.cg_cparts.specs.Symbols as symbols
-use Rattle.cg_cparts.specs.declared.head.Signature.{Signature}
-use Rattle.cg_cpieces.specs.declared.line.Test.{Test}
-use Rattle.cg_cpieces.specs.declared.line.Test.TheVariants as test
-use Rattle.cg_cpieces.specs.declared.line.Line.{Line}
-use Rattle.cg_cpieces.specs.declared.line.Line.TheVariants as line
-use Rattle.cg_cparts.specs.declared.symbol.Keyword.{Keyword}
-use Rattle.cg_cparts.specs.declared.symbol.Keyword.TheVariants as key
-use Rattle.cg_cparts.proofs.Known.{Fits, back}
-use Rattle.cg_cpieces.proofs.LineComplete.{assign_read, call_read, return_read, test_read}
+use Rattle.cg_cread_pieces.specs.Lines.{line_begin, line_step, line_end}
+use Rattle.cg_cread_parts.specs.Symbols.{Symbol, named, keyed, count, begin, colon, semicolon, is_end, is_type, symbol_of, token_of}
+use Rattle.cg_cread_parts.specs.Symbols as symbols
+use Rattle.cg_cread_parts.specs.declared.head.Signature.{Signature}
+use Rattle.cg_cread_pieces.specs.declared.line.Test.{Test}
+use Rattle.cg_cread_pieces.specs.declared.line.Test.TheVariants as test
+use Rattle.cg_cread_pieces.specs.declared.line.Line.{Line}
+use Rattle.cg_cread_pieces.specs.declared.line.Line.TheVariants as line
+use Rattle.cg_cread_parts.specs.declared.symbol.Keyword.{Keyword}
+use Rattle.cg_cread_parts.specs.declared.symbol.Keyword.TheVariants as key
+use Rattle.cg_cread_parts.proofs.Known.{Fits, back}
+use Rattle.cg_cread_pieces.proofs.LineComplete.{assign_read, call_read, return_read, test_read}
 use Rattle.cg_cread.specs.Blocks.{Level, Arms, Yes, No, Loop, InCase, Frame, frame, Gap, BehindYes, BehindElse, CaseWanted, CaseRead, Tagged, ColonRead, CaseClosed, BreakRead}
 use Rattle.cg_cread.specs.Bodies.{Nest, Statements, InLine, InGap, ended, on_test, case_at}
 use Rattle.cg_cread.specs.Machine.{State, InBody, in_body}

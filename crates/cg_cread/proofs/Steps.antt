@@ -7,18 +7,18 @@ use Rattle.cg_ctree.specs.declared.tree.CDecl.{CDecl}
 use Rattle.cg_ctree.specs.Spells.{token}
 use Rattle.cg_ctree.specs.Tokens.{Lexeme}
 use Rattle.cg_ctree.specs.Trees.{Stmt, Program}
-use Rattle.cg_cparts.specs.Declarations.{is_whole, row_step}
-use Rattle.cg_cparts.specs.Heads.{head_step}
-use Rattle.cg_cpieces.specs.Lines.{line_begin, line_step}
-use Rattle.cg_cparts.specs.Symbols.{Symbol, begin, end, semicolon, is_type, goes_on, is_end, token_of}
-use Rattle.cg_cparts.specs.declared.declaration.Declaration.{Declaration}
-use Rattle.cg_cparts.specs.declared.declaration.Declaration.TheVariants.{Wanted}
-use Rattle.cg_cparts.specs.declared.declaration.Row.{Row}
-use Rattle.cg_cparts.specs.declared.head.Head.{Head}
-use Rattle.cg_cparts.specs.declared.head.Signature.{Signature}
-use Rattle.cg_cpieces.specs.declared.line.Line.{Line}
-use Rattle.cg_cparts.proofs.DeclarationComplete.{in_row, in_a_row, in_head}
-use Rattle.cg_cparts.proofs.Known.{Fits, back}
+use Rattle.cg_cread_parts.specs.Declarations.{is_whole, row_step}
+use Rattle.cg_cread_parts.specs.Heads.{head_step}
+use Rattle.cg_cread_pieces.specs.Lines.{line_begin, line_step}
+use Rattle.cg_cread_parts.specs.Symbols.{Symbol, begin, end, semicolon, is_type, goes_on, is_end, token_of}
+use Rattle.cg_cread_parts.specs.declared.declaration.Declaration.{Declaration}
+use Rattle.cg_cread_parts.specs.declared.declaration.Declaration.TheVariants.{Wanted}
+use Rattle.cg_cread_parts.specs.declared.declaration.Row.{Row}
+use Rattle.cg_cread_parts.specs.declared.head.Head.{Head}
+use Rattle.cg_cread_parts.specs.declared.head.Signature.{Signature}
+use Rattle.cg_cread_pieces.specs.declared.line.Line.{Line}
+use Rattle.cg_cread_parts.proofs.DeclarationComplete.{in_row, in_a_row, in_head}
+use Rattle.cg_cread_parts.proofs.Known.{Fits, back}
 use Rattle.cg_cread.specs.Blocks.{Frame}
 use Rattle.cg_cread.specs.Bodies.{Nest, Body, Locals, Statements, InLine, on_statements, on_statement, on_locals, nest}
 use Rattle.cg_cread.specs.Bodies as bodies

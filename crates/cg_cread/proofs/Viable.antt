@@ -8,26 +8,26 @@ use Rattle.cg_ctree.specs.declared.tree.COpnd.{COpnd}
 use Rattle.cg_ctree.specs.Spells.{SpellsTokens}
 use Rattle.cg_ctree.specs.Tokens.{Lexeme}
 use Rattle.cg_ctree.specs.Trees.{Stmt, switch, Case, to_cases, Program}
-use Rattle.cg_cparts.specs.Declarations.{row, row_step, row_is_open}
-use Rattle.cg_cparts.specs.Heads.{head_step, head_end, head_struct, head_is_whole, head_is_open}
-use Rattle.cg_cpieces.specs.Lines.{line_step, line_end, line_is_open}
-use Rattle.cg_cparts.specs.Symbols.{Symbol, keyed, count, begin, end, semicolon, colon, first_include, second_include, is_type, goes_on, token_of, symbol_of}
-use Rattle.cg_cparts.specs.declared.declaration.Declaration.TheVariants.{Wanted}
-use Rattle.cg_cparts.specs.declared.declaration.Row.{Row}
-use Rattle.cg_cparts.specs.declared.head.Signature.{Signature}
-use Rattle.cg_cparts.specs.declared.head.Head.{Head}
-use Rattle.cg_cparts.specs.declared.head.Head.TheVariants as head
-use Rattle.cg_cpieces.specs.declared.line.Test.{Test}
-use Rattle.cg_cpieces.specs.declared.line.Test.TheVariants as test
-use Rattle.cg_cpieces.specs.declared.line.Line.{Line}
-use Rattle.cg_cpieces.specs.declared.line.Line.TheVariants as line
-use Rattle.cg_cparts.specs.declared.symbol.Keyword.TheVariants as key
-use Rattle.cg_cparts.proofs.DeclarationComplete.{in_a_row, in_head}
-use Rattle.cg_cparts.proofs.Known.{Fits, back}
-use Rattle.cg_cparts.proofs.Shut.{row_not_whole, row_shut, head_none, no_head_struct, head_shut}
-use Rattle.cg_cparts.proofs.Viable.{Feeds, FeedsAt, row_viable, head_viable}
-use Rattle.cg_cpieces.proofs.Shut.{line_none, no_test, line_shut}
-use Rattle.cg_cpieces.proofs.Viable.{line_viable}
+use Rattle.cg_cread_parts.specs.Declarations.{row, row_step, row_is_open}
+use Rattle.cg_cread_parts.specs.Heads.{head_step, head_end, head_struct, head_is_whole, head_is_open}
+use Rattle.cg_cread_pieces.specs.Lines.{line_step, line_end, line_is_open}
+use Rattle.cg_cread_parts.specs.Symbols.{Symbol, keyed, count, begin, end, semicolon, colon, first_include, second_include, is_type, goes_on, token_of, symbol_of}
+use Rattle.cg_cread_parts.specs.declared.declaration.Declaration.TheVariants.{Wanted}
+use Rattle.cg_cread_parts.specs.declared.declaration.Row.{Row}
+use Rattle.cg_cread_parts.specs.declared.head.Signature.{Signature}
+use Rattle.cg_cread_parts.specs.declared.head.Head.{Head}
+use Rattle.cg_cread_parts.specs.declared.head.Head.TheVariants as head
+use Rattle.cg_cread_pieces.specs.declared.line.Test.{Test}
+use Rattle.cg_cread_pieces.specs.declared.line.Test.TheVariants as test
+use Rattle.cg_cread_pieces.specs.declared.line.Line.{Line}
+use Rattle.cg_cread_pieces.specs.declared.line.Line.TheVariants as line
+use Rattle.cg_cread_parts.specs.declared.symbol.Keyword.TheVariants as key
+use Rattle.cg_cread_parts.proofs.DeclarationComplete.{in_a_row, in_head}
+use Rattle.cg_cread_parts.proofs.Known.{Fits, back}
+use Rattle.cg_cread_parts.proofs.Shut.{row_not_whole, row_shut, head_none, no_head_struct, head_shut}
+use Rattle.cg_cread_parts.proofs.Viable.{Feeds, FeedsAt, row_viable, head_viable}
+use Rattle.cg_cread_pieces.proofs.Shut.{line_none, no_test, line_shut}
+use Rattle.cg_cread_pieces.proofs.Viable.{line_viable}
 use Rattle.cg_cread.specs.Blocks as blocks
 use Rattle.cg_cread.specs.Blocks.{Level, Arms, Opened, Yes, No, Loop, InCase, Frame, frame, Gap, BehindYes, BehindElse, CaseWanted, CaseRead, Tagged, ColonRead, CaseClosed, BreakRead, with_case, switched, gap_is_open}
 use Rattle.cg_cread.specs.Bodies as bodies

@@ -1,8 +1,8 @@
 -- What stands behind the tokens that were walked so far, in each whole division of a text.
 use Rattle.std.proofs.Common.{◌≡◌, ℕ, List, [], ◌∷◌, refl, sym, ap, subst}
 use Rattle.cg_base.specs.declared.place.Place.{Place}
-use Rattle.cg_clexer.proofs.Walking.{walks_divide, none_at_finish, none_at_unknown, no_gap_at_unknown}
-use Rattle.cg_clexer.specs.Next.{Cursor, Stands, IsUnknown, Finishes, Walks}
+use Rattle.cg_cread_lexer.proofs.Walking.{walks_divide, none_at_finish, none_at_unknown, no_gap_at_unknown}
+use Rattle.cg_cread_lexer.specs.Next.{Cursor, Stands, IsUnknown, Finishes, Walks}
 use Rattle.cg_ctree.proofs.Division.{none_at_end, one_token}
 use Rattle.cg_ctree.specs.Tokens.{Lexeme, Divides, Lexes}
 

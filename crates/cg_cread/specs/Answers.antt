@@ -6,7 +6,7 @@ use Rattle.cg_ctree.specs.declared.tree.CProgram.{CProgram}
 use Rattle.cg_ctree.specs.Spells.{SpellsTokens, CSpells}
 use Rattle.cg_ctree.specs.Tokens.{Lexeme}
 use Rattle.cg_ctree.specs.Trees.{Program, program_of}
-use Rattle.cg_clexer.specs.Next.{Cursor, start, Stands, IsUnknown, Finishes, Walks}
+use Rattle.cg_cread_lexer.specs.Next.{Cursor, start, Stands, IsUnknown, Finishes, Walks}
 use Rattle.cg_cread.specs.declared.fault.CFault.{CFault}
 use Rattle.cg_cread.specs.declared.fault.CFault.TheVariants.{Text, Memory}
 

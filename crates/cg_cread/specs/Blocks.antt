@@ -3,8 +3,8 @@
 use Rattle.std.specs.Prelude.{ℕ, Bool, true, false, List, [], ◌∷◌, ◌++◌, Option, Some, None}
 use Rattle.cg_ctree.specs.declared.tree.COpnd.{COpnd}
 use Rattle.cg_ctree.specs.Trees.{Stmt, switch, Case, to_cases}
-use Rattle.cg_cparts.specs.Symbols.{Symbol, keyed, count, colon, semicolon}
-use Rattle.cg_cparts.specs.declared.symbol.Keyword.TheVariants as key
+use Rattle.cg_cread_parts.specs.Symbols.{Symbol, keyed, count, colon, semicolon}
+use Rattle.cg_cread_parts.specs.declared.symbol.Keyword.TheVariants as key
 
 -- a block so far: how many statements may be open inside each other in it, and its statements ("The C text", depth)
 pub record Level : Type 0 where

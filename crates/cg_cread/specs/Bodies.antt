@@ -6,14 +6,14 @@ use Rattle.cg_ctree.specs.declared.tree.COpnd.{COpnd}
 use Rattle.cg_ctree.specs.Spells.{most_open}
 use Rattle.cg_ctree.specs.Trees.{Stmt, branch, while, Case, to_block, Function}
 use Rattle.cg_ctree.specs.Trees as trees
-use Rattle.cg_cparts.specs.Declarations.{row_step, row_is_whole, row_is_open}
-use Rattle.cg_cpieces.specs.Lines.{line_begin, line_step, line_end, line_test, line_is_open}
-use Rattle.cg_cparts.specs.Symbols.{Symbol, begin, end, semicolon, is_type}
-use Rattle.cg_cparts.specs.declared.declaration.Row.{Row}
-use Rattle.cg_cparts.specs.declared.head.Signature.{Signature}
-use Rattle.cg_cpieces.specs.declared.line.Test.{Test}
-use Rattle.cg_cpieces.specs.declared.line.Test.TheVariants as test
-use Rattle.cg_cpieces.specs.declared.line.Line.{Line}
+use Rattle.cg_cread_parts.specs.Declarations.{row_step, row_is_whole, row_is_open}
+use Rattle.cg_cread_pieces.specs.Lines.{line_begin, line_step, line_end, line_test, line_is_open}
+use Rattle.cg_cread_parts.specs.Symbols.{Symbol, begin, end, semicolon, is_type}
+use Rattle.cg_cread_parts.specs.declared.declaration.Row.{Row}
+use Rattle.cg_cread_parts.specs.declared.head.Signature.{Signature}
+use Rattle.cg_cread_pieces.specs.declared.line.Test.{Test}
+use Rattle.cg_cread_pieces.specs.declared.line.Test.TheVariants as test
+use Rattle.cg_cread_pieces.specs.declared.line.Line.{Line}
 use Rattle.cg_cread.specs.Blocks.{Level, Opened, Yes, No, Loop, InCase, Frame, frame, Gap, BehindYes, CaseWanted, CaseClosed, no_case, gap_step, gap_opens, gap_end, gap_is_open}
 
 -- a function so far: its head, its locals, what is open, the innermost first, and the block that is read ("The C text", `decl`)

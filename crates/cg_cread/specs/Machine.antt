@@ -7,14 +7,14 @@ use Rattle.cg_ctree.specs.Tokens.{Lexeme}
 use Rattle.cg_ctree.specs.Trees.{Function, Program}
 use Rattle.cg_cread.specs.Bodies as bodies
 use Rattle.cg_cread.specs.Bodies.{Body, with_body, body_step, body_end, body_is_closed, body_is_open}
-use Rattle.cg_cparts.specs.Declarations.{declaration_step, row, row_step, row_is_whole, row_is_open}
-use Rattle.cg_cparts.specs.Heads.{head_step, head_end, head_struct, head_is_whole, head_is_open}
-use Rattle.cg_cparts.specs.Symbols.{Symbol, symbol_of, begin, end, semicolon, first_include, second_include}
-use Rattle.cg_cparts.specs.declared.declaration.Declaration.TheVariants.{Wanted}
-use Rattle.cg_cparts.specs.declared.declaration.Row.{Row}
-use Rattle.cg_cparts.specs.declared.head.Signature.{Signature}
-use Rattle.cg_cparts.specs.declared.head.Head.{Head}
-use Rattle.cg_cparts.specs.declared.head.Head.TheVariants.{InName}
+use Rattle.cg_cread_parts.specs.Declarations.{declaration_step, row, row_step, row_is_whole, row_is_open}
+use Rattle.cg_cread_parts.specs.Heads.{head_step, head_end, head_struct, head_is_whole, head_is_open}
+use Rattle.cg_cread_parts.specs.Symbols.{Symbol, symbol_of, begin, end, semicolon, first_include, second_include}
+use Rattle.cg_cread_parts.specs.declared.declaration.Declaration.TheVariants.{Wanted}
+use Rattle.cg_cread_parts.specs.declared.declaration.Row.{Row}
+use Rattle.cg_cread_parts.specs.declared.head.Signature.{Signature}
+use Rattle.cg_cread_parts.specs.declared.head.Head.{Head}
+use Rattle.cg_cread_parts.specs.declared.head.Head.TheVariants.{InName}
 
 -- where in a file the machine stands: at its beginning, behind the first include line, behind the second one, or, with the structs
 -- and functions before, behind one of these, in a function's head or a struct's name, in the members of a struct, behind their `}`,

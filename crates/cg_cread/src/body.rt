@@ -2,15 +2,15 @@
 ghost use Rattle.std.specs.Prelude.{◌≡◌, IfOk};
 ghost use Rattle.std.specs.Option.{option_map};
 ghost use Rattle.cg_ctree.specs.Trees.{stmt_of, function_of};
-ghost use Rattle.cg_cparts.specs.Views.{symbol_view};
+ghost use Rattle.cg_cread_parts.specs.Views.{symbol_view};
 ghost use Rattle.cg_cread.specs.Bodies as machine;
 ghost use Rattle.cg_cread.specs.Views.{level_of, opened_of, gap_of, nest_of, body_of};
 
 use crate::block::{Arms, Frame, Level, Opened, Stack};
 use crate::gap::Gap;
 use cg_base::{Items, Memory};
-use cg_cparts::{Row, Signature, Symbol};
-use cg_cpieces::{Line, Test};
+use cg_cread_parts::{Row, Signature, Symbol};
+use cg_cread_pieces::{Line, Test};
 use cg_ctree::{CBody, CCase, CDecl, CFun, COpnd, CStmt};
 use std::alloc::Global;
 

@@ -1,8 +1,8 @@
 // Reading a file, one token at a time.
 ghost use Rattle.std.specs.Prelude.{◌≡◌, IfOk};
 ghost use Rattle.std.specs.Option.{option_map};
-ghost use Rattle.cg_clexer.specs.Next.{lexeme};
-ghost use Rattle.cg_cparts.specs.Views.{symbol_view};
+ghost use Rattle.cg_cread_lexer.specs.Next.{lexeme};
+ghost use Rattle.cg_cread_parts.specs.Views.{symbol_view};
 ghost use Rattle.cg_ctree.specs.Trees.{function_of, program_of};
 ghost use Rattle.cg_cread.specs.Bodies as bodies;
 ghost use Rattle.cg_cread.specs.Machine as machine;
@@ -11,8 +11,8 @@ ghost use Rattle.cg_cread.specs.Views.{body_of, done_of, state_of, Concludes};
 use crate::CFault;
 use crate::body::Body;
 use cg_base::{Items, Memory, Name, Place};
-use cg_clexer::Token;
-use cg_cparts::{Declaration, Head, Row, Signature, Symbol, symbol_at};
+use cg_cread_lexer::Token;
+use cg_cread_parts::{Declaration, Head, Row, Signature, Symbol, symbol_at};
 use cg_ctree::{CDecl, CFun, CProgram, CStruct};
 use std::alloc::Global;
 use std::mem::drop;

@@ -2,13 +2,13 @@
 ghost use Rattle.std.specs.Prelude.{◌≡◌, IfOk, map};
 ghost use Rattle.std.specs.Option.{option_map};
 ghost use Rattle.cg_ctree.specs.Trees.{stmt_of, case_of};
-ghost use Rattle.cg_cparts.specs.Views.{symbol_view};
+ghost use Rattle.cg_cread_parts.specs.Views.{symbol_view};
 ghost use Rattle.cg_cread.specs.Blocks as machine;
 ghost use Rattle.cg_cread.specs.Views.{arms_of, opened_of, gap_of};
 
 use crate::block::{Arms, Opened};
 use cg_base::{Items, Memory};
-use cg_cparts::{Keyword, Symbol};
+use cg_cread_parts::{Keyword, Symbol};
 use cg_ctree::{CCase, COpnd, CStmt};
 
 /// Where between blocks the reader stands: behind the first part of an `if` or behind `else`; in a `switch` before a case, behind

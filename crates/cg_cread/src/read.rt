@@ -5,7 +5,7 @@ ghost use Rattle.cg_cread.specs.Answers.{Answers};
 use crate::CFault;
 use crate::file::Phase;
 use cg_base::Place;
-use cg_clexer::{Lexer, TokenKind};
+use cg_cread_lexer::{Lexer, TokenKind};
 use cg_ctree::CProgram;
 use std::alloc::Global;
 use std::mem::drop;

@@ -1,3 +1,2 @@
 pub mod Division
-pub mod Example
 pub mod Munch

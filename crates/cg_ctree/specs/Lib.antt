@@ -1,5 +1,4 @@
 pub mod Laws
-pub mod Runs
 pub mod Spells
 pub mod Tokens
 pub mod Trees

@@ -1,5 +1,4 @@
-//! Programs of the C subset as trees, and what they do. docs/LANGUAGE.md, "The C subset", says it in words. What a program
-//! does is defined here for words, and so is what spells one; structs, pointers and the heap join later.
+//! Programs of the C subset as trees, and the texts that spell them. docs/LANGUAGE.md, "The C subset", says it in words.
 #![tactic(auto)]
 
 mod law;

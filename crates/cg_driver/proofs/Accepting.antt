@@ -8,25 +8,25 @@ use Rattle.cg_cert.specs.declared.cert.Cert.{Cert}
 use Rattle.cg_cert.specs.Texts.{CertText}
 use Rattle.cg_certcheck_laws.specs.Laws.{SpellsDerivation}
 use Rattle.cg_check.specs.Judged.{AreTypesWithin}
-use Rattle.cg_circles.specs.Circles.{NoCircle}
-use Rattle.cg_collect.specs.Collected.{Copy}
-use Rattle.cg_desugar.specs.Faults.{program_faults}
-use Rattle.cg_desugar.specs.Mentions.{mentions}
-use Rattle.cg_desugar.specs.Takes.{missing_fields, widest_part, largest_type}
+use Rattle.cg_graphs.specs.Circles.{NoCircle}
+use Rattle.cg_lower.specs.Collected.{Copy}
+use Rattle.cg_resolve_def.specs.Faults.{program_faults}
+use Rattle.cg_resolve_def.specs.Mentions.{mentions}
+use Rattle.cg_resolve_def.specs.Takes.{missing_fields, widest_part, largest_type}
 use Rattle.cg_parser.specs.Grammar.{Spells}
 use Rattle.cg_parser.specs.Answers.{depth_limit}
 use Rattle.cg_surface.specs.Programs.{Entry, program_depth}
 use Rattle.cg_typing.specs.Accepted.{IsAcceptedKernel}
 use Rattle.cg_core.specs.Kernels.{Function}
-use Rattle.cg_desugar.specs.Desugar.{functions_of, functions_limit, parts_limit, type_limit, term_limit, deepest_body}
+use Rattle.cg_resolve_def.specs.Desugar.{functions_of, functions_limit, parts_limit, type_limit, term_limit, deepest_body}
 use Rattle.cg_outside.specs.Held.{Held, IsReadOf, bytes_at, with_file}
-use Rattle.cg_steps.specs.declared.status.Status.TheVariants.{Done}
-use Rattle.cg_steps.specs.World.{World, calm}
-use Rattle.cg_steps.specs.Steps.{goes, Step, Runs, Settles, judged_first}
-use Rattle.cg_steps.specs.Scripts.{ComesTo}
-use Rattle.cg_steps.proofs.Joining.{judged_runs}
-use Rattle.cg_steps.proofs.Topping.{came_done}
-use Rattle.cg_words.specs.Words.{Command, check, build, recheck, run}
+use Rattle.cg_driver_steps.specs.declared.status.Status.TheVariants.{Done}
+use Rattle.cg_driver_steps.specs.World.{World, calm}
+use Rattle.cg_driver_steps.specs.Steps.{goes, Step, Runs, Settles, judged_first}
+use Rattle.cg_driver_steps.specs.Scripts.{ComesTo}
+use Rattle.cg_driver_steps.proofs.Joining.{judged_runs}
+use Rattle.cg_driver_steps.proofs.Topping.{came_done}
+use Rattle.cg_driver_words.specs.Words.{Command, check, build, recheck, run}
 use Rattle.cg_driver.specs.Accepted.{BuildWrites, HasKernel, IsAcceptedSource, IsBuiltSource, IsCertifiedSource, WritesItsOwn}
 use Rattle.cg_driver.specs.Commands.{Judgement, spelled, within, acyclic, with_fields, written, certified, instanced, certifiable, Judges, kernel_rules, resolving_rules, reading_rules, source_rules, built_rules, certificate_rules, reads_source, build_steps, writes_both, certificate_steps, recheck_steps, script_of}
 use Rattle.cg_driver.specs.Found.{Found, nothing, with_source, with_program, with_copies, with_certificate, with_cert, functions, source_limit, certificate_limit}

@@ -10,15 +10,15 @@ use Rattle.cg_cert.proofs.Marked.{kept as are_marked}
 use Rattle.cg_cert.proofs.Printed.{printed as certificate_printed}
 use Rattle.cg_cert.specs.Certificates.{certificate}
 use Rattle.cg_cert.specs.Texts.{text as text_of}
-use Rattle.cg_check_laws.specs.Kept.{function_tree}
-use Rattle.cg_collect.specs.Copies.{copies_of, pair_of}
+use Rattle.cg_check_def.specs.Kept.{function_tree}
+use Rattle.cg_lower.specs.Copies.{copies_of, pair_of}
 use Rattle.cg_core.specs.declared.kernel.KFun.{KFun}
 use Rattle.cg_core.specs.declared.kernel.Kernel.{Kernel}
 use Rattle.cg_core.specs.Kernels.{function_of, kernel_of}
 use Rattle.cg_ctext.specs.Printed.{printed}
 use Rattle.cg_ctree.specs.Spells.{CSpells, IsPrintable}
 use Rattle.cg_ctree.specs.Trees.{Program}
-use Rattle.cg_desugar.specs.Desugar.{deepest_body}
+use Rattle.cg_resolve_def.specs.Desugar.{deepest_body}
 use Rattle.cg_inst.specs.Answered.{Answers}
 use Rattle.cg_inst.specs.declared.fault.InstFault.TheVariants.{Limit as OverLimit}
 use Rattle.cg_inst.specs.Judged.{AreTooMany, HaveLargeTypes, HaveTooManyNodes, IsWithin, core_in}
@@ -31,12 +31,12 @@ use Rattle.cg_mono.specs.Copies.{copy_of}
 use Rattle.cg_mono.specs.declared.copies.Copy.{Copy as OneCopy}
 use Rattle.cg_mono.specs.declared.copies.Mono.{Mono}
 use Rattle.cg_mono.specs.Monos.{copies_in as kept_copies}
-use Rattle.cg_source_laws.specs.Laws.{SourcesPrint, copies_in, copies_over}
-use Rattle.cg_steps.specs.declared.report.Report.{Report}
-use Rattle.cg_steps.specs.declared.report.Step.{Step}
-use Rattle.cg_steps.specs.declared.status.Status.TheVariants.{Done, TooLarge}
-use Rattle.cg_steps.specs.Parts.{IsLine, Judged, Rules, Steps}
-use Rattle.cg_steps.specs.Steps.{goes}
+use Rattle.cg_driver_laws.specs.Laws.{SourcesPrint, copies_in, copies_over}
+use Rattle.cg_driver_steps.specs.declared.report.Report.{Report}
+use Rattle.cg_driver_steps.specs.declared.report.Step.{Step}
+use Rattle.cg_driver_steps.specs.declared.status.Status.TheVariants.{Done, TooLarge}
+use Rattle.cg_driver_steps.specs.Parts.{IsLine, Judged, Rules, Steps}
+use Rattle.cg_driver_steps.specs.Steps.{goes}
 use Rattle.cg_typing.specs.declared.checked.Checked.{Checked}
 use Rattle.cg_typing.specs.Holds.{cores_in, kernel_in, trees_in}
 use Rattle.cg_typing.specs.Instances.{Entry, Instance}

@@ -10,15 +10,15 @@ use Rattle.cg_cert.specs.declared.fault.CertFault.TheVariants.{C1, C2, C3, Limit
 use Rattle.cg_certcheck.proofs.FaultKinds.{node_fault}
 use Rattle.cg_certcheck.specs.Judged.{IsNodeFault}
 use Rattle.cg_certcheck_laws.proofs.Main.{decide}
-use Rattle.cg_certcheck_laws.specs.Events.{Event, event, AllHold, cert_events, first_failing}
+use Rattle.cg_certcheck_def.specs.Events.{Event, event, AllHold, cert_events, first_failing}
 use Rattle.cg_certcheck_laws.specs.Laws.{SpellsDerivation}
 use Rattle.cg_check.specs.Judged.{AreTypesWithin}
 use Rattle.cg_core.specs.Kernels.{Function}
-use Rattle.cg_lawful.specs.Lawful.{IsLawfulKernel}
-use Rattle.cg_steps.specs.declared.status.Status.{Status}
-use Rattle.cg_steps.specs.declared.status.Status.TheVariants.{Usage, CertRefused, TooLarge}
-use Rattle.cg_steps.specs.Scripts.{IsRuling}
-use Rattle.cg_steps.specs.Steps.{Outcome, refuses, goes}
+use Rattle.cg_core_def.specs.Lawful.{IsLawfulKernel}
+use Rattle.cg_driver_steps.specs.declared.status.Status.{Status}
+use Rattle.cg_driver_steps.specs.declared.status.Status.TheVariants.{Usage, CertRefused, TooLarge}
+use Rattle.cg_driver_steps.specs.Scripts.{IsRuling}
+use Rattle.cg_driver_steps.specs.Steps.{Outcome, refuses, goes}
 use Rattle.cg_driver.specs.Commands.{certified, Judges, RefusesNode, broken_row, out_of_place, too_large}
 use Rattle.cg_driver.specs.Found.{Found, functions}
 use Rattle.cg_driver.specs.Lines.{limit_line, node_line}

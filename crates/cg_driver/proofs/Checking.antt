@@ -5,10 +5,10 @@ use Rattle.cg_base.specs.declared.memory.Memory.{Memory}
 use Rattle.cg_core.specs.declared.kernel.KFun.{KFun}
 use Rattle.cg_core.specs.declared.kernel.Kernel.{Kernel}
 use Rattle.cg_core.specs.Kernels.{function_of, kernel_of}
-use Rattle.cg_steps.specs.declared.report.Report.{Report}
-use Rattle.cg_steps.specs.declared.status.Status.TheVariants.{Done}
-use Rattle.cg_steps.specs.Steps.{goes}
-use Rattle.cg_steps.specs.Parts.{IsLine, Rules}
+use Rattle.cg_driver_steps.specs.declared.report.Report.{Report}
+use Rattle.cg_driver_steps.specs.declared.status.Status.TheVariants.{Done}
+use Rattle.cg_driver_steps.specs.Steps.{goes}
+use Rattle.cg_driver_steps.specs.Parts.{IsLine, Rules}
 use Rattle.cg_typing.specs.declared.checked.Checked.{Checked}
 use Rattle.cg_typing.specs.Holds.{kernel_in}
 use Rattle.cg_driver.specs.Commands.{Judges, checked_line}

@@ -4,7 +4,7 @@ use Rattle.std.specs.Prelude.{IfOk, string_bytes}
 use Rattle.cg_base.specs.declared.fun.Fun.TheVariants.{User}
 use Rattle.cg_base.specs.declared.memory.Memory.{Memory}
 use Rattle.cg_base.specs.declared.place.Place.{Place}
-use Rattle.cg_collect.specs.Collected.{Copy}
+use Rattle.cg_lower.specs.Collected.{Copy}
 use Rattle.cg_core.specs.declared.term.Term.{Term}
 use Rattle.cg_core.specs.declared.term.Typed.{Typed}
 use Rattle.cg_cread.specs.Answers.{Answers}
@@ -13,12 +13,12 @@ use Rattle.cg_ctree.specs.declared.tree.CProgram.{CProgram}
 use Rattle.cg_ctree.specs.Spells.{CSpells}
 use Rattle.cg_ctree.specs.Trees.{Program, program_of}
 use Rattle.cg_inst.specs.Judged.{core_in}
-use Rattle.cg_lower_laws.specs.Lowered.{function_name}
+use Rattle.cg_lower_def.specs.Lowered.{function_name}
 use Rattle.cg_lower.specs.Promises.{IsSimulated}
-use Rattle.cg_machine.specs.Evaluation.{Table, evaluation, IsSpent}
-use Rattle.cg_machine.specs.Foreigns.{table_of, table_over}
-use Rattle.cg_source_laws.specs.Laws.{EntriesRun, copies_in}
-use Rattle.cg_source_laws.specs.Runs.{RunsTo}
+use Rattle.cg_eval_def.specs.Evaluation.{Table, evaluation, IsSpent}
+use Rattle.cg_eval_def.specs.Foreigns.{table_of, table_over}
+use Rattle.cg_driver_laws.specs.Laws.{EntriesRun, copies_in}
+use Rattle.cg_cmachine_def.specs.WordRuns.{RunsTo}
 use Rattle.cg_typing.specs.declared.checked.Checked.{Checked}
 use Rattle.cg_typing.specs.Holds.{cores_in, kept_at}
 use Rattle.cg_typing.specs.Instances.{Instance}
@@ -27,11 +27,11 @@ use Rattle.cg_value.specs.NoForeign.{no_foreign}
 use Rattle.cg_value.specs.declared.value.Value.{the_lemmas}
 use Rattle.cg_value.specs.declared.value.Value.TheVariants.{Num}
 use Rattle.cg_value.specs.Values.{Val, value_of, number, function}
-use Rattle.cg_steps.specs.declared.report.Report.{Report}
-use Rattle.cg_steps.specs.declared.status.Status.{Status}
-use Rattle.cg_steps.specs.declared.status.Status.TheVariants.{Done, Refused, Usage, ReadFault, WriteFault, Memory as NoMemory, StepLimit, HeapRefused, CertRefused, TooLarge}
-use Rattle.cg_steps.specs.Steps.{refuses, goes}
-use Rattle.cg_steps.specs.Parts.{IsLine, Reports, Rules}
+use Rattle.cg_driver_steps.specs.declared.report.Report.{Report}
+use Rattle.cg_driver_steps.specs.declared.status.Status.{Status}
+use Rattle.cg_driver_steps.specs.declared.status.Status.TheVariants.{Done, Refused, Usage, ReadFault, WriteFault, Memory as NoMemory, StepLimit, HeapRefused, CertRefused, TooLarge}
+use Rattle.cg_driver_steps.specs.Steps.{refuses, goes}
+use Rattle.cg_driver_steps.specs.Parts.{IsLine, Reports, Rules}
 use Rattle.cg_driver.specs.Built.{CanRun, KeepsCopies}
 use Rattle.cg_driver.specs.Commands.{Judges, evaluated, ran_lines}
 use Rattle.cg_driver.specs.Executed.{cores_of, Emits, Ends, Gives, Machines, Executes}

@@ -3,13 +3,13 @@ use Rattle.std.proofs.Common.{◌≡◌, ◌∙◌, ◌+◌, ◌≤◌, ℕ, zer
 use Rattle.std.specs.Prelude.{slice_get}
 use Rattle.std.specs.List.{list_any}
 use Rattle.cg_base.specs.declared.limit.Limit.TheVariants as limits
-use Rattle.cg_collect.specs.Collected.{Copy}
+use Rattle.cg_lower.specs.Collected.{Copy}
 use Rattle.cg_core.specs.Kernels.{Function}
 use Rattle.cg_core.specs.Terms.{Note, Tree}
 use Rattle.cg_inst.specs.Judged.{AreTooMany, HaveLargeTypes, HaveTooManyNodes, IsWithin}
 use Rattle.cg_inst.specs.Lists.{Cores, HaveSmallTypes, IsList, after, gone_through, mentioned_by, most_instances, most_nodes, nodes_in, same_instance, with_instance, with_instances}
 use Rattle.cg_inst_laws.proofs.Growth.{one_list, stays}
-use Rattle.cg_source_laws.specs.Laws.{copies_over}
+use Rattle.cg_driver_laws.specs.Laws.{copies_over}
 use Rattle.cg_typing.specs.Instances.{Instance}
 use Rattle.cg_driver.specs.Instanced.{AreCores, HasInstances, PassesInstances, bodies_in, too_large, too_many, too_wide}
 use Rattle.cg_driver.specs.Lines.{limit_line, limit_name}

@@ -8,13 +8,13 @@ use Rattle.cg_cert.proofs.Complete.{one as one_certificate}
 use Rattle.cg_cert.proofs.OneByte.{one_byte, no_byte}
 use Rattle.cg_check.specs.Judged.{AreTypesWithin}
 use Rattle.cg_check_laws.proofs.OneFault.{one_fault}
-use Rattle.cg_collect.specs.Collected.{Copy}
+use Rattle.cg_lower.specs.Collected.{Copy}
 use Rattle.cg_core.specs.Kernels.{Function}
 use Rattle.cg_cread.proofs.One.{one_program as one_text}
-use Rattle.cg_crun.specs.Outcomes.{State, Outcome as Ended, done}
-use Rattle.cg_desugar.specs.Desugar.{entry_at as name_at}
-use Rattle.cg_desugar.specs.Faults.{NameFault, program_faults}
-use Rattle.cg_machine.specs.Evaluation.{evaluation}
+use Rattle.cg_cmachine_def.specs.Outcomes.{State, Outcome as Ended, done}
+use Rattle.cg_resolve_def.specs.Desugar.{entry_at as name_at}
+use Rattle.cg_resolve_def.specs.Faults.{NameFault, program_faults}
+use Rattle.cg_eval_def.specs.Evaluation.{evaluation}
 use Rattle.cg_faults.specs.declared.rule.Rule.{Rule}
 use Rattle.cg_faults.specs.Events.{kernel_events, first_failing}
 use Rattle.cg_faults.specs.Fails.{Fails}
@@ -23,27 +23,27 @@ use Rattle.cg_faults_laws.proofs.Occurring.{kernels_are_accepted_or_at_fault}
 use Rattle.cg_heap.specs.declared.cell.Scalar.{Scalar}
 use Rattle.cg_heap.specs.declared.cell.Scalar.TheVariants.{Word}
 use Rattle.cg_heaptext.proofs.Reading.{one_argument}
-use Rattle.cg_lawful.specs.Lawful.{IsLawfulKernel}
-use Rattle.cg_lower_laws.specs.Lowered.{function_name}
-use Rattle.cg_names.specs.Says.{IsFirst}
+use Rattle.cg_core_def.specs.Lawful.{IsLawfulKernel}
+use Rattle.cg_lower_def.specs.Lowered.{function_name}
+use Rattle.cg_resolve_names.specs.Says.{IsFirst}
 use Rattle.cg_parser.specs.Answers.{NoProgram, Answers as Parses}
 use Rattle.cg_parser.specs.declared.fault.ParseFault.{ParseFault}
 use Rattle.cg_parser.specs.declared.fault.ParseFault.TheVariants.{S1, S2, S3, S4, Memory as NoMemory}
 use Rattle.cg_parser.proofs.One.{one_program}
 use Rattle.cg_parser.proofs.Same.{one_answer as one_reading}
 use Rattle.cg_resolve.specs.Answers.{IsCircleAt}
-use Rattle.cg_source_laws.specs.Laws.{CopiesReachCells}
-use Rattle.cg_source_laws.specs.Runs.{RunsTo}
-use Rattle.cg_steps.specs.declared.status.Status.{Status}
-use Rattle.cg_steps.specs.declared.status.Status.TheVariants.{Refused, Usage, StepLimit, HeapRefused, CertRefused, TooLarge}
-use Rattle.cg_steps.specs.Steps.{Outcome, refuses, goes}
-use Rattle.cg_steps.specs.Scripts.{IsRuling}
+use Rattle.cg_driver_laws.specs.Laws.{CopiesReachCells}
+use Rattle.cg_cmachine_def.specs.WordRuns.{RunsTo}
+use Rattle.cg_driver_steps.specs.declared.status.Status.{Status}
+use Rattle.cg_driver_steps.specs.declared.status.Status.TheVariants.{Refused, Usage, StepLimit, HeapRefused, CertRefused, TooLarge}
+use Rattle.cg_driver_steps.specs.Steps.{Outcome, refuses, goes}
+use Rattle.cg_driver_steps.specs.Scripts.{IsRuling}
 use Rattle.cg_surface.specs.declared.program.Program.{Program}
 use Rattle.cg_surface.specs.Programs.{Entry}
-use Rattle.cg_takes.specs.Says as takes
+use Rattle.cg_resolve_takes.specs.Says as takes
 use Rattle.cg_typing.specs.Accepted.{IsAcceptedKernel}
 use Rattle.cg_value.specs.Values.{Val, number, function}
-use Rattle.cg_words.specs.Words.{Command, check, build, recheck, run}
+use Rattle.cg_driver_words.specs.Words.{Command, check, build, recheck, run}
 use Rattle.cg_driver.specs.Commands.{Judgement, no_command, within, spelled, named, acyclic, with_fields, typed, written, certified, instanced, certifiable, has_entry, allowed, concrete, on_words, heap_spelled, in_range, evaluated, RefusesSyntax, unknown_byte, open_comment, unexpected, wrong_bar, RefusesTyping, RefusesType, Judges, script_of}
 use Rattle.cg_driver.specs.Entered.{IsOnWords, NeedsMore, cells, other_type}
 use Rattle.cg_driver.specs.Found.{Found, with_program, with_copies, with_cert, with_entry, with_place, with_argument, with_value, functions}

@@ -8,8 +8,8 @@ use Rattle.cg_base.specs.declared.kind.Bound.{Bound}
 use Rattle.cg_base.specs.declared.kind.Word.TheVariants.{U32}
 use Rattle.cg_base.specs.declared.memory.Memory.{Memory}
 use Rattle.cg_base.specs.Types.{Tau, word, arrow}
-use Rattle.cg_cells.specs.Cells.{ReachesCells, bodies_of, instances_of}
-use Rattle.cg_collect.specs.Collected.{Copy}
+use Rattle.cg_driver_cells.specs.Cells.{ReachesCells, bodies_of, instances_of}
+use Rattle.cg_lower.specs.Collected.{Copy}
 use Rattle.cg_core.specs.declared.kernel.KFun.{KFun}
 use Rattle.cg_core.specs.declared.kernel.Kernel.{Kernel}
 use Rattle.cg_core.specs.Kernels.{Function, function_of}
@@ -20,18 +20,18 @@ use Rattle.cg_inst.specs.Lists.{same_instance}
 use Rattle.cg_inst.specs.Views.{instance_of}
 use Rattle.cg_inst_laws.proofs.Growth.{no_instance_twice}
 use Rattle.cg_inst_laws.specs.Laws.{entry_of}
-use Rattle.cg_machine.specs.Evaluation.{outcome, stuck}
-use Rattle.cg_machine.specs.Foreigns.{is_empty, table_of}
+use Rattle.cg_eval_def.specs.Evaluation.{outcome, stuck}
+use Rattle.cg_eval_def.specs.Foreigns.{is_empty, table_of}
 use Rattle.cg_mono.specs.Copies.{copy_of}
 use Rattle.cg_mono.specs.declared.copies.Copy.{Copy as OneCopy}
 use Rattle.cg_mono.specs.declared.copies.Mono.{Mono}
 use Rattle.cg_mono.specs.Monos.{copies_in as kept_copies}
-use Rattle.cg_source_laws.proofs.Programs.{list_same}
-use Rattle.cg_source_laws.proofs.Without.{place_is}
-use Rattle.cg_source_laws.specs.Laws.{CopiesReachCells, EntriesAreSound, FunctionsStand, copies_in}
-use Rattle.cg_steps.specs.declared.report.Step.{Step}
-use Rattle.cg_steps.specs.declared.status.Status.TheVariants.{Refused}
-use Rattle.cg_steps.specs.Parts.{Judged, Steps}
+use Rattle.cg_driver_laws.proofs.Programs.{list_same}
+use Rattle.cg_driver_laws.proofs.Without.{place_is}
+use Rattle.cg_driver_laws.specs.Laws.{CopiesReachCells, EntriesAreSound, FunctionsStand, copies_in}
+use Rattle.cg_driver_steps.specs.declared.report.Step.{Step}
+use Rattle.cg_driver_steps.specs.declared.status.Status.TheVariants.{Refused}
+use Rattle.cg_driver_steps.specs.Parts.{Judged, Steps}
 use Rattle.cg_typing.specs.declared.checked.Checked.{Checked}
 use Rattle.cg_typing.specs.Holds.{kernel_in}
 use Rattle.cg_typing.specs.Instances.{Entry, Instance, IsIn}

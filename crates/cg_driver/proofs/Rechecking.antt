@@ -11,12 +11,12 @@ use Rattle.cg_certcheck_laws.specs.Laws.{SpellsDerivation}
 use Rattle.cg_check.specs.Judged.{AreTypesWithin}
 use Rattle.cg_core.specs.declared.kernel.Kernel.{Kernel}
 use Rattle.cg_core.specs.Kernels.{Function, kernel_of}
-use Rattle.cg_lawful.specs.Lawful.{IsLawfulKernel}
-use Rattle.cg_steps.specs.declared.report.Report.{Report}
-use Rattle.cg_steps.specs.declared.report.Step.{Step}
-use Rattle.cg_steps.specs.declared.status.Status.TheVariants.{Done, CertRefused, TooLarge}
-use Rattle.cg_steps.specs.Steps.{refuses, goes}
-use Rattle.cg_steps.specs.Parts.{IsLine, Reports, Rules, Steps, Judged}
+use Rattle.cg_core_def.specs.Lawful.{IsLawfulKernel}
+use Rattle.cg_driver_steps.specs.declared.report.Report.{Report}
+use Rattle.cg_driver_steps.specs.declared.report.Step.{Step}
+use Rattle.cg_driver_steps.specs.declared.status.Status.TheVariants.{Done, CertRefused, TooLarge}
+use Rattle.cg_driver_steps.specs.Steps.{refuses, goes}
+use Rattle.cg_driver_steps.specs.Parts.{IsLine, Reports, Rules, Steps, Judged}
 use Rattle.cg_typing.specs.declared.checked.Checked.{Checked}
 use Rattle.cg_typing.specs.Holds.{cores_in, trees_in}
 use Rattle.cg_typing.specs.Kept.{maybe_core, maybe_tree}

@@ -10,38 +10,38 @@ use Rattle.cg_base.specs.Places.{most}
 use Rattle.cg_cert.specs.Laws.{AreNamed}
 use Rattle.cg_check.specs.declared.refusal.Refusal.TheVariants.{Limit as Beyond}
 use Rattle.cg_check.specs.Judged.{AreTypesWithin, IsChecked, Refuses}
-use Rattle.cg_check_laws.specs.Kept.{function_tree}
+use Rattle.cg_check_def.specs.Kept.{function_tree}
 use Rattle.cg_core.specs.declared.kernel.KFun.{KFun}
 use Rattle.cg_core.specs.declared.kernel.Kernel.{Kernel}
 use Rattle.cg_core.specs.Kernels.{Function, function_of, kernel_of}
-use Rattle.cg_desugar.specs.Desugar.{deepest_body, functions_of, functions_limit, term_limit, NamesStand, WithinLimits}
-use Rattle.cg_desugar.specs.Faults.{NameFault, program_faults}
-use Rattle.cg_desugar.specs.Mentions.{mentions}
-use Rattle.cg_desugar.specs.Order.{AreOrdered, AreGrowing}
-use Rattle.cg_desugar.specs.Takes.{missing_fields}
-use Rattle.cg_circles.specs.Circles.{NoCircle}
-use Rattle.cg_entry.specs.Entries.{ReachesAbstract}
+use Rattle.cg_resolve_def.specs.Desugar.{deepest_body, functions_of, functions_limit, term_limit, NamesStand, WithinLimits}
+use Rattle.cg_resolve_def.specs.Faults.{NameFault, program_faults}
+use Rattle.cg_resolve_def.specs.Mentions.{mentions}
+use Rattle.cg_resolve_def.specs.Order.{AreOrdered, AreGrowing}
+use Rattle.cg_resolve_def.specs.Takes.{missing_fields}
+use Rattle.cg_graphs.specs.Circles.{NoCircle}
+use Rattle.cg_driver_entry.specs.Entries.{ReachesAbstract}
 use Rattle.cg_faults.specs.declared.rule.Rule.{Rule}
 use Rattle.cg_faults.specs.Fails.{Fails}
 use Rattle.cg_faults.specs.Rule.{rule, type_limit}
 use Rattle.cg_heaptext.specs.HeapText.{HeapText}
-use Rattle.cg_lawful.specs.Lawful.{IsLawfulKernel}
-use Rattle.cg_names.specs.Says.{IsFirst}
-use Rattle.cg_takes.specs.Says as takes
+use Rattle.cg_core_def.specs.Lawful.{IsLawfulKernel}
+use Rattle.cg_resolve_names.specs.Says.{IsFirst}
+use Rattle.cg_resolve_takes.specs.Says as takes
 use Rattle.cg_parser.specs.Grammar.{Spells}
 use Rattle.cg_parser.specs.Answers.{depth_limit}
 use Rattle.cg_parser_laws.proofs.ItemFaults.{spelled_ordered}
 use Rattle.cg_parser_laws.proofs.ItemTakes.{spelled_growing}
 use Rattle.cg_parser_laws.proofs.Spelling.{spelled_named}
 use Rattle.cg_resolve.specs.Answers.{IsCircleAt, Passes}
-use Rattle.cg_steps.specs.declared.report.Report.{Report}
-use Rattle.cg_steps.specs.declared.report.Step.{Step}
-use Rattle.cg_steps.specs.declared.report.Step.TheVariants.{Goes, Ends}
-use Rattle.cg_steps.specs.declared.status.Status.{Status}
-use Rattle.cg_steps.specs.declared.status.Status.TheVariants.{Refused, HeapRefused, TooLarge}
-use Rattle.cg_steps.specs.Steps.{refuses, goes, Settles}
-use Rattle.cg_steps.specs.Parts.{IsLine, Reports, Steps, Judged}
-use Rattle.cg_steps.proofs.Joining.{then_settles, ends_settles}
+use Rattle.cg_driver_steps.specs.declared.report.Report.{Report}
+use Rattle.cg_driver_steps.specs.declared.report.Step.{Step}
+use Rattle.cg_driver_steps.specs.declared.report.Step.TheVariants.{Goes, Ends}
+use Rattle.cg_driver_steps.specs.declared.status.Status.{Status}
+use Rattle.cg_driver_steps.specs.declared.status.Status.TheVariants.{Refused, HeapRefused, TooLarge}
+use Rattle.cg_driver_steps.specs.Steps.{refuses, goes, Settles}
+use Rattle.cg_driver_steps.specs.Parts.{IsLine, Reports, Steps, Judged}
+use Rattle.cg_driver_steps.proofs.Joining.{then_settles, ends_settles}
 use Rattle.cg_surface.specs.Programs.{Entry, program_depth}
 use Rattle.cg_typing.specs.Accepted.{IsAcceptedKernel}
 use Rattle.cg_typing.specs.declared.checked.Checked.{Checked}

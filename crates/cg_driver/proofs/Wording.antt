@@ -3,15 +3,15 @@ use Rattle.std.proofs.Common.{◌≡◌, ◌⊎◌, ◌∙◌, ◌<◌, arith, i
 use Rattle.std.specs.Prelude.{IfOk}
 use Rattle.cg_base.specs.declared.memory.Memory.{Memory as NoMemory}
 use Rattle.cg_outside.specs.Causes.{Rose}
-use Rattle.cg_steps.specs.declared.report.Report.{Report}
-use Rattle.cg_steps.specs.declared.status.Status.{Status}
-use Rattle.cg_steps.specs.declared.status.Status.TheVariants.{Usage, ReadFault, WriteFault, Memory}
-use Rattle.cg_steps.specs.World.{World}
-use Rattle.cg_steps.specs.Steps.{refuses, goes, Each}
-use Rattle.cg_steps.specs.Scripts.{IsSaid, Says, Answers, printed, unprinted, no_memory, IsVerdict}
-use Rattle.cg_steps.specs.Parts.{IsLine, Concludes}
-use Rattle.cg_steps.proofs.Deciding.{Refuses, by_read, by_write, by_judgement, refused_by}
-use Rattle.cg_words.specs.Words.{Command, check, build, recheck, run}
+use Rattle.cg_driver_steps.specs.declared.report.Report.{Report}
+use Rattle.cg_driver_steps.specs.declared.status.Status.{Status}
+use Rattle.cg_driver_steps.specs.declared.status.Status.TheVariants.{Usage, ReadFault, WriteFault, Memory}
+use Rattle.cg_driver_steps.specs.World.{World}
+use Rattle.cg_driver_steps.specs.Steps.{refuses, goes, Each}
+use Rattle.cg_driver_steps.specs.Scripts.{IsSaid, Says, Answers, printed, unprinted, no_memory, IsVerdict}
+use Rattle.cg_driver_steps.specs.Parts.{IsLine, Concludes}
+use Rattle.cg_driver_steps.proofs.Deciding.{Refuses, by_read, by_write, by_judgement, refused_by}
+use Rattle.cg_driver_words.specs.Words.{Command, check, build, recheck, run}
 use Rattle.cg_driver.specs.Commands.{Judges, script_of}
 use Rattle.cg_driver.specs.Lines.{usage_text}
 use Rattle.cg_driver.proofs.Judging.{IsOfCommand, IsNotUsage, not_usage}

@@ -7,7 +7,7 @@ use Rattle.cg_cert.specs.Texts.{CertText, text as text_of}
 use Rattle.cg_certcheck_laws.specs.Laws.{SpellsDerivation}
 use Rattle.cg_check.specs.Judged.{AreTypesWithin, IsChecked}
 use Rattle.cg_core.specs.Kernels.{Function, kernel_of}
-use Rattle.cg_desugar.specs.Desugar.{functions_of, NamesStand, WithinLimits}
+use Rattle.cg_resolve_def.specs.Desugar.{functions_of, NamesStand, WithinLimits}
 use Rattle.cg_parser.specs.Grammar.{Spells}
 use Rattle.cg_parser.specs.Answers.{depth_limit}
 use Rattle.cg_surface.specs.Programs.{Entry, program_depth}
@@ -16,9 +16,9 @@ use Rattle.cg_typing.specs.declared.checked.Checked.{Checked}
 use Rattle.cg_typing.specs.Holds.{kernel_in, trees_in}
 use Rattle.cg_typing.specs.Kept.{maybe_tree}
 use Rattle.cg_outside.specs.Held.{Held, bytes_at}
-use Rattle.cg_steps.specs.Steps.{Runs, Writes, WritesNone, goes}
-use Rattle.cg_steps.specs.World.{World}
-use Rattle.cg_words.specs.Words.{Command, build}
+use Rattle.cg_driver_steps.specs.Steps.{Runs, Writes, WritesNone, goes}
+use Rattle.cg_driver_steps.specs.World.{World}
+use Rattle.cg_driver_words.specs.Words.{Command, build}
 use Rattle.cg_driver.specs.Commands.{Judges, script_of}
 use Rattle.cg_driver.specs.Found.{Found, certificate_limit, functions, source_limit}
 use Rattle.cg_driver.specs.Instanced.{HasInstances, certified_text, emitted}

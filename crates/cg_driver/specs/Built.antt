@@ -2,9 +2,9 @@
 use Rattle.std.specs.Prelude.{◌≡◌, ℕ, ◌≤◌, List, [], ◌∷◌, length}
 use Rattle.cg_core.specs.Kernels.{Function}
 use Rattle.cg_inst.specs.Judged.{IsWithin, core_in}
-use Rattle.cg_source_laws.specs.Laws.{copies_in}
-use Rattle.cg_steps.specs.declared.status.Status.{Status}
-use Rattle.cg_steps.specs.Steps.{refuses, Settles}
+use Rattle.cg_driver_laws.specs.Laws.{copies_in}
+use Rattle.cg_driver_steps.specs.declared.status.Status.{Status}
+use Rattle.cg_driver_steps.specs.Steps.{refuses, Settles}
 use Rattle.cg_typing.specs.declared.checked.Checked.{Checked}
 use Rattle.cg_typing.specs.Instances.{Instance}
 use Rattle.cg_driver.specs.Commands.{Judges, certifiable, instanced, on_words}

@@ -9,35 +9,35 @@ use Rattle.cg_cert.specs.Answers.{Answers as IsReadAs}
 use Rattle.cg_cert.specs.declared.cert.Cert.{Cert}
 use Rattle.cg_cert.specs.declared.fault.CertFault.TheVariants.{C1, C2, C3, Limit as Beyond}
 use Rattle.cg_cert.specs.Texts.{CertText}
-use Rattle.cg_certcheck_laws.specs.Events.{cert_events, first_failing}
+use Rattle.cg_certcheck_def.specs.Events.{cert_events, first_failing}
 use Rattle.cg_certcheck_laws.specs.Laws.{SpellsDerivation}
 use Rattle.cg_check.specs.Judged.{AreTypesWithin}
-use Rattle.cg_circles.specs.Circles.{NoCircle}
-use Rattle.cg_collect.specs.Collected.{Copy}
+use Rattle.cg_graphs.specs.Circles.{NoCircle}
+use Rattle.cg_lower.specs.Collected.{Copy}
 use Rattle.cg_core.specs.Kernels.{Function}
-use Rattle.cg_desugar.specs.Faults.{NameFault, program_faults}
-use Rattle.cg_desugar.specs.Mentions.{mentions}
-use Rattle.cg_desugar.specs.Order.{AreOrdered, AreGrowing}
-use Rattle.cg_desugar.specs.Takes.{missing_fields}
-use Rattle.cg_entry.specs.Entries.{ReachesAbstract}
+use Rattle.cg_resolve_def.specs.Faults.{NameFault, program_faults}
+use Rattle.cg_resolve_def.specs.Mentions.{mentions}
+use Rattle.cg_resolve_def.specs.Order.{AreOrdered, AreGrowing}
+use Rattle.cg_resolve_def.specs.Takes.{missing_fields}
+use Rattle.cg_driver_entry.specs.Entries.{ReachesAbstract}
 use Rattle.cg_faults.specs.declared.rule.Rule.{Rule}
 use Rattle.cg_faults.specs.Fails.{Fails}
 use Rattle.cg_faults.specs.Rule.{rule, type_limit}
 use Rattle.cg_heaptext.specs.HeapText.{HeapText}
-use Rattle.cg_lawful.specs.Lawful.{IsLawfulKernel}
-use Rattle.cg_names.specs.Says.{IsFirst}
+use Rattle.cg_core_def.specs.Lawful.{IsLawfulKernel}
+use Rattle.cg_resolve_names.specs.Says.{IsFirst}
 use Rattle.cg_parser.specs.Grammar.{Spells}
 use Rattle.cg_parser.specs.Answers.{Answers as Parses}
 use Rattle.cg_parser.specs.declared.fault.ParseFault.TheVariants.{S1, S2, S3, S4}
 use Rattle.cg_resolve.specs.Answers.{IsCircleAt}
-use Rattle.cg_steps.specs.declared.status.Status.TheVariants.{Refused, Usage, StepLimit, HeapRefused, CertRefused, TooLarge}
-use Rattle.cg_steps.specs.declared.status.Status.{Status}
-use Rattle.cg_steps.specs.Steps.{Outcome, refuses, goes, Step, reads, writes, judged_first}
-use Rattle.cg_steps.specs.Scripts.{Script}
+use Rattle.cg_driver_steps.specs.declared.status.Status.TheVariants.{Refused, Usage, StepLimit, HeapRefused, CertRefused, TooLarge}
+use Rattle.cg_driver_steps.specs.declared.status.Status.{Status}
+use Rattle.cg_driver_steps.specs.Steps.{Outcome, refuses, goes, Step, reads, writes, judged_first}
+use Rattle.cg_driver_steps.specs.Scripts.{Script}
 use Rattle.cg_surface.specs.Programs.{Entry}
-use Rattle.cg_takes.specs.Says as takes
+use Rattle.cg_resolve_takes.specs.Says as takes
 use Rattle.cg_typing.specs.Accepted.{IsAcceptedKernel}
-use Rattle.cg_words.specs.Words.{Command, check, build, recheck, run, texts, command_of}
+use Rattle.cg_driver_words.specs.Words.{Command, check, build, recheck, run, texts, command_of}
 use Rattle.cg_driver.specs.Found.{Found, nothing, with_source, with_program, with_copies, with_certificate, with_cert, with_entry, with_place, with_heap, with_argument, with_value, functions, source_limit, certificate_limit, heap_limit, bound, quantity}
 use Rattle.cg_driver.specs.Lines.{usage_text, ok_line, built_line as written_line, fault_line, name_rule, rule_line, rechecked_line as accepted_text, byte_line, node_line, not_built_line, no_entry_line, entry_type_line, abstract_line, no_heap_text_line, out_of_range_line, limit_name, limit_line, step_limit_line}
 use Rattle.cg_driver.specs.Entered.{IsOnWords, NeedsMore, is_entry}

@@ -3,11 +3,11 @@ use Rattle.std.specs.Prelude.{◌≡◌, ℕ, Bool, true, false, ◌&&◌, List,
 use Rattle.cg_base.specs.declared.fun.Fun.TheVariants.{User}
 use Rattle.cg_base.specs.declared.kind.Word.TheVariants.{U32}
 use Rattle.cg_base.specs.Types.{Tau, word, arrow}
-use Rattle.cg_collect.specs.Collected.{Copy, list_of}
+use Rattle.cg_lower.specs.Collected.{Copy, list_of}
 use Rattle.cg_core.specs.Kernels.{Function}
-use Rattle.cg_entry.specs.Types.{is_first_order}
-use Rattle.cg_machine.specs.Foreigns.{is_empty}
-use Rattle.cg_source_laws.specs.Laws.{CopiesReachCells}
+use Rattle.cg_driver_entry.specs.Types.{is_first_order}
+use Rattle.cg_eval_def.specs.Foreigns.{is_empty}
+use Rattle.cg_driver_laws.specs.Laws.{CopiesReachCells}
 use Rattle.cg_typing.specs.Instances.{Instance}
 use Rattle.cg_update.specs.Updates.{place_of}
 

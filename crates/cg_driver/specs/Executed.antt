@@ -1,24 +1,24 @@
 -- What the two runs of a function give, as the code has them.
 use Rattle.std.specs.Prelude.{◌≡◌, ℕ, ◌+◌, List, [], map, Option, Some}
 use Rattle.cg_base.specs.declared.fun.Fun.TheVariants.{User}
-use Rattle.cg_collect.specs.Collected.{Copy}
+use Rattle.cg_lower.specs.Collected.{Copy}
 use Rattle.cg_core.specs.Kernels.{Function}
 use Rattle.cg_core.specs.Terms.{Note, Tree}
 use Rattle.cg_ctree.specs.declared.tree.CProgram.{CProgram}
 use Rattle.cg_ctree.specs.Spells.{CSpells}
 use Rattle.cg_ctree.specs.Trees.{Program, program_of}
-use Rattle.cg_lower_laws.specs.Lowered.{function_name}
+use Rattle.cg_lower_def.specs.Lowered.{function_name}
 use Rattle.cg_lower.specs.Promises.{IsSimulated}
-use Rattle.cg_machine.specs.Evaluation.{evaluation}
-use Rattle.cg_machine.specs.Foreigns.{table_of}
-use Rattle.cg_source_laws.specs.Runs.{RunsTo}
+use Rattle.cg_eval_def.specs.Evaluation.{evaluation}
+use Rattle.cg_eval_def.specs.Foreigns.{table_of}
+use Rattle.cg_cmachine_def.specs.WordRuns.{RunsTo}
 use Rattle.cg_typing.specs.declared.checked.Checked.{Checked}
 use Rattle.cg_typing.specs.Holds.{cores_in}
 use Rattle.cg_typing.specs.Kept.{maybe_core}
 use Rattle.cg_value.specs.NoForeign.{no_foreign}
 use Rattle.cg_value.specs.Values.{Val, number, function}
-use Rattle.cg_steps.specs.declared.status.Status.{Status}
-use Rattle.cg_steps.specs.declared.status.Status.TheVariants.{Done, StepLimit}
+use Rattle.cg_driver_steps.specs.declared.status.Status.{Status}
+use Rattle.cg_driver_steps.specs.declared.status.Status.TheVariants.{Done, StepLimit}
 use Rattle.cg_driver.specs.Instanced.{emitted}
 use Rattle.cg_driver.specs.Lines.{step_limit_line}
 use Rattle.cg_driver.specs.Run.{budget, Evaluates, RunsOut, IsReport}

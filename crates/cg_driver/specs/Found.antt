@@ -3,10 +3,10 @@ use Rattle.std.specs.Prelude.{ℕ, List, [], length}
 use Rattle.cg_base.specs.declared.limit.Limit.{Limit}
 use Rattle.cg_base.specs.declared.limit.Limit.TheVariants.{Source, Nesting, Functions, Fields, Ty, Depth, Instances, Core, Heap, Certificate}
 use Rattle.cg_cert.specs.declared.cert.Cert.{Cert}
-use Rattle.cg_collect.specs.Collected.{Copy}
+use Rattle.cg_lower.specs.Collected.{Copy}
 use Rattle.cg_core.specs.Kernels.{Function}
-use Rattle.cg_desugar.specs.Desugar.{functions_of, functions_limit, parts_limit, type_limit, term_limit, deepest_body}
-use Rattle.cg_desugar.specs.Takes.{widest_part, largest_type}
+use Rattle.cg_resolve_def.specs.Desugar.{functions_of, functions_limit, parts_limit, type_limit, term_limit, deepest_body}
+use Rattle.cg_resolve_def.specs.Takes.{widest_part, largest_type}
 use Rattle.cg_parser.specs.Answers.{depth_limit}
 use Rattle.cg_surface.specs.Programs.{Entry, program_depth}
 

@@ -6,8 +6,8 @@ use Rattle.cg_cert.specs.Certificates.{certificate}
 use Rattle.cg_cert.specs.declared.cert.Cert.{Cert}
 use Rattle.cg_cert.specs.Texts.{CertText, text as text_of}
 use Rattle.cg_certcheck_laws.specs.Laws.{SpellsDerivation}
-use Rattle.cg_check_laws.specs.Kept.{function_tree}
-use Rattle.cg_collect.specs.Collected.{Copy}
+use Rattle.cg_check_def.specs.Kept.{function_tree}
+use Rattle.cg_lower.specs.Collected.{Copy}
 use Rattle.cg_core.specs.Derivations.{Derivation}
 use Rattle.cg_core.specs.Kernels.{Function}
 use Rattle.cg_core.specs.Terms.{Note, Tree}
@@ -18,7 +18,7 @@ use Rattle.cg_inst.specs.Judged.{AreTooMany, HaveLargeTypes, HaveTooManyNodes, I
 use Rattle.cg_inst.specs.Lists.{Cores}
 use Rattle.cg_lower.specs.Programs.{lowered}
 use Rattle.cg_lower.specs.Promises.{IsSimulated}
-use Rattle.cg_source_laws.specs.Laws.{copies_over}
+use Rattle.cg_driver_laws.specs.Laws.{copies_over}
 use Rattle.cg_typing.specs.Holds.{kept_at}
 use Rattle.cg_typing.specs.Instances.{Instance}
 use Rattle.cg_typing.specs.Kept.{AreKept}

@@ -3,19 +3,19 @@ use Rattle.std.specs.Prelude.{◌≡◌, ℕ, ◌<◌, ◌≤◌, ◌^◌, true,
 use Rattle.cg_cert.specs.declared.cert.Cert.{Cert}
 use Rattle.cg_cert.specs.Laws.{AreNamed}
 use Rattle.cg_cert.specs.Texts.{CertText}
-use Rattle.cg_check_laws.specs.Kept.{function_tree}
+use Rattle.cg_check_def.specs.Kept.{function_tree}
 use Rattle.cg_check.specs.Judged.{AreTypesWithin}
 use Rattle.cg_core.specs.declared.kernel.Kernel.{Kernel}
 use Rattle.cg_core.specs.Kernels.{Function, kernel_of}
-use Rattle.cg_desugar.specs.Desugar.{deepest_body, functions_of, functions_limit, term_limit, NamesStand, WithinLimits}
-use Rattle.cg_desugar.specs.Faults.{program_faults}
-use Rattle.cg_desugar.specs.Order.{AreOrdered, AreGrowing}
-use Rattle.cg_desugar.specs.Takes.{missing_fields}
-use Rattle.cg_entry.specs.Entries.{ReachesAbstract}
+use Rattle.cg_resolve_def.specs.Desugar.{deepest_body, functions_of, functions_limit, term_limit, NamesStand, WithinLimits}
+use Rattle.cg_resolve_def.specs.Faults.{program_faults}
+use Rattle.cg_resolve_def.specs.Order.{AreOrdered, AreGrowing}
+use Rattle.cg_resolve_def.specs.Takes.{missing_fields}
+use Rattle.cg_driver_entry.specs.Entries.{ReachesAbstract}
 use Rattle.cg_heaptext.specs.HeapText.{HeapText}
-use Rattle.cg_lawful.specs.Lawful.{IsLawfulKernel}
-use Rattle.cg_steps.specs.declared.status.Status.{Status}
-use Rattle.cg_steps.specs.Steps.{refuses, Settles}
+use Rattle.cg_core_def.specs.Lawful.{IsLawfulKernel}
+use Rattle.cg_driver_steps.specs.declared.status.Status.{Status}
+use Rattle.cg_driver_steps.specs.Steps.{refuses, Settles}
 use Rattle.cg_surface.specs.Programs.{Entry}
 use Rattle.cg_typing.specs.Accepted.{IsAcceptedKernel}
 use Rattle.cg_typing.specs.declared.checked.Checked.{Checked}

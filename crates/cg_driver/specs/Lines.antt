@@ -6,7 +6,7 @@ use Rattle.cg_base.specs.declared.limit.Limit.TheVariants.{Source, Nesting, Func
 use Rattle.cg_base.specs.declared.place.Place.{Place}
 use Rattle.cg_base.specs.Types.{word}
 use Rattle.cg_core.specs.Kernels.{Function}
-use Rattle.cg_desugar.specs.Faults.{NameFault, unknown, twice, arguments}
+use Rattle.cg_resolve_def.specs.Faults.{NameFault, unknown, twice, arguments}
 use Rattle.cg_faults.specs.declared.rule.Rule.{Rule}
 use Rattle.cg_faults.specs.declared.rule.Rule.TheVariants.{K1, K2, K3, K4, K5, K6, K7, T1, T2, T3, T4, T5, T6, T7, T8, T9, T10, T11, T12, T13, T14}
 use Rattle.cg_faults.specs.Rule.{text_of}

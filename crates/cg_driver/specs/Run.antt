@@ -5,11 +5,11 @@ use Rattle.cg_core.specs.Kernels.{Function}
 use Rattle.cg_core.specs.Terms.{Note, Tree}
 use Rattle.cg_ctree.specs.Spells.{CSpells}
 use Rattle.cg_ctree.specs.Trees.{Program}
-use Rattle.cg_collect.specs.Collected.{Copy}
-use Rattle.cg_lower_laws.specs.Lowered.{function_name}
-use Rattle.cg_machine.specs.Evaluation.{Table, evaluation, IsSpent}
-use Rattle.cg_machine.specs.Foreigns.{table_over}
-use Rattle.cg_source_laws.specs.Runs.{RunsTo}
+use Rattle.cg_lower.specs.Collected.{Copy}
+use Rattle.cg_lower_def.specs.Lowered.{function_name}
+use Rattle.cg_eval_def.specs.Evaluation.{Table, evaluation, IsSpent}
+use Rattle.cg_eval_def.specs.Foreigns.{table_over}
+use Rattle.cg_cmachine_def.specs.WordRuns.{RunsTo}
 use Rattle.cg_value.specs.NoForeign.{no_foreign}
 use Rattle.cg_value.specs.Values.{number, function}
 use Rattle.cg_driver.specs.Instanced.{AreCores, bodies_in, emitted}

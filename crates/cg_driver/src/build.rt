@@ -1,10 +1,10 @@
 // The command `build`.
 ghost use Rattle.std.specs.Prelude.{◌≡◌, ◌≤◌, ◌∷◌, List, [], IfOk};
-ghost use Rattle.cg_desugar.specs.Desugar.{deepest_body};
-ghost use Rattle.cg_source_laws.specs.Laws.{copies_in};
-ghost use Rattle.cg_steps.specs.World.{world};
-ghost use Rattle.cg_steps.specs.Steps.{judged_first};
-ghost use Rattle.cg_steps.specs.Parts.{Concludes, Steps};
+ghost use Rattle.cg_resolve_def.specs.Desugar.{deepest_body};
+ghost use Rattle.cg_driver_laws.specs.Laws.{copies_in};
+ghost use Rattle.cg_driver_steps.specs.World.{world};
+ghost use Rattle.cg_driver_steps.specs.Steps.{judged_first};
+ghost use Rattle.cg_driver_steps.specs.Parts.{Concludes, Steps};
 ghost use Rattle.cg_typing.specs.Instances.{Instance};
 ghost use Rattle.cg_driver.specs.Built.{IsBuilt, IsListed, KeepsCopies, RefusesCertificate, RefusesInstances};
 ghost use Rattle.cg_driver.specs.Commands.{Judges, build_steps, built_line, certifiable, instanced, reads_source, writes_both, writes_certificate};
@@ -22,8 +22,8 @@ use cg_inst::{InstFault, Instances, instances};
 use cg_lower::lower;
 use cg_mono::mono;
 use cg_outside::Files;
-use cg_source_laws::sources_print;
-use cg_steps::{Report, Step, read_file, write_file};
+use cg_driver_laws::sources_print;
+use cg_driver_steps::{Report, Step, read_file, write_file};
 use cg_typing::Checked;
 use std::alloc::Global;
 

@@ -3,18 +3,18 @@ ghost use Rattle.std.specs.Prelude.{◌≡◌, ◌⊎◌, ◌<◌, ℕ, List, So
 ghost use Rattle.std.specs.Io.KnownBytes.{append_known};
 ghost use Rattle.cg_outside.specs.Held.{Held};
 ghost use Rattle.cg_outside.specs.Causes.{Rose};
-ghost use Rattle.cg_steps.specs.declared.status.Status.{Status as StatusOf};
-ghost use Rattle.cg_steps.specs.World.{world, Unwritten};
-ghost use Rattle.cg_steps.specs.Steps.{Runs, goes, Reads, Writes, WritesNone, IsCalm, unread_line, unwritten_line};
-ghost use Rattle.cg_steps.specs.Scripts.{Answers, Leaves, Comes, ComesTo, IsVerdict, Decides};
-ghost use Rattle.cg_words.specs.Words.{texts, command_of};
+ghost use Rattle.cg_driver_steps.specs.declared.status.Status.{Status as StatusOf};
+ghost use Rattle.cg_driver_steps.specs.World.{world, Unwritten};
+ghost use Rattle.cg_driver_steps.specs.Steps.{Runs, goes, Reads, Writes, WritesNone, IsCalm, unread_line, unwritten_line};
+ghost use Rattle.cg_driver_steps.specs.Scripts.{Answers, Leaves, Comes, ComesTo, IsVerdict, Decides};
+ghost use Rattle.cg_driver_words.specs.Words.{texts, command_of};
 ghost use Rattle.cg_driver.specs.Commands.{Judges, asked};
 ghost use Rattle.cg_driver.specs.Found.{Found};
 
 use crate::Status;
 use crate::plan::plan;
 use cg_outside::{Files, Sink};
-use cg_steps::print_report;
+use cg_driver_steps::print_report;
 use std::alloc::Global;
 
 /// A call, up to its exact answer.

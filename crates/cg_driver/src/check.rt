@@ -1,8 +1,8 @@
 // The command `check`.
 ghost use Rattle.std.specs.Prelude.{◌≡◌, List, ℕ, [], ◌∷◌};
-ghost use Rattle.cg_steps.specs.World.{world};
-ghost use Rattle.cg_steps.specs.Steps.{judged_first};
-ghost use Rattle.cg_steps.specs.Parts.{Concludes, Rules};
+ghost use Rattle.cg_driver_steps.specs.World.{world};
+ghost use Rattle.cg_driver_steps.specs.Steps.{judged_first};
+ghost use Rattle.cg_driver_steps.specs.Parts.{Concludes, Rules};
 ghost use Rattle.cg_driver.specs.Commands.{Judges, source_rules, reads_source, checked_line};
 ghost use Rattle.cg_driver.specs.Found.{Found, nothing};
 
@@ -10,7 +10,7 @@ use crate::judge::{SOURCE_LIMIT, judge};
 use crate::lines::accepted;
 use cg_base::Memory;
 use cg_outside::Files;
-use cg_steps::{Report, Step, read_file};
+use cg_driver_steps::{Report, Step, read_file};
 use std::alloc::Global;
 
 /// What is said of a source.

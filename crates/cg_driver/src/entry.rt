@@ -2,21 +2,21 @@
 ghost use Rattle.std.specs.Prelude.{◌≡◌, ◌≤◌, ◌↔◌, IfOk, IsTrue, Some, length, map, position, bytes_eq, slice_get};
 ghost use Rattle.cg_base.specs.Types.{type_of};
 ghost use Rattle.cg_core.specs.Kernels.{function_of};
-ghost use Rattle.cg_source_laws.specs.Laws.{CopiesReachCells, copies_in};
-ghost use Rattle.cg_steps.specs.Parts.{Steps};
+ghost use Rattle.cg_driver_laws.specs.Laws.{CopiesReachCells, copies_in};
+ghost use Rattle.cg_driver_steps.specs.Parts.{Steps};
 ghost use Rattle.cg_driver.specs.Built.{IsListed, RefusesPlace};
 ghost use Rattle.cg_driver.specs.Entered.{IsOnWords, instance_at, is_entry, is_on_words, is_word, takes_words};
 ghost use Rattle.cg_driver.specs.Judged.{functions_in, IsAllowed, IsAllowedAt, IsEntry, RefusesEntry, RefusesFunction};
 
 use crate::lines::{abstract_reached, no_entry, no_entry_type, not_built};
 use cg_base::{Fun, Items, Memory, Ty, Word};
-use cg_cells::reaches_cells;
+use cg_driver_cells::reaches_cells;
 use cg_core::KFun;
-use cg_entry::{is_first_order, reaches_abstract};
+use cg_driver_entry::{is_first_order, reaches_abstract};
 use cg_inst::{Instance, Instances};
 use cg_mono::mono;
-use cg_source_laws::functions_stand;
-use cg_steps::Step;
+use cg_driver_laws::functions_stand;
+use cg_driver_steps::Step;
 use cg_typing::Checked;
 use std::alloc::Global;
 

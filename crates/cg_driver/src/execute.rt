@@ -2,13 +2,13 @@
 ghost use Rattle.std.specs.Prelude.{◌≡◌, ◌∷◌, ◌≤◌, ◌<◌, ◌^◌, ℕ, [], IfOk};
 ghost use Rattle.cg_ctree.specs.Trees.{program_of};
 ghost use Rattle.cg_heap.specs.declared.cell.Scalar.TheVariants.{Word};
-ghost use Rattle.cg_source_laws.specs.Laws.{copies_in};
-ghost use Rattle.cg_source_laws.specs.Runs.{RunsTo};
+ghost use Rattle.cg_driver_laws.specs.Laws.{copies_in};
+ghost use Rattle.cg_cmachine_def.specs.WordRuns.{RunsTo};
 ghost use Rattle.cg_value.specs.Values.{number, value_of};
 ghost use Rattle.cg_driver.specs.Built.{CanRun, IsListed};
 ghost use Rattle.cg_driver.specs.Executed.{Emits, Ends, Gives, Machines, Executes};
 ghost use Rattle.cg_driver.specs.Judged.{functions_in, CanBeBuilt, HoldsCores};
-ghost use Rattle.cg_steps.specs.Parts.{Reports};
+ghost use Rattle.cg_driver_steps.specs.Parts.{Reports};
 
 use crate::build::emit_text;
 use crate::lines::{ran, step_limit};
@@ -20,8 +20,8 @@ use cg_eval::{EvalFault, eval, more_budget};
 use cg_heap::{MapStore, Scalar};
 use cg_inst::Instances;
 use cg_lower::function_name;
-use cg_source_laws::{entries_are_sound, entries_run};
-use cg_steps::Report;
+use cg_driver_laws::{entries_are_sound, entries_run};
+use cg_driver_steps::Report;
 use cg_typing::Checked;
 use cg_value::Value;
 use std::alloc::Global;

@@ -1,12 +1,12 @@
 // Judging a source.
 ghost use Rattle.std.specs.Prelude.{ℕ, ◌≤◌, List, length, Err, IfOk};
 ghost use Rattle.cg_core.specs.Kernels.{kernel_of};
-ghost use Rattle.cg_lawful.specs.Lawful.{IsLawfulKernel};
-ghost use Rattle.cg_lawful_laws.specs.Shaped.{IsShaped};
+ghost use Rattle.cg_core_def.specs.Lawful.{IsLawfulKernel};
+ghost use Rattle.cg_resolve_def.specs.Shaped.{IsShaped};
 ghost use Rattle.cg_surface.specs.Programs.{Entry, program_of};
 ghost use Rattle.cg_resolve.specs.Answers.{Answers as Resolves};
 ghost use Rattle.cg_parser.specs.Answers.{Answers as Parses};
-ghost use Rattle.cg_steps.specs.Parts.{Reports, Steps};
+ghost use Rattle.cg_driver_steps.specs.Parts.{Reports, Steps};
 ghost use Rattle.cg_driver.specs.Found.{source_limit};
 ghost use Rattle.cg_driver.specs.Judged.{IsCheckedKernel, IsCheckedSource, IsKernelOf, IsReadSource, RefusesKernel, RefusesProgram, RefusesReading, RefusesSource};
 
@@ -16,7 +16,7 @@ use cg_check::{Refusal, check};
 use cg_core::Kernel;
 use cg_parser::{ParseFault, parse};
 use cg_resolve::{Fault, resolve};
-use cg_steps::{Report, Step};
+use cg_driver_steps::{Report, Step};
 use cg_surface::Program;
 use cg_typing::Checked;
 use std::alloc::Global;

@@ -2,13 +2,13 @@
 ghost use Rattle.std.specs.Prelude.{◌≡◌, ◌≢◌, ◌⊎◌, ◌↔◌, ℕ, List, Some};
 ghost use Rattle.std.specs.declared.option.Option.{Option};
 ghost use Rattle.cg_core.specs.Kernels.{Function};
-ghost use Rattle.cg_lawful.specs.Lawful.{IsLawfulKernel};
+ghost use Rattle.cg_core_def.specs.Lawful.{IsLawfulKernel};
 ghost use Rattle.cg_outside.specs.Held.{Held, bytes_at};
 ghost use Rattle.cg_outside.specs.Memory.{honest_held, honest_taken};
-ghost use Rattle.cg_steps.specs.World.{world};
-ghost use Rattle.cg_steps.specs.Steps.{Outcome, WritesNone};
-ghost use Rattle.cg_steps.specs.Scripts.{Answers, ComesTo, Decides};
-ghost use Rattle.cg_words.specs.Words.{Command, check, recheck};
+ghost use Rattle.cg_driver_steps.specs.World.{world};
+ghost use Rattle.cg_driver_steps.specs.Steps.{Outcome, WritesNone};
+ghost use Rattle.cg_driver_steps.specs.Scripts.{Answers, ComesTo, Decides};
+ghost use Rattle.cg_driver_words.specs.Words.{Command, check, recheck};
 ghost use Rattle.cg_driver.specs.Accepted.{BuildWrites, IsAcceptedSource, IsCertifiedSource, PrintedIsCertified, WritesItsOwn};
 ghost use Rattle.cg_driver.specs.Commands.{Judgement, certified, typed, Judges, script_of, asked};
 ghost use Rattle.cg_driver.specs.Found.{Found, functions as functions_found};

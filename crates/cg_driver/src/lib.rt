@@ -15,7 +15,7 @@ mod recheck;
 mod run;
 
 pub use call::cogent;
-pub use cg_steps::Status;
+pub use cg_driver_steps::Status;
 pub use law::{
     build_writes_both, certificates_decide, honest_cogent, one_outcome, one_text,
     only_build_writes, printed_is_certified, status_0_is_a_derivation, status_0_is_acceptance,

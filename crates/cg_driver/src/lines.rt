@@ -3,12 +3,12 @@ ghost use Rattle.std.specs.Prelude.{◌≡◌, IfOk, [], count_by, is_some, map}
 ghost use Rattle.cg_core.specs.Kernels.{function_of};
 ghost use Rattle.cg_value.specs.Values.{number};
 ghost use Rattle.cg_driver.specs.Lines as lines;
-ghost use Rattle.cg_steps.specs.Parts.{IsLine};
+ghost use Rattle.cg_driver_steps.specs.Parts.{IsLine};
 
 use cg_base::{Limit, Memory, Place};
 use cg_core::KFun;
 use cg_faults::Rule;
-use cg_steps::{Report, Status};
+use cg_driver_steps::{Report, Status};
 use std::alloc::Global;
 
 /// The usage text.

@@ -1,6 +1,6 @@
 // What the words ask for.
-ghost use Rattle.cg_steps.specs.World.{world};
-ghost use Rattle.cg_steps.specs.Parts.{Concludes};
+ghost use Rattle.cg_driver_steps.specs.World.{world};
+ghost use Rattle.cg_driver_steps.specs.Parts.{Concludes};
 ghost use Rattle.cg_driver.specs.Commands.{Judges, asked as script_asked};
 
 use crate::build::{Named, build_file};
@@ -10,8 +10,8 @@ use crate::recheck::recheck_file;
 use crate::run::{Asked, run_file};
 use cg_base::Memory;
 use cg_outside::Files;
-use cg_steps::Report;
-use cg_words::{Command, read_words};
+use cg_driver_steps::Report;
+use cg_driver_words::{Command, read_words};
 use std::alloc::Global;
 
 /// Does what the words ask for, up to what is printed.

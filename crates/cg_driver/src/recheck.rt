@@ -3,9 +3,9 @@ ghost use Rattle.std.specs.Prelude.{◌≡◌, ℕ, List, [], ◌∷◌, Err, If
 ghost use Rattle.cg_cert.specs.declared.cert.Cert.{Cert as CertOf};
 ghost use Rattle.cg_certcheck.specs.Judged.{Refuses};
 ghost use Rattle.cg_core.specs.Kernels.{Function, kernel_of};
-ghost use Rattle.cg_lawful.specs.Lawful.{IsLawfulKernel};
-ghost use Rattle.cg_steps.specs.World.{world};
-ghost use Rattle.cg_steps.specs.Parts.{Concludes, Reports, Rules, Steps};
+ghost use Rattle.cg_core_def.specs.Lawful.{IsLawfulKernel};
+ghost use Rattle.cg_driver_steps.specs.World.{world};
+ghost use Rattle.cg_driver_steps.specs.Parts.{Concludes, Reports, Rules, Steps};
 ghost use Rattle.cg_driver.specs.Commands.{Judges, certificate_rules, certificate_steps, certified, reads_source, recheck_steps, rechecked_line};
 ghost use Rattle.cg_driver.specs.Found.{Found, nothing, functions as functions_found};
 ghost use Rattle.cg_driver.specs.Judged.{IsCertificate, RefusesCert, RefusesText};
@@ -17,7 +17,7 @@ use cg_cert::{Cert, CertFault, read_cert};
 use cg_certcheck::recheck;
 use cg_core::Kernel;
 use cg_outside::Files;
-use cg_steps::{Report, Step, read_file};
+use cg_driver_steps::{Report, Step, read_file};
 use std::alloc::Global;
 
 /// No certificate has more bytes.

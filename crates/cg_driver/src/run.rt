@@ -1,8 +1,8 @@
 // The command `run`.
 ghost use Rattle.std.specs.Prelude.{◌≡◌, ◌≤◌, ◌^◌, ◌++◌, [], ◌∷◌, IfOk, length};
-ghost use Rattle.cg_steps.specs.World.{world};
-ghost use Rattle.cg_steps.specs.Steps.{judged_first};
-ghost use Rattle.cg_steps.specs.Parts.{Concludes, Rules, Steps};
+ghost use Rattle.cg_driver_steps.specs.World.{world};
+ghost use Rattle.cg_driver_steps.specs.Steps.{judged_first};
+ghost use Rattle.cg_driver_steps.specs.Parts.{Concludes, Rules, Steps};
 ghost use Rattle.cg_driver.specs.Built.{CanRun, IsListed, KeepsCopies};
 ghost use Rattle.cg_driver.specs.Commands.{Judges, entry_rules, on_words, place_rules, run_rules, reads_source, heap_steps, run_steps, ran_lines};
 ghost use Rattle.cg_driver.specs.Found.{Found, nothing, functions as functions_found};
@@ -17,7 +17,7 @@ use cg_base::Memory;
 use cg_heaptext::{HeapFault, read_argument};
 use cg_inst::Instances;
 use cg_outside::Files;
-use cg_steps::{Report, Step, read_file};
+use cg_driver_steps::{Report, Step, read_file};
 use cg_typing::Checked;
 use std::alloc::Global;
 

@@ -3,8 +3,8 @@ use Rattle.std.proofs.Common.{◌≡◌, ℕ, Bool, true, false, cond, Option, S
 use Rattle.cg_core.specs.Kernels.{Function}
 use Rattle.cg_value.specs.Foreign.{Foreign}
 use Rattle.cg_value.specs.Values.{Val}
-use Rattle.cg_machine.specs.Evaluation.{Outcome, stuck, gives, bind, pay_for}
-use Rattle.cg_machine.specs.Foreigns.{cost_at, is_taken, value_at}
+use Rattle.cg_eval_def.specs.Evaluation.{Outcome, stuck, gives, bind, pay_for}
+use Rattle.cg_eval_def.specs.Foreigns.{cost_at, is_taken, value_at}
 
 -- what is not stuck was taken
 was_taken : (b : Bool) (o : Outcome) (h : Val → ℕ → Outcome) → (bind (cond b o stuck) h ≡ stuck → ⊥) → bind o h ≡ bind (cond b o stuck) h

@@ -19,13 +19,13 @@ use Rattle.cg_core.specs.Terms.{Note, Tree, term, Shape, OneField, arg_of, note_
 use Rattle.cg_typing.specs.Rules.{type_at}
 use Rattle.cg_value.specs.Forms.{field, has_name, payload_in, with_field, without}
 use Rattle.cg_value.specs.Values.{Val, chosen}
-use Rattle.cg_machine.specs.declared.frame.Frame.TheVariants.{One, Right, Argument, Body, Branches, Wrap, Arms, Payload, Pick, Open, Into}
-use Rattle.cg_machine.specs.Evaluation.{Outcome, spent, stuck, gives, bind, pay, Table, Context, push, all_of, evaluate, node, node_shape}
-use Rattle.cg_operations.specs.Operators.{operated, operated_both}
-use Rattle.cg_operations.specs.Positions.{position}
-use Rattle.cg_machine.specs.Machine.{Cont, resume, after, on, named_of}
-use Rattle.cg_machine.proofs.Fixed.{at_node, at_none}
-use Rattle.cg_machine.proofs.Steps.{paid, descends}
+use Rattle.cg_eval_machine.specs.declared.frame.Frame.TheVariants.{One, Right, Argument, Body, Branches, Wrap, Arms, Payload, Pick, Open, Into}
+use Rattle.cg_eval_def.specs.Evaluation.{Outcome, spent, stuck, gives, bind, pay, Table, Context, push, all_of, evaluate, node, node_shape}
+use Rattle.cg_eval_operations.specs.Operators.{operated, operated_both}
+use Rattle.cg_eval_operations.specs.Positions.{position}
+use Rattle.cg_eval_machine.specs.Machine.{Cont, resume, after, on, named_of}
+use Rattle.cg_eval_machine.proofs.Fixed.{at_node, at_none}
+use Rattle.cg_eval_machine.proofs.Steps.{paid, descends}
 
 -- one operand, and two
 pub one_term : (ts : List (Term Typed)) (a : Term Typed) → 1 ≤ length ts → length ts < 2 → a ≡ get_or ts 0 a → to_trees (map the_core ts) ≡ more (the_core a) none

@@ -3,10 +3,10 @@ use Rattle.std.proofs.Common.{◌≡◌, ℕ, zero, suc, ◌+◌, ◌-◌, ◌�
 use Rattle.std.proofs.lemmas.Bool.{ltb-false, le-ltb}
 use Rattle.cg_core.specs.Terms.{Note, Tree}
 use Rattle.cg_value.specs.Values.{Val}
-use Rattle.cg_machine.specs.Evaluation.{Outcome, spent, stuck, gives, bind, pay, pay_for, Table, Context, apply, node, evaluate, evaluation, with_fuel, fuelled, cost_of}
+use Rattle.cg_eval_def.specs.Evaluation.{Outcome, spent, stuck, gives, bind, pay, pay_for, Table, Context, apply, node, evaluate, evaluation, with_fuel, fuelled, cost_of}
 use Rattle.cg_eval.specs.Laws.{MoreBudget, FuelIsFree}
-use Rattle.cg_machine.proofs.Fixed.{at_node, at_none, node_within, Within}
-use Rattle.cg_machine.proofs.Lifts.{Lifts, node_lifts, apply_lifts}
+use Rattle.cg_eval_machine.proofs.Fixed.{at_node, at_none, node_within, Within}
+use Rattle.cg_eval_machine.proofs.Lifts.{Lifts, node_lifts, apply_lifts}
 
 -- what o gives at a budget of l at a cost of at most b, p gives at a budget of m at the same cost
 abbrev pub Shift : ℕ → ℕ → ℕ → Outcome → Outcome → Type 0

@@ -1,15 +1,15 @@
 -- How the evaluator's loop ends, as equations.
 use Rattle.std.proofs.Common.{◌≡◌, ℕ, ◌-◌, ◌≤◌, List, [], ◌∷◌, ◌++◌, Some, Err, refl, sym, ap, ◌∙◌, subst}
 use Rattle.cg_value.specs.Values.{Val}
-use Rattle.cg_machine.specs.declared.frame.Frame.{Frame}
-use Rattle.cg_machine.specs.Evaluation.{Outcome, spent, stuck, gives, bind, Table, Context, apply, cost_of, evaluate, evaluation, IsSpent}
-use Rattle.cg_machine.specs.declared.halt.Halt.{Halt}
-use Rattle.cg_machine.specs.declared.halt.Halt.TheVariants.{StepLimit, Stuck, Memory}
-use Rattle.cg_machine.specs.declared.machine.Machine.{Machine}
-use Rattle.cg_machine.specs.Machine.{on, rest, Gave, Went}
+use Rattle.cg_eval_machine.specs.declared.frame.Frame.{Frame}
+use Rattle.cg_eval_def.specs.Evaluation.{Outcome, spent, stuck, gives, bind, Table, Context, apply, cost_of, evaluate, evaluation, IsSpent}
+use Rattle.cg_eval_machine.specs.declared.halt.Halt.{Halt}
+use Rattle.cg_eval_machine.specs.declared.halt.Halt.TheVariants.{StepLimit, Stuck, Memory}
+use Rattle.cg_eval_machine.specs.declared.machine.Machine.{Machine}
+use Rattle.cg_eval_machine.specs.Machine.{on, rest, Gave, Went}
 use Rattle.cg_eval.specs.Answers.{Exact}
-use Rattle.cg_machine.proofs.Fixed.{Within, apply_within}
-use Rattle.cg_machine.proofs.Steps.{rest_push}
+use Rattle.cg_eval_machine.proofs.Fixed.{Within, apply_within}
+use Rattle.cg_eval_machine.proofs.Steps.{rest_push}
 
 module _ (table : Table) where
   pub rest_done : (fs : List Frame) (c : Context) (v : Val) (l : ℕ) → fs ≡ [] → rest table fs c v l ≡ gives v l

@@ -10,10 +10,10 @@ use Rattle.cg_core.specs.declared.op.Op.TheVariants as ops
 use Rattle.cg_core.specs.Terms.{Note, Tree, term, var, op, member, more, none, struct, field as named, end as end_of_fields, con, unit as nothing}
 use Rattle.cg_value.specs.Forms.{elements_in, field, number_in, pair, with_element, has_name}
 use Rattle.cg_value.specs.Values.{number, function, elements, parts, to_vals, val_list, chosen, nothing as no_value}
-use Rattle.cg_machine.specs.Evaluation.{Table, all_of, evaluate, evaluation, turns, with_fuel}
-use Rattle.cg_operations.specs.Iterators.{counted, indices_from}
-use Rattle.cg_operations.specs.Operators.{operated_both}
-use Rattle.cg_operations.specs.Positions.{position, position_among}
+use Rattle.cg_eval_def.specs.Evaluation.{Table, all_of, evaluate, evaluation, turns, with_fuel}
+use Rattle.cg_eval_operations.specs.Iterators.{counted, indices_from}
+use Rattle.cg_eval_operations.specs.Operators.{operated_both}
+use Rattle.cg_eval_operations.specs.Positions.{position, position_among}
 
 abbrev place : Place
 place = record { line = 1; column = 1 }

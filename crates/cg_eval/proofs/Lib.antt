@@ -4,4 +4,3 @@ pub mod Costs
 mod Ends
 mod EvaluationRows
 mod GroupSteps
-pub mod NotStuck

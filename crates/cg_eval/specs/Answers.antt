@@ -4,9 +4,9 @@ use Rattle.cg_value.specs.declared.value.Value.{Value}
 use Rattle.cg_value.specs.Values.{Val, value_of}
 use Rattle.cg_eval.specs.declared.fault.EvalFault.{EvalFault}
 use Rattle.cg_eval.specs.declared.fault.EvalFault.TheVariants as fault
-use Rattle.cg_machine.specs.declared.halt.Halt.{Halt}
-use Rattle.cg_machine.specs.declared.halt.Halt.TheVariants.{StepLimit, Stuck, Memory}
-use Rattle.cg_machine.specs.Evaluation.{stuck, Table, evaluation, IsSpent, outcome}
+use Rattle.cg_eval_machine.specs.declared.halt.Halt.{Halt}
+use Rattle.cg_eval_machine.specs.declared.halt.Halt.TheVariants.{StepLimit, Stuck, Memory}
+use Rattle.cg_eval_def.specs.Evaluation.{stuck, Table, evaluation, IsSpent, outcome}
 
 -- a call with a budget of n: its value and cost, or why there are none
 abbrev pub Exact : Table → ℕ → Val → Val → Result (Value × ℕ) Halt → Type 0

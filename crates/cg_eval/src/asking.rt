@@ -1,17 +1,17 @@
 // Calls of abstract functions.
-#![tactic(auto, using(cg_machine::proofs::Steps::machine_steps))]
+#![tactic(auto, using(cg_eval_machine::proofs::Steps::machine_steps))]
 
 ghost use Rattle.std.specs.Prelude.{◌≡◌, ◌≢◌, [], ◌∷◌, ◌++◌, ◌+◌, ◌-◌, ◌*◌, ◌≤◌, ◌<◌, IfOk, IsTrue, MatchOption, None, Some, length, slice_get};
 ghost use Rattle.cg_core.specs.Kernels.{function_of, kernel_of};
-ghost use Rattle.cg_machine.specs.Evaluation.{Table, bind, gives, pay_for, stuck};
-ghost use Rattle.cg_machine.specs.Foreigns.{cost_at, is_known as known, is_taken, table_of, value_at};
-ghost use Rattle.cg_machine.specs.Machine.{rest, context_of, said, Went, weight};
-ghost use Rattle.cg_machine.specs.declared.machine.Focus.TheVariants as focus;
+ghost use Rattle.cg_eval_def.specs.Evaluation.{Table, bind, gives, pay_for, stuck};
+ghost use Rattle.cg_eval_def.specs.Foreigns.{cost_at, is_known as known, is_taken, table_of, value_at};
+ghost use Rattle.cg_eval_machine.specs.Machine.{rest, context_of, said, Went, weight};
+ghost use Rattle.cg_eval_machine.specs.declared.machine.Focus.TheVariants as focus;
 ghost use Rattle.cg_typing.specs.Holds.{kernel_in};
 ghost use Rattle.cg_value.specs.Values.{value_of};
 
 use cg_core::KFun;
-use cg_machine::{Focus, Halt, Machine};
+use cg_eval_machine::{Focus, Halt, Machine};
 use cg_typing::Checked;
 use cg_value::{Extern, Value};
 use std::alloc::Global;

@@ -1,11 +1,11 @@
 // Evaluation of a function.
-#![tactic(auto, using(cg_machine::proofs::Steps::machine_steps))]
+#![tactic(auto, using(cg_eval_machine::proofs::Steps::machine_steps))]
 
 ghost use Rattle.std.specs.Prelude.{◌≢◌, []};
 ghost use Rattle.cg_base.specs.declared.fun.Fun.TheVariants.{User};
-ghost use Rattle.cg_machine.specs.Evaluation.{outcome, stuck};
-ghost use Rattle.cg_machine.specs.Foreigns.{table_of};
-ghost use Rattle.cg_machine.specs.Machine.{Gave, said};
+ghost use Rattle.cg_eval_def.specs.Evaluation.{outcome, stuck};
+ghost use Rattle.cg_eval_def.specs.Foreigns.{table_of};
+ghost use Rattle.cg_eval_machine.specs.Machine.{Gave, said};
 ghost use Rattle.cg_eval.specs.Answers.{Answers, Exact};
 ghost use Rattle.cg_value.specs.NoForeign.{no_foreign};
 ghost use Rattle.cg_value.specs.Values.{value_of, function};
@@ -15,7 +15,7 @@ use crate::asking::ask;
 use crate::nodes::want;
 use cg_base::Items;
 use cg_core::Fun;
-use cg_machine::{Focus, Halt, Machine, apply};
+use cg_eval_machine::{Focus, Halt, Machine, apply};
 use cg_typing::Checked;
 use cg_value::{Extern, NoExtern, Value};
 use std::alloc::Global;

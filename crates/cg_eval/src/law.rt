@@ -1,5 +1,5 @@
 // The laws of evaluation.
-ghost use Rattle.cg_eval.specs.Laws.{MoreBudget, FuelIsFree, PlainIsNeverStuck};
+ghost use Rattle.cg_eval.specs.Laws.{MoreBudget, FuelIsFree};
 
 /// A result costs no more than its budget, and every budget from that cost on gives the same at the same cost.
 pub fn more_budget()
@@ -9,9 +9,4 @@ pub fn more_budget()
 /// Fuel doesn't matter: from the cost on it gives the same, and of any amount nothing else.
 pub fn fuel_is_free()
     ensures { FuelIsFree }
-{}
-
-/// A call in a checked source that is plain is never stuck, so it gives no value exactly where the budget is not enough.
-pub fn plain_is_never_stuck()
-    ensures { PlainIsNeverStuck }
 {}

@@ -1,6 +1,6 @@
 //! Evaluation, [`eval`]: what a function gives on a value, without a heap, and at what cost. docs/LANGUAGE.md, "Evaluation", says
 //! it in words. It takes every form, over a table of abstract functions, [`eval_with`], or over none. Its callers know that a call
-//! isn't stuck, as a law says of plain sources. The definition, and the stack that it goes over, stand in `cg_machine`.
+//! isn't stuck, as a law says of plain sources. The definition, and the stack that it goes over, stand in `cg_eval_machine`.
 #![tactic(auto)]
 
 mod asking;
@@ -12,4 +12,4 @@ mod nodes;
 
 pub use evaluator::{eval, eval_with};
 pub use fault::EvalFault;
-pub use law::{fuel_is_free, more_budget, plain_is_never_stuck};
+pub use law::{fuel_is_free, more_budget};

@@ -7,14 +7,14 @@ ghost use Rattle.cg_core.specs.Kernels.{the_core, the_core_form};
 ghost use Rattle.cg_core.specs.declared.at.At.{At as Named};
 ghost use Rattle.cg_core.specs.Terms.{Note, app, arg_of, case_of, con, esac, fun, if_else, lets, member, op as op_of, put, take_field, to_trees, var};
 ghost use Rattle.cg_eval.specs.Groups.{is_data, is_leaf};
-ghost use Rattle.cg_machine.specs.Evaluation.{Table, bind, evaluate, node, node_shape};
-ghost use Rattle.cg_machine.specs.Machine.{rest, context_of, Went, weight};
+ghost use Rattle.cg_eval_def.specs.Evaluation.{Table, bind, evaluate, node, node_shape};
+ghost use Rattle.cg_eval_machine.specs.Machine.{rest, context_of, Went, weight};
 
 use crate::mentions::mention;
 use cg_base::{Fun, Items, Name};
 use cg_core::{At, Form, Op, Term, TyArg, Typed};
-use cg_machine::{Focus, Frame, Halt, Machine, descend, fields};
-use cg_operations::{literal, position, truth, variable};
+use cg_eval_machine::{Focus, Frame, Halt, Machine, descend, fields};
+use cg_eval_operations::{literal, position, truth, variable};
 use cg_value::Value;
 use std::alloc::Global;
 

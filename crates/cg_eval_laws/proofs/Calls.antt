@@ -13,12 +13,12 @@ use Rattle.cg_base.specs.Types.{Tau, arrow}
 use Rattle.cg_core.specs.Derivations.{Derivation}
 use Rattle.cg_core.specs.Kernels.{Function, Body as Written}
 use Rattle.cg_core.specs.Terms.{Note, Tree}
-use Rattle.cg_machine.specs.Evaluation.{stuck, gives, pay_for, Table, Run, apply, call, enter, iterated, only}
-use Rattle.cg_operations.specs.Iterators.{is_iterator}
-use Rattle.cg_machine.specs.Foreigns.{IsClosed, cost_at, is_among, is_empty, is_instance, is_known, is_taken, table_over, value_at, world_of}
+use Rattle.cg_eval_def.specs.Evaluation.{stuck, gives, pay_for, Table, Run, apply, call, enter, iterated, only}
+use Rattle.cg_eval_operations.specs.Iterators.{is_iterator}
+use Rattle.cg_eval_def.specs.Foreigns.{IsClosed, cost_at, is_among, is_empty, is_instance, is_known, is_taken, table_over, value_at, world_of}
 use Rattle.cg_typing.specs.Instances.{as_arguments, has_vars, is_closed}
 use Rattle.cg_kinds.specs.Kinds.{subst}
-use Rattle.cg_lawful.specs.Lawful.{IsLawfulBody, IsLawfulFunction, IsLawfulTerm, body_mentions, term_mentions}
+use Rattle.cg_core_def.specs.Lawful.{IsLawfulBody, IsLawfulFunction, IsLawfulTerm, body_mentions, term_mentions}
 use Rattle.cg_lib_value.specs.Library.{library_cost, library_value}
 use Rattle.cg_typing.specs.Accepted.{kinds_of_vars}
 use Rattle.cg_typing.specs.Functions.{are_good_arguments, arg_types, asked_by_user, fun_type}

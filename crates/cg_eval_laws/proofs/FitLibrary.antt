@@ -7,10 +7,10 @@ use Rattle.cg_base.specs.declared.fun.Lib.TheVariants.{New, Free, Create, FreeAr
 use Rattle.cg_base.specs.declared.kind.Sigil.TheVariants.{W, U}
 use Rattle.cg_base.specs.declared.kind.Word.TheVariants.{U32}
 use Rattle.cg_base.specs.Types.{Tau, word, fields, Parts, end, part, piece_list}
-use Rattle.cg_operations.specs.Iterators.{is_iterator}
+use Rattle.cg_eval_operations.specs.Iterators.{is_iterator}
 use Rattle.cg_typing.specs.Instances.{as_arguments}
 use Rattle.cg_kinds.specs.Kinds.{bang, is_word}
-use Rattle.cg_lawful.specs.Lawful.{library_arity}
+use Rattle.cg_core_def.specs.Lawful.{library_arity}
 use Rattle.cg_lib_value.specs.Library.{answered, later_answers, library_value, makes_array, maybe as made_or_not, new_record, next_answer}
 use Rattle.cg_typing.specs.Functions.{asked_by_library, are_good_arguments, Asked, a_cell, an_element}
 use Rattle.cg_typing.specs.Library.{array, given, library_type, maybe, pair, state, whole}

@@ -9,7 +9,7 @@ use Rattle.cg_base.specs.Types.{Tau, word, bool}
 use Rattle.cg_base.specs.Words.{bits}
 use Rattle.cg_core.specs.declared.op.Op.{Op}
 use Rattle.cg_core.specs.declared.op.Op.TheVariants.{Add, Sub, Mul, Div, Rem, And, Or, Xor, Shl, Shr, Complement, Eq, Ne, Lt, Gt, Le, Ge, Both, Either, Not}
-use Rattle.cg_operations.specs.Operators.{truth, complement, on_one, on_two, operated, operated_both}
+use Rattle.cg_eval_operations.specs.Operators.{truth, complement, on_one, on_two, operated, operated_both}
 use Rattle.cg_kinds.specs.Kinds.{subst}
 use Rattle.cg_typing.specs.Operators.{Sort, arithmetic, equality, order, logic, sort_of, takes, gives}
 use Rattle.cg_value.specs.Fits.{World, fits}

@@ -5,7 +5,7 @@ use Rattle.std.specs.Prelude.{slice_set, if◌then◌else◌}
 use Rattle.std.specs.Str.{bytes_eq}
 use Rattle.cg_base.specs.Types.{Tau, variant, fields, Parts, end, part, Piece}
 use Rattle.cg_kinds.specs.Kinds.{subst, subst_parts}
-use Rattle.cg_operations.specs.Positions.{position, position_among}
+use Rattle.cg_eval_operations.specs.Positions.{position, position_among}
 use Rattle.cg_typing.specs.Parts.{part_named, parts_with, field_in, alternative_in, held, is_left, is_there, is_last, are_others_taken, with_part}
 use Rattle.cg_value.specs.Fits.{World, fits, fits_alternative, fits_fields, is_gone}
 use Rattle.cg_value.specs.Forms.{field, has_name, payload_in, with_field, without}

@@ -10,11 +10,11 @@ use Rattle.cg_base.specs.declared.kind.Word.{Word}
 use Rattle.cg_base.specs.declared.kind.Word.TheVariants.{U32, U64}
 use Rattle.cg_base.specs.Types.{Tau, arrow, fields, word, Parts, end, part}
 use Rattle.cg_base.specs.Words.{bits}
-use Rattle.cg_machine.specs.Evaluation.{Outcome, Table, Run, call, iterated}
-use Rattle.cg_operations.specs.Iterators.{asked, indices, indices_from, is_iterator}
+use Rattle.cg_eval_def.specs.Evaluation.{Outcome, Table, Run, call, iterated}
+use Rattle.cg_eval_operations.specs.Iterators.{asked, indices, indices_from, is_iterator}
 use Rattle.cg_typing.specs.Instances.{as_arguments}
 use Rattle.cg_kinds.specs.Kinds.{bang, is_word}
-use Rattle.cg_lawful.specs.Lawful.{library_arity}
+use Rattle.cg_core_def.specs.Lawful.{library_arity}
 use Rattle.cg_typing.specs.Functions.{asked_by_library, are_good_arguments}
 use Rattle.cg_typing.specs.Library.{array, given, library_type, pair, stopped, turn_of_array, turn_of_loop, whole}
 use Rattle.cg_typing.specs.Parts.{given_by, taken_by}

@@ -15,5 +15,4 @@ pub mod Outcomes
 pub mod Reached
 pub mod Soundness
 pub mod Turns
-pub mod Whole
 pub mod Widening

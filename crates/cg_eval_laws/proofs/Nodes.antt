@@ -15,9 +15,9 @@ use Rattle.cg_core.specs.declared.term.Seen.{Seen as Observer}
 use Rattle.cg_core.specs.Derivations.{Derivation, Derivations}
 use Rattle.cg_core.specs.Kernels.{Function}
 use Rattle.cg_core.specs.Terms.{Note, Tree, Shape, var, unit, bool, lit, fun, op, app, lets, let_bang, if_else, con, case_of, esac, struct, member, take_field, put, cast, annot, none, more, Named, end, field}
-use Rattle.cg_machine.specs.Evaluation.{Outcome, spent, stuck, gives, bind, Context, Table, Run, all_of, apply, node_shape}
-use Rattle.cg_operations.specs.Operators.{literal, truth}
-use Rattle.cg_machine.specs.Foreigns.{is_among}
+use Rattle.cg_eval_def.specs.Evaluation.{Outcome, spent, stuck, gives, bind, Context, Table, Run, all_of, apply, node_shape}
+use Rattle.cg_eval_operations.specs.Operators.{literal, truth}
+use Rattle.cg_eval_def.specs.Foreigns.{is_among}
 use Rattle.cg_typing.specs.Instances.{is_closed}
 use Rattle.cg_kinds.specs.Kinds.{is_word, subst, subst_parts}
 use Rattle.cg_typing.specs.Contexts.{Context as Entries, push, first, second, Splits}

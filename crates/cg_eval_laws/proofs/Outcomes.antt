@@ -1,7 +1,7 @@
 -- Sound outcomes, one after another and where a cost is paid.
 use Rattle.std.proofs.Common.{◌≡◌, ℕ, zero, suc, ◌-◌, cond, IsTrue, Option, Some, None, refl, ap, nat_lt, subst as at}
 use Rattle.cg_base.specs.Types.{Tau}
-use Rattle.cg_machine.specs.Evaluation.{Outcome, spent, stuck, gives, bind, cost_of, Table, pay, pay_for}
+use Rattle.cg_eval_def.specs.Evaluation.{Outcome, spent, stuck, gives, bind, cost_of, Table, pay, pay_for}
 use Rattle.cg_value.specs.Fits.{World, fits}
 use Rattle.cg_value.specs.Values.{Val, gone}
 use Rattle.cg_eval_laws.specs.Laws.{IsSound}

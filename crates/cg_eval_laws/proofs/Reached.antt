@@ -8,9 +8,9 @@ use Rattle.cg_base.specs.declared.fun.Fun.{Fun}
 use Rattle.cg_base.specs.declared.fun.Fun.TheVariants.{User, Lib as OfLib}
 use Rattle.cg_core.specs.Kernels.{Function}
 use Rattle.cg_core.specs.Terms.{Note, Tree, term, Shape, var, unit, bool, lit, fun, op, app, lets, let_bang, if_else, con, case_of, esac, struct, member, take_field, put, cast, annot, Trees, none, more, Named, end, field, erased, erased_shape, erased_trees, erased_named}
-use Rattle.cg_machine.specs.Foreigns.{is_among}
+use Rattle.cg_eval_def.specs.Foreigns.{is_among}
 use Rattle.cg_typing.specs.Instances.{has_vars, takes_as_many}
-use Rattle.cg_lawful.specs.Lawful.{IsLawfulTerm, IsLawfulShape, AreLawfulTerms, AreLawfulFields, Takes, term_mentions, shape_mentions, terms_mentions, fields_mentions, user_of}
+use Rattle.cg_core_def.specs.Lawful.{IsLawfulTerm, IsLawfulShape, AreLawfulTerms, AreLawfulFields, Takes, term_mentions, shape_mentions, terms_mentions, fields_mentions, user_of}
 
 -- how many type arguments each function takes
 abbrev pub arities : List Function → List ℕ

@@ -3,8 +3,8 @@ use Rattle.std.proofs.Common.{◌≡◌, ℕ, zero, suc, ◌+◌, ◌<◌, true,
 use Rattle.std.specs.Prelude.{if◌then◌else◌}
 use Rattle.cg_base.specs.declared.fun.Lib.{Lib}
 use Rattle.cg_base.specs.Types.{Tau}
-use Rattle.cg_machine.specs.Evaluation.{Outcome, gives, turns}
-use Rattle.cg_operations.specs.Iterators.{changed, carried, counted, ended, indices_from, stops}
+use Rattle.cg_eval_def.specs.Evaluation.{Outcome, gives, turns}
+use Rattle.cg_eval_operations.specs.Iterators.{changed, carried, counted, ended, indices_from, stops}
 use Rattle.cg_value.specs.Fits.{World, fits}
 use Rattle.cg_value.specs.Values.{Val}
 use Rattle.cg_eval_laws.specs.Laws.{IsSound}

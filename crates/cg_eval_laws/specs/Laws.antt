@@ -3,13 +3,12 @@ use Rattle.std.specs.Prelude.{◌≡◌, ℕ, Bool, true, IsTrue, List, [], Some
 use Rattle.cg_base.specs.declared.fun.Fun.TheVariants.{User}
 use Rattle.cg_base.specs.Types.{Tau, arrow}
 use Rattle.cg_core.specs.Kernels.{Function, kernel_of}
-use Rattle.cg_machine.specs.Evaluation.{Outcome, spent, stuck, gives, outcome}
-use Rattle.cg_machine.specs.Foreigns.{IsClosed, table_of, world_of}
+use Rattle.cg_eval_def.specs.Evaluation.{Outcome, spent, stuck, gives, outcome}
+use Rattle.cg_eval_def.specs.Foreigns.{IsClosed, table_of, world_of}
 use Rattle.cg_typing.specs.declared.checked.Checked.{Checked}
 use Rattle.cg_typing.specs.Holds.{kernel_in}
 use Rattle.cg_value.specs.Fits.{World, fits}
-use Rattle.cg_value.specs.Foreign.{Foreign, IsLawful, first_order}
-use Rattle.cg_value.specs.NoForeign.{no_foreign}
+use Rattle.cg_value.specs.Foreign.{Foreign, IsLawful}
 use Rattle.cg_value.specs.Values.{Val, function}
 
 -- what comes of a budget is not stuck, and a value fits
@@ -32,15 +31,3 @@ abbrev pub FunctionsFit : Type 0
 FunctionsFit =
     (x : Foreign) (checked : Checked) (among : ℕ → Bool) (i : ℕ) (f : Function) → slice_get (kernel_of (kernel_in checked)) i ≡ Some f → IsTrue (among i)
     → f.vars ≡ [] → IsTrue (fits (world_of x (kernel_of (kernel_in checked)) among) f.ty.ty (function (User i) []))
-
--- every function has a body
-abbrev pub HasBodies : List Function → Type 0
-HasBodies functions = (i : ℕ) (f : Function) → slice_get functions i ≡ Some f → f.body ≡ None → ⊥
-
--- A source all of whose functions have bodies needs no table: a call of a function without type variables is sound, where its argument
--- fits and has in it neither functions nor users' abstract values.
-abbrev pub WholeSourcesAreSound : Type 0
-WholeSourcesAreSound =
-    (checked : Checked) → HasBodies (kernel_of (kernel_in checked)) → (i n : ℕ) (f : Function) (a b : Tau) (v : Val)
-    → slice_get (kernel_of (kernel_in checked)) i ≡ Some f → f.vars ≡ [] → f.ty.ty ≡ arrow a b → IsTrue (fits (first_order no_foreign) a v)
-    → IsSound (world_of no_foreign (kernel_of (kernel_in checked)) (λ i. true)) b (outcome (table_of no_foreign checked) n (function (User i) []) v)

@@ -3,4 +3,4 @@
 
 mod law;
 
-pub use law::{calls_are_sound, functions_fit, whole_sources_are_sound};
+pub use law::{calls_are_sound, functions_fit};

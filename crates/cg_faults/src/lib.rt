@@ -4,7 +4,5 @@
 #![tactic(auto)]
 
 mod rule;
-mod uses;
 
 pub use rule::Rule;
-pub use uses::Use;

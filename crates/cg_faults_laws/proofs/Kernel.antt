@@ -6,7 +6,7 @@ use Rattle.cg_base.specs.declared.place.Place.{Place}
 use Rattle.cg_core.specs.Kernels.{Function, Body}
 use Rattle.cg_core.specs.Terms.{term, unit}
 use Rattle.cg_faults.specs.declared.rule.Rule.TheVariants.{T4, T14}
-use Rattle.cg_lawful.specs.Lawful.{IsLawfulFunction, IsLawfulBody, IsLawfulKernel}
+use Rattle.cg_core_def.specs.Lawful.{IsLawfulFunction, IsLawfulBody, IsLawfulKernel}
 use Rattle.cg_typing.specs.Accepted.{kinds_of_vars}
 use Rattle.cg_faults.specs.Conditions.{Condition, typed, Breaks, scope_conditions}
 use Rattle.cg_faults.specs.Events.{Event, Fault, first_failing, judged, nowhere, scope_end, events, body_events, function_events, kernel_events}

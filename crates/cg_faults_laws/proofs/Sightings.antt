@@ -6,7 +6,7 @@ use Rattle.cg_base.specs.Types.{Tau, Parts}
 use Rattle.cg_core.specs.declared.term.Seen.{Seen}
 use Rattle.cg_core.specs.Kernels.{Function}
 use Rattle.cg_core.specs.Terms.{Tree, term, Shape, var, unit, bool, lit, fun, op, app, lets, let_bang, if_else, con, case_of, esac, struct, member, take_field, put, cast, annot, none, more, Named, end, field}
-use Rattle.cg_lawful.specs.Lawful.{AreLawfulFields}
+use Rattle.cg_core_def.specs.Lawful.{AreLawfulFields}
 use Rattle.cg_typing.specs.Contexts.{push, among}
 use Rattle.cg_faults.specs.Occurrences.{Sighting, used, sightings_among, sightings, sightings_fields}
 use Rattle.cg_typing.specs.Operators.{Sort, arithmetic, equality, order, logic, sort_of}

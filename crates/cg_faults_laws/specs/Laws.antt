@@ -3,7 +3,7 @@
 use Rattle.std.specs.Prelude.{◌≡◌, ◌↔◌, ◌++◌, ℕ, true, false, Option, Some, None, List, slice_get}
 use Rattle.cg_base.specs.declared.place.Place.{Place}
 use Rattle.cg_core.specs.Kernels.{Function, Body}
-use Rattle.cg_lawful.specs.Lawful.{IsLawfulKernel}
+use Rattle.cg_core_def.specs.Lawful.{IsLawfulKernel}
 use Rattle.cg_typing.specs.Accepted.{IsAcceptedKernel}
 use Rattle.cg_faults.specs.Events.{LimitsHold, kernel_events, first_failing}
 use Rattle.cg_faults.specs.Fails.{Judged, root_of, FailsAt, Fails}

@@ -11,7 +11,7 @@ use Rattle.cg_heap.specs.declared.cell.Cell.{Cell}
 use Rattle.cg_heap.specs.declared.cell.Cell.TheVariants.{Words, Answers}
 use Rattle.cg_heap.specs.declared.cell.Scalar.{Scalar}
 use Rattle.cg_heap.specs.Reps.{Heap, HeapWorld, StandsFor, Holds, HoldsAll, HoldsAt, slots, inner, first_number, first_address, tail}
-use Rattle.cg_lawful.specs.Lawful.{AreApart, part_names, IsLawfulType, AreLawfulParts}
+use Rattle.cg_core_def.specs.Lawful.{AreApart, part_names, IsLawfulType, AreLawfulParts}
 use Rattle.cg_value.specs.Fits.{World, fits, fits_abstract, fits_alternative, fits_fields, is_answers, is_array, is_gone}
 use Rattle.cg_value.specs.Values as values
 use Rattle.cg_value.specs.Values.{Val, number, nothing, chosen, parts, elements, answers, gone, Vals}

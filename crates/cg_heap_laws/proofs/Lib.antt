@@ -7,3 +7,17 @@ pub mod Once
 pub mod Same
 pub mod Slots
 pub mod There
+pub mod Allocations
+pub mod Allocator
+pub mod Arrays
+pub mod Changes
+pub mod LibraryForms
+pub mod LibraryFunctions
+pub mod LibraryObserved
+pub mod Owned
+pub mod LibraryParts
+pub mod Present
+pub mod Rising
+pub mod Stores
+pub mod Tuples
+pub mod LibraryWhole

@@ -10,7 +10,7 @@ use Rattle.cg_heap.specs.declared.cell.Scalar.TheVariants.{Address}
 use Rattle.cg_heap.specs.Frames.{Frame}
 use Rattle.cg_heap.specs.Reps.{Heap, HeapWorld, Holds, AreApart, is_boxed, slots, foot}
 use Rattle.cg_kinds.specs.Kinds.{kinds, bang}
-use Rattle.cg_lawful.specs.Lawful.{IsLawfulType}
+use Rattle.cg_core_def.specs.Lawful.{IsLawfulType}
 use Rattle.cg_value.specs.Fits.{World, fits}
 use Rattle.cg_value.specs.Values.{Val}
 

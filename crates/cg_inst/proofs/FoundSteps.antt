@@ -14,9 +14,9 @@ use Rattle.cg_inst.specs.Founds.{Comes, Keyed, found_in}
 use Rattle.cg_inst.specs.Keyed.{AreKeyed, instance_at}
 use Rattle.cg_inst.specs.Lists.{same_instance, with_instance, with_instances}
 use Rattle.cg_inst.specs.Lookups.{same_key, with_key}
-use Rattle.cg_shared.specs.Layers.{types_at}
-use Rattle.cg_shared.specs.Listings.{IsListing, list_at, list_of, listing}
-use Rattle.cg_shared.specs.Places.{Each, IsOnce, Keeps}
+use Rattle.cg_inst_types.specs.Layers.{types_at}
+use Rattle.cg_inst_types.specs.Listings.{IsListing, list_at, list_of, listing}
+use Rattle.cg_inst_types.specs.Places.{Each, IsOnce, Keeps}
 use Rattle.cg_typing.specs.Instances.{Instance, mentioned_at, mentioned_in}
 use Rattle.cg_inst.proofs.ListSteps.{mentions_end, mentions_next, not_shorter, with_both, with_none, with_one}
 use Rattle.cg_inst.proofs.Standing.{listed, stays_at, types_stay}

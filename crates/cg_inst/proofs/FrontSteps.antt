@@ -6,7 +6,7 @@ use Rattle.cg_base.specs.declared.fun.Fun.TheVariants.{User}
 use Rattle.cg_base.specs.declared.kind.Bound.{Bound}
 use Rattle.cg_core.specs.Kernels.{Function}
 use Rattle.cg_inst.specs.Lists.{front_from, front_one, same_instance, with_instance}
-use Rattle.cg_shared.specs.Places.{Each}
+use Rattle.cg_inst_types.specs.Places.{Each}
 use Rattle.cg_typing.specs.Instances.{Instance}
 use Rattle.cg_inst.proofs.SameInstance.{instance_is}
 

@@ -5,7 +5,6 @@ pub mod LimitSteps
 pub mod ListSteps
 pub mod MakeSteps
 pub mod Names
-pub mod NodeSteps
 pub mod SameInstance
 pub mod SameType
 pub mod SearchSteps

@@ -6,9 +6,9 @@ use Rattle.cg_base.proofs.Views.{list_taus}
 use Rattle.cg_core.specs.declared.at.TyArg.{TyArg}
 use Rattle.cg_core.specs.Terms.{arg_of}
 use Rattle.cg_kinds.specs.Kinds.{or_unit, subst as subst_of}
-use Rattle.cg_shared.specs.Layers.{types_at}
-use Rattle.cg_shared.specs.Listings.{IsListing, list_at, list_of, listing}
-use Rattle.cg_shared.specs.Places.{Each, Keeps, type_at}
+use Rattle.cg_inst_types.specs.Layers.{types_at}
+use Rattle.cg_inst_types.specs.Listings.{IsListing, list_at, list_of, listing}
+use Rattle.cg_inst_types.specs.Places.{Each, Keeps, type_at}
 use Rattle.cg_typing.specs.Functions.{arg_types}
 
 -- ---- what stays

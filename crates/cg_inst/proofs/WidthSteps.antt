@@ -19,7 +19,7 @@ use Rattle.cg_base.proofs.Views.{piece_of}
 use Rattle.cg_base.specs.Types.{Tau, var, seen, unit, word, bool, arrow, abs, variant, fields, Taus, none, more, Parts, end, part, to_taus, to_parts, type_of, part_of}
 use Rattle.cg_inst.specs.Measured.{AreSmallBy, IsSmallBy, nodes_by, nodes_for, own_nodes, own_nodes_all, own_nodes_parts, variables_in, variables_in_all, variables_in_parts, width_of}
 use Rattle.cg_kinds.specs.Kinds.{or_unit, subst as subst_of, subst_all, subst_parts, bang, bang_all, bang_parts}
-use Rattle.cg_shared.specs.Layers.{capped}
+use Rattle.cg_inst_types.specs.Layers.{capped}
 use Rattle.cg_typing.specs.Parts.{is_small_enough, nodes, nodes_all, nodes_parts}
 
 -- ---- a type has as many nodes as its bang

@@ -11,8 +11,8 @@ use Rattle.cg_inst.specs.Keyed.{instance_at}
 use Rattle.cg_core.specs.Kernels.{Function}
 use Rattle.cg_inst.specs.Judged.{AreTooMany}
 use Rattle.cg_inst.specs.Lists.{Cores, IsList, most_instances}
-use Rattle.cg_shared.specs.Layers.{types_at}
-use Rattle.cg_shared.specs.Places.{Each}
+use Rattle.cg_inst_types.specs.Layers.{types_at}
+use Rattle.cg_inst_types.specs.Places.{Each}
 use Rattle.cg_typing.specs.Instances.{Instance}
 
 -- types by their places, and keys over them

@@ -2,8 +2,8 @@
 use Rattle.std.specs.Prelude.{List}
 use Rattle.cg_base.specs.Types.{Tau}
 use Rattle.cg_inst.specs.declared.keys.Key.{Key}
-use Rattle.cg_shared.specs.Listings.{IsListing, list_at}
-use Rattle.cg_shared.specs.Places.{Each}
+use Rattle.cg_inst_types.specs.Listings.{IsListing, list_at}
+use Rattle.cg_inst_types.specs.Places.{Each}
 use Rattle.cg_typing.specs.Instances.{Instance}
 
 -- the instance of a key, over a table

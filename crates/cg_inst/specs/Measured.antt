@@ -5,7 +5,7 @@ use Rattle.std.specs.List.{All}
 use Rattle.cg_base.specs.Types.{Tau, var, seen, unit, word, bool, arrow, abs, variant, fields, Taus, none, more, Parts, end, part}
 use Rattle.cg_inst.specs.declared.widths.Width.{Width}
 use Rattle.cg_kinds.specs.Kinds.{or_unit}
-use Rattle.cg_shared.specs.Layers.{capped}
+use Rattle.cg_inst_types.specs.Layers.{capped}
 use Rattle.cg_typing.specs.Parts.{nodes, type_size}
 
 -- how many nodes of a type are no type variable

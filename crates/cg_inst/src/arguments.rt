@@ -2,14 +2,14 @@
 ghost use Rattle.std.specs.Prelude.{◌≡◌, ◌<◌, length, map, slice_get, IfOk, Some};
 ghost use Rattle.cg_core.specs.Terms.{arg_of};
 ghost use Rattle.cg_kinds.specs.Kinds.{subst};
-ghost use Rattle.cg_shared.specs.Layers.{types_at};
-ghost use Rattle.cg_shared.specs.Listings.{listing};
-ghost use Rattle.cg_shared.specs.Places.{Each, Keeps};
+ghost use Rattle.cg_inst_types.specs.Layers.{types_at};
+ghost use Rattle.cg_inst_types.specs.Listings.{listing};
+ghost use Rattle.cg_inst_types.specs.Places.{Each, Keeps};
 ghost use Rattle.cg_typing.specs.Functions.{arg_types};
 
 use cg_base::{Items, Memory};
 use cg_core::TyArg;
-use cg_shared::{TypeId, TypeTable};
+use cg_inst_types::{TypeId, TypeTable};
 use std::alloc::Global;
 
 /// The place of written type arguments as one list, with the types at these places for their type variables. Want of memory is its one

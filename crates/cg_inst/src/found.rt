@@ -7,10 +7,10 @@ ghost use Rattle.cg_inst.specs.Founds.{Comes, IsEntryAt, found_in};
 ghost use Rattle.cg_inst.specs.Judged.{core_in, functions_in};
 ghost use Rattle.cg_inst.specs.Limited.{AreSmallAt, function_at};
 ghost use Rattle.cg_inst.specs.Measured.{width_in};
-ghost use Rattle.cg_shared.specs.Listings.{IsListing, list_at, listing};
+ghost use Rattle.cg_inst_types.specs.Listings.{IsListing, list_at, listing};
 ghost use Rattle.cg_inst.specs.Lists.{front_from, gone_through, with_instance, with_instances};
-ghost use Rattle.cg_shared.specs.Layers.{types_at};
-ghost use Rattle.cg_shared.specs.Places.{Each, Keeps};
+ghost use Rattle.cg_inst_types.specs.Layers.{types_at};
+ghost use Rattle.cg_inst_types.specs.Places.{Each, Keeps};
 ghost use Rattle.cg_typing.specs.Instances.{mentioned_at, mentioned_in};
 
 use crate::arguments::enter_types;
@@ -20,7 +20,7 @@ use crate::nodes::{body_nodes, mention_in};
 use crate::widths::{Width, are_small};
 use cg_base::{Fun, Items, Limit, Memory, Ty};
 use cg_core::{KFun, Term, Typed};
-use cg_shared::{TypeId, TypeTable};
+use cg_inst_types::{TypeId, TypeTable};
 use cg_typing::Checked;
 use std::alloc::Global;
 use std::marker::Model;
@@ -36,7 +36,7 @@ impl Model for Found {
     ghost use Rattle.cg_inst.specs.Founds.{Keyed};
     ghost use Rattle.cg_inst.specs.Keyed.{AreKeyed};
     ghost use Rattle.std.specs.Coded.{codes};
-    ghost use Rattle.cg_shared.specs.Codes.{coded_type};
+    ghost use Rattle.cg_inst_types.specs.Codes.{coded_type};
 
     ghost Value = { Keyed };
 

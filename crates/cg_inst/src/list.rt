@@ -17,7 +17,7 @@ impl Model for Instances {
     ghost use Rattle.std.specs.Prelude.{◌≤◌, List, length, map};
     ghost use Rattle.std.specs.Coded.{codes};
     ghost use Rattle.cg_inst.specs.Views.{instance_of};
-    ghost use Rattle.cg_shared.specs.Codes.{coded_type};
+    ghost use Rattle.cg_inst_types.specs.Codes.{coded_type};
     ghost use Rattle.cg_typing.specs.Instances.{Instance as OneInstance};
 
     ghost Value = { List OneInstance };

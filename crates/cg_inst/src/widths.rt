@@ -5,12 +5,12 @@ ghost use Rattle.std.specs.Prelude.{◌≡◌, ◌+◌, ◌↔◌, ◌++◌, map
 ghost use Rattle.cg_base.specs.Types.{type_of, part_of, to_parts, to_taus};
 ghost use Rattle.cg_inst.specs.Measured.{AreSmallBy, nodes_by, own_nodes, own_nodes_all, own_nodes_parts, variables_in, variables_in_all, variables_in_parts, width_in, width_of};
 ghost use Rattle.cg_kinds.specs.Kinds.{or_unit};
-ghost use Rattle.cg_shared.specs.Layers.{capped, types_at};
+ghost use Rattle.cg_inst_types.specs.Layers.{capped, types_at};
 ghost use Rattle.cg_typing.specs.Parts.{nodes};
 
 use cg_base::{Items, Memory, Part, Ty};
 use cg_core::{Term, Typed};
-use cg_shared::{TypeId, TypeTable};
+use cg_inst_types::{TypeId, TypeTable};
 use std::alloc::Global;
 
 /// What is known of a type before types stand for its type variables: how many of its nodes are no type variable, and which type variables

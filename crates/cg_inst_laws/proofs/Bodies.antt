@@ -14,7 +14,7 @@ use Rattle.cg_core.specs.Kernels.{Body, Function}
 use Rattle.cg_core.specs.Terms.{Note, Tree, term, fun, erased}
 use Rattle.cg_inst.specs.Judged.{core_in, functions_in}
 use Rattle.cg_inst.specs.Lists.{Cores, core_of, mentioned_by, mentioned_maybe}
-use Rattle.cg_lawful.specs.Lawful.{IsLawfulBody, IsLawfulFunction, Takes, body_mentions, user_of}
+use Rattle.cg_core_def.specs.Lawful.{IsLawfulBody, IsLawfulFunction, Takes, body_mentions, user_of}
 use Rattle.cg_typing.specs.Accepted.{kinds_of_vars}
 use Rattle.cg_typing.specs.declared.checked.Checked.{Checked}
 use Rattle.cg_typing.specs.Functions.{are_good_arguments, asked_by_user}
@@ -22,7 +22,7 @@ use Rattle.cg_typing.specs.Holds.{cores_in, kept_at, trees_in}
 use Rattle.cg_typing.specs.Instances.{Instance, IsGood, as_arguments, has_vars, is_closed, mentioned, mentioned_at, mentioned_in, nodes_of, takes_as_many}
 use Rattle.cg_typing.specs.Kept.{AreKept, IsKept, IsKeptMaybe, maybe_core, maybe_tree}
 use Rattle.cg_typing_laws.specs.Laws.{AreInstance}
-use Rattle.cg_typing_laws.specs.Subst.{subst_core}
+use Rattle.cg_typing.specs.Subst.{subst_core}
 use Rattle.cg_typing_laws.proofs.Instances.{checked_arguments}
 use Rattle.cg_inst_laws.proofs.Each.{Each, each_both, each_join, each_then}
 use Rattle.cg_inst_laws.proofs.Mentions.{given_twice, mention_is_good, types_back}

@@ -6,11 +6,11 @@ use Rattle.std.specs.Option.{option_map}
 use Rattle.std.specs.Prelude.{slice_get}
 use Rattle.cg_base.specs.declared.fun.Fun.{Fun}
 use Rattle.cg_base.specs.declared.fun.Fun.TheVariants.{User, Lib as OfLib}
-use Rattle.cg_circles.specs.Circles.{Mentions, NoCircle, Reaches, mentioned, onward}
+use Rattle.cg_graphs.specs.Circles.{Mentions, NoCircle, Reaches, mentioned, onward}
 use Rattle.cg_core.specs.Derivations.{Derivation}
 use Rattle.cg_core.specs.Kernels.{Function}
 use Rattle.cg_inst.specs.Lists.{Cores, core_of, mentioned_by, mentioned_maybe, same_instance}
-use Rattle.cg_lawful.specs.Lawful.{body_mentions, kernel_mentions, user_of}
+use Rattle.cg_core_def.specs.Lawful.{body_mentions, kernel_mentions, user_of}
 use Rattle.cg_typing.specs.Instances.{Instance, IsGood}
 use Rattle.cg_inst_laws.specs.Laws.{instance_mentions, place_in}
 use Rattle.cg_inst_laws.proofs.Bodies.{AreTyped, mentions_named, user_there}

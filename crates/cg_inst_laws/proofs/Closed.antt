@@ -6,7 +6,7 @@ use Rattle.std.specs.Prelude.{slice_get}
 use Rattle.cg_base.specs.Types.{Tau, var, seen, unit, word, bool, arrow, abs, variant, fields, Taus, none, more, Parts, end, part}
 use Rattle.cg_typing.specs.Instances.{is_closed}
 use Rattle.cg_kinds.specs.Kinds.{bang, bang_all, bang_parts, or_unit, subst, subst_all, subst_parts, width, width_all, width_parts}
-use Rattle.cg_lawful.specs.Lawful.{IsLawfulType, AreLawfulTypes, AreLawfulParts}
+use Rattle.cg_core_def.specs.Lawful.{IsLawfulType, AreLawfulTypes, AreLawfulParts}
 
 zero_max : (a b : ℕ) → a ≡ 0 → b ≡ 0 → max a b ≡ 0
 zero_max a b p q = ap (λ a. max a b) p ∙ ap (λ b. max 0 b) q

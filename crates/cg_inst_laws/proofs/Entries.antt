@@ -21,7 +21,7 @@ use Rattle.cg_typing.specs.Instances.{AreInstances, Entry, Instance, IsDerivedMa
 use Rattle.cg_typing.specs.Kept.{IsKeptMaybe}
 use Rattle.cg_typing.specs.Library.{library_type}
 use Rattle.cg_typing_laws.specs.Laws.{AreInstance}
-use Rattle.cg_typing_laws.specs.Subst.{subst_core}
+use Rattle.cg_typing.specs.Subst.{subst_core}
 use Rattle.cg_typing_laws.proofs.Substitution.{substitution}
 use Rattle.cg_inst_laws.specs.Laws.{entry_of}
 use Rattle.cg_inst_laws.proofs.Bodies.{AreTyped, are_instance, mentioned_given, mentions_good, user_there}

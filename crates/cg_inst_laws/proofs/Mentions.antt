@@ -12,7 +12,7 @@ use Rattle.cg_typing.specs.Functions.{Asked, are_good_arguments, arg_types, aske
 use Rattle.cg_typing.specs.Instances.{IsGood, as_arguments, is_closed, takes_as_many}
 use Rattle.cg_typing.specs.Parts.{has_word_arrays}
 use Rattle.cg_typing_laws.specs.Laws.{AreInstance}
-use Rattle.cg_typing_laws.specs.Subst.{subst_arg}
+use Rattle.cg_typing.specs.Subst.{subst_arg}
 use Rattle.cg_typing_laws.proofs.Functions.{arguments_kept}
 use Rattle.cg_inst_laws.proofs.Closed.{closed_all, closed_stays, closed_subst}
 

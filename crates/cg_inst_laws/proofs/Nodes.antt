@@ -7,11 +7,11 @@ use Rattle.cg_core.specs.declared.derivation.Mark.{Mark}
 use Rattle.cg_core.specs.Derivations.{Derivation, Derivations}
 use Rattle.cg_core.specs.Kernels.{Function}
 use Rattle.cg_core.specs.Terms.{Note, Tree, term, Shape, var, unit, bool, lit, fun, op, app, lets, let_bang, if_else, con, case_of, esac, struct, member, take_field, put, cast, annot, Trees, none, more, Named, end, field, erased, erased_shape, erased_trees, erased_named}
-use Rattle.cg_lawful.specs.Lawful.{AreLawfulFields, AreLawfulTerms, IsLawfulShape, IsLawfulTerm, fields_mentions, shape_mentions, term_mentions, terms_mentions, user_of}
+use Rattle.cg_core_def.specs.Lawful.{AreLawfulFields, AreLawfulTerms, IsLawfulShape, IsLawfulTerm, fields_mentions, shape_mentions, term_mentions, terms_mentions, user_of}
 use Rattle.cg_typing.specs.Contexts.{Context}
 use Rattle.cg_typing.specs.Instances.{nodes_below, nodes_of, nodes_of_all, nodes_of_fields}
 use Rattle.cg_typing.specs.Rules.{Derives, DerivesFields, DerivesShape}
-use Rattle.cg_typing_laws.specs.Subst.{subst_core, subst_cores, subst_fields, subst_shape}
+use Rattle.cg_typing.specs.Subst.{subst_core, subst_cores, subst_fields, subst_shape}
 use Rattle.cg_inst_laws.proofs.Each.{Each, each_both, each_left, each_right, each_three}
 
 -- ---- derived

@@ -1,7 +1,7 @@
 -- The laws of lists of instances.
 use Rattle.std.specs.Prelude.{◌≡◌, ℕ, zero, suc, List, [], ◌∷◌, map, slice_get, Some, if◌then◌else◌}
 use Rattle.std.specs.Option.{option_map}
-use Rattle.cg_circles.specs.Circles.{NoCircle}
+use Rattle.cg_graphs.specs.Circles.{NoCircle}
 use Rattle.cg_core.specs.Kernels.{Function}
 use Rattle.cg_inst.specs.Judged.{core_in, functions_in}
 use Rattle.cg_inst.specs.Lists.{Cores, IsList, core_of, mentioned_by, same_instance}
@@ -9,7 +9,7 @@ use Rattle.cg_kinds.specs.Kinds.{or_unit}
 use Rattle.cg_typing.specs.declared.checked.Checked.{Checked}
 use Rattle.cg_typing.specs.Functions.{fun_type}
 use Rattle.cg_typing.specs.Instances.{AreInstances, Entry, Instance, IsGood, as_arguments}
-use Rattle.cg_typing_laws.specs.Subst.{subst_core}
+use Rattle.cg_typing.specs.Subst.{subst_core}
 
 -- what an instance comes to: its function's type and core with its types for the type variables
 abbrev pub entry_of : List Function → Cores → Instance → Entry

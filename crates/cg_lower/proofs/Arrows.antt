@@ -4,11 +4,11 @@ use Rattle.std.proofs.lemmas.List.Folds.{list_any-append}
 use Rattle.std.specs.List.{AllByRecursion, flat_map, list_any}
 use Rattle.cg_base.specs.Same.{same_type}
 use Rattle.cg_base.specs.Types.{Tau}
-use Rattle.cg_collect.specs.Collected.{Copy, arrows_in, arrows_of, called_at, value_called, with_arrows}
+use Rattle.cg_lower.specs.Collected.{Copy, arrows_in, arrows_of, called_at, value_called, with_arrows}
 use Rattle.cg_core.specs.Terms.{Note, Tree, term, fun, app}
-use Rattle.cg_cplaces.specs.Found.{with_arrow}
+use Rattle.cg_lower_tables.specs.Found.{with_arrow}
 use Rattle.cg_inst.proofs.SameType.{same_self}
-use Rattle.cg_lower_laws.specs.Simulated.{CallsListed, IsListed}
+use Rattle.cg_lower_def.specs.Simulated.{CallsListed, IsListed}
 use Rattle.cg_lower.proofs.Lists.{all_follow, part_holds, parts_hold}
 
 -- an arrow type is among these

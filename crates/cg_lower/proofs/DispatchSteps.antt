@@ -7,7 +7,7 @@ use Rattle.cg_ctree.specs.declared.tree.CBody.{CBody}
 use Rattle.cg_ctree.specs.Trees.{body_of, Case, case, case_of, stmt_of, to_block, to_cases}
 use Rattle.cg_lower.specs.Lowerings.{dispatch_body_by}
 use Rattle.cg_ctree.specs.declared.tree.CStmt.{the_lemmas}
-use Rattle.cg_lower_laws.specs.Dispatch.{dispatch_cases, dispatched}
+use Rattle.cg_lower_def.specs.Dispatch.{dispatch_cases, dispatched}
 
 -- the case of a place
 abbrev pub case_at : ℕ → Case

@@ -4,9 +4,9 @@ use Rattle.std.proofs.lemmas.List.{length-take-le, take_more}
 use Rattle.cg_ctree.specs.declared.tree.CDecl.{CDecl}
 use Rattle.cg_ctree.specs.declared.tree.CTy.{CTy}
 use Rattle.cg_core.specs.declared.term.Form.{the_lemmas}
-use Rattle.cg_lower_laws.specs.CTypes.{declared}
-use Rattle.cg_lower_laws.specs.Functions.{locals_from}
-use Rattle.cg_lower_laws.specs.Places.{local_name}
+use Rattle.cg_lower_def.specs.CTypes.{declared}
+use Rattle.cg_lower_def.specs.Functions.{locals_from}
+use Rattle.cg_lower_def.specs.Places.{local_name}
 use Rattle.cg_lower.proofs.MoveSteps.{item_is, rest_more}
 
 locals_more : (k : ℕ) (ts : List CTy) (t : CTy) → locals_from k (ts ++ t ∷ []) ≡ locals_from k ts ++ declared t (local_name (k + length ts)) ∷ []

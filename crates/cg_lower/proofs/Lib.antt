@@ -8,3 +8,6 @@ pub mod PrintedStructs
 pub mod ProgramSteps
 pub mod Programs
 pub mod Ready
+mod Apart
+pub mod CallSteps
+pub mod CollectSteps

@@ -3,13 +3,13 @@ use Rattle.std.proofs.Common.{◌≡◌, ℕ, ◌+◌, ◌-◌, ◌<◌, nat_lt,
 use Rattle.std.proofs.lemmas.Bool.{le-ltb, lt-ltb, ltb-false, ltb-true}
 use Rattle.std.proofs.lemmas.List.{length-append, length-map, length-replicate}
 use Rattle.std.specs.List.{Contains}
-use Rattle.cg_collect.specs.Calls.{calls_in, calls_of, nodes_called}
-use Rattle.cg_collect.specs.Collected.{Copy}
-use Rattle.cg_lower_laws.specs.Functions.{Item, of_arrow, of_instance}
-use Rattle.cg_lower_laws.specs.Lowered.{Whole}
-use Rattle.cg_lower_laws.specs.Simulated.{IsWithin}
-use Rattle.cg_order.proofs.Standing.{has_nodes}
-use Rattle.cg_order.specs.Ranks.{in_order}
+use Rattle.cg_lower.specs.Calls.{calls_in, calls_of, nodes_called}
+use Rattle.cg_lower.specs.Collected.{Copy}
+use Rattle.cg_lower_def.specs.Functions.{Item, of_arrow, of_instance}
+use Rattle.cg_lower_def.specs.Lowered.{Whole}
+use Rattle.cg_lower_def.specs.Simulated.{IsWithin}
+use Rattle.cg_graphs.proofs.Standing.{has_nodes}
+use Rattle.cg_graphs.specs.Ranks.{in_order}
 use Rattle.cg_update.specs.Calls.{Program}
 use Rattle.cg_lower.specs.Programs.{item_of, items_in}
 use Rattle.cg_lower.proofs.Lists.{contains_mapped, mapped_only}

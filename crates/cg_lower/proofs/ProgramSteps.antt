@@ -6,23 +6,23 @@ use Rattle.std.proofs.lemmas.Bool.{ltb-false, ltb-true}
 use Rattle.std.proofs.lemmas.List.{get_or-map, length-map, map-append, take_more}
 use Rattle.cg_base.specs.declared.ty.Ty.{Ty}
 use Rattle.cg_base.specs.Types.{Tau, type_of, unit}
-use Rattle.cg_cnodes.specs.Kept.{Kept, whole_in}
-use Rattle.cg_collect.specs.Calls.{calls_in, tags_of, whole_by}
-use Rattle.cg_collect.specs.Collected.{arrows_in, Copy, entries_of, list_of, table_in, whole_of}
-use Rattle.cg_collect.specs.Copies.{copies_of, pair_of}
-use Rattle.cg_collect.specs.declared.gather.Collected.{Collected}
-use Rattle.cg_collect.specs.Results.{IsCollected}
+use Rattle.cg_lower_nodes.specs.Kept.{Kept, whole_in}
+use Rattle.cg_lower.specs.Calls.{calls_in, tags_of, whole_by}
+use Rattle.cg_lower.specs.Collected.{arrows_in, Copy, entries_of, list_of, table_in, whole_of}
+use Rattle.cg_lower.specs.Copies.{copies_of, pair_of}
+use Rattle.cg_lower.specs.declared.gather.Collected.{Collected}
+use Rattle.cg_lower.specs.Results.{IsCollected}
 use Rattle.cg_core.specs.declared.term.Form.{the_lemmas}
-use Rattle.cg_cplaces.specs.Found.{Known}
+use Rattle.cg_lower_tables.specs.Found.{Known}
 use Rattle.cg_ctree.specs.declared.tree.CFun.{CFun}
 use Rattle.cg_ctree.specs.declared.tree.CStruct.{CStruct}
 use Rattle.cg_ctree.specs.Trees.{Function, function_of}
 use Rattle.cg_inst.specs.Views.{instance_of}
-use Rattle.cg_lower_laws.specs.Dispatch.{dispatch_of, tags_from}
-use Rattle.cg_lower_laws.specs.Functions as pure
-use Rattle.cg_lower_laws.specs.Functions.{Item, of_arrow, of_instance, function_at, function_of_item, functions_at, with_function}
-use Rattle.cg_lower_laws.specs.Lowered.{Whole}
-use Rattle.cg_lower_laws.specs.Structs.{IsTable, structs_in}
+use Rattle.cg_lower_def.specs.Dispatch.{dispatch_of, tags_from}
+use Rattle.cg_lower_def.specs.Functions as pure
+use Rattle.cg_lower_def.specs.Functions.{Item, of_arrow, of_instance, function_at, function_of_item, functions_at, with_function}
+use Rattle.cg_lower_def.specs.Lowered.{Whole}
+use Rattle.cg_lower_def.specs.Structs.{IsTable, structs_in}
 use Rattle.cg_lower.proofs.Placed.{instance_stands}
 use Rattle.cg_lower.proofs.Programs as pure_laws
 use Rattle.cg_lower.specs.Lowerings.{dispatch_by, IsFewItem}
@@ -32,7 +32,7 @@ use Rattle.cg_mono.specs.Copies.{copy_of}
 use Rattle.cg_mono.specs.declared.copies.Copy.{Copy as OneCopy}
 use Rattle.cg_mono.specs.declared.copies.Mono.{Mono}
 use Rattle.cg_mono.specs.Monos.{copies_in}
-use Rattle.cg_order.specs.Ranks.{in_order}
+use Rattle.cg_graphs.specs.Ranks.{in_order}
 use Rattle.cg_typing.specs.Instances.{Entry}
 
 -- ---- one function

@@ -1,15 +1,15 @@
 -- The C program of a list of instances does what the update semantics does, and can be printed.
 use Rattle.std.proofs.Common.{◌≡◌, List, length, sym, ap, ◌∙◌, subst, arith}
 use Rattle.std.proofs.lemmas.List.{length-map}
-use Rattle.cg_collect.specs.Collected.{Copy, table_in, whole_of}
+use Rattle.cg_lower.specs.Collected.{Copy, table_in, whole_of}
 use Rattle.cg_ctree.specs.Spells.{IsPrintable}
 use Rattle.cg_heap.specs.declared.foreign.Link.{Link}
 use Rattle.cg_lower_laws.proofs.Printing.{lowering_is_printable}
 use Rattle.cg_lower_laws.proofs.Whole.{lowering_simulates}
-use Rattle.cg_lower_laws.specs.Functions.{program_in}
-use Rattle.cg_lower_laws.specs.Simulated as laws
-use Rattle.cg_lower_laws.specs.Simulated.{Simulates}
-use Rattle.cg_lower_laws.specs.Structs.{structs_in}
+use Rattle.cg_lower_def.specs.Functions.{program_in}
+use Rattle.cg_lower_def.specs.Simulated as laws
+use Rattle.cg_lower_def.specs.Simulated.{Simulates}
+use Rattle.cg_lower_def.specs.Structs.{structs_in}
 use Rattle.cg_update.specs.Calls.{Program}
 use Rattle.cg_lower.specs.Programs.{items_in, lowered}
 use Rattle.cg_lower.specs.Promises.{AreFew, CanBePrinted, IsProgramOf, IsSimulated}

@@ -6,19 +6,19 @@ use Rattle.cg_base.specs.declared.fun.Fun.TheVariants.{Lib as OfLib}
 use Rattle.cg_base.specs.declared.fun.Lib.{Lib}
 use Rattle.cg_base.specs.declared.fun.Lib.TheVariants.{Map, Fold, Seq32, Seq64, Seq32Break}
 use Rattle.cg_base.specs.Types.{Tau}
-use Rattle.cg_collect.specs.Collected.{Copy, arrows_in, called_at, entries_of, list_of, nodes_maybe, parts_of_arrows, table_in, turned_by, types_of, whole_of}
+use Rattle.cg_lower.specs.Collected.{Copy, arrows_in, called_at, entries_of, list_of, nodes_maybe, parts_of_arrows, table_in, turned_by, types_of, whole_of}
 use Rattle.cg_core.specs.Terms.{Note, Tree}
 use Rattle.cg_heap.specs.declared.foreign.Link.{Link}
 use Rattle.cg_inst_laws.proofs.Mentions.{types_back}
 use Rattle.cg_lower_laws.proofs.Tables.{covered_are_declared}
 use Rattle.cg_lower_laws.proofs.Typings.{all_back, all_front}
-use Rattle.cg_lower_laws.specs.CTypes.{IsDeclared}
-use Rattle.cg_lower_laws.specs.Functions.{low_instance}
-use Rattle.cg_lower_laws.specs.IteratorCode.{function_type}
-use Rattle.cg_lower_laws.specs.Lowered.{Low, Whole}
-use Rattle.cg_lower_laws.specs.Simulated.{CallsListed, IsCallable, IsReady}
-use Rattle.cg_lower_laws.specs.Structs.{IsCovered, structs_in}
-use Rattle.cg_operations.specs.Iterators.{is_iterator}
+use Rattle.cg_lower_def.specs.CTypes.{IsDeclared}
+use Rattle.cg_lower_def.specs.Functions.{low_instance}
+use Rattle.cg_lower_def.specs.IteratorCode.{function_type}
+use Rattle.cg_lower_def.specs.Lowered.{Low, Whole}
+use Rattle.cg_lower_def.specs.Simulated.{CallsListed, IsCallable, IsReady}
+use Rattle.cg_lower_def.specs.Structs.{IsCovered, structs_in}
+use Rattle.cg_eval_operations.specs.Iterators.{is_iterator}
 use Rattle.cg_typing.specs.Functions.{arg_types, fun_type}
 use Rattle.cg_typing.specs.Instances.{as_arguments, Entry, Instance, nodes_of}
 use Rattle.cg_typing.specs.Library.{library_type}

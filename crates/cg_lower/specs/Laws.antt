@@ -1,6 +1,6 @@
 -- The laws of the C program of a list of instances.
 use Rattle.std.specs.Prelude.{List}
-use Rattle.cg_collect.specs.Collected.{Copy}
+use Rattle.cg_lower.specs.Collected.{Copy}
 use Rattle.cg_lower.specs.Programs.{lowered}
 use Rattle.cg_lower.specs.Promises.{AreFew, CanBePrinted, IsSimulated}
 

@@ -3,10 +3,10 @@ use Rattle.std.specs.Prelude.{◌≡◌, ℕ, false, List, [], ◌∷◌, Some, 
 use Rattle.cg_base.specs.declared.fun.Lib.{Lib}
 use Rattle.cg_base.specs.declared.kind.Word.TheVariants.{U32}
 use Rattle.cg_base.specs.Types.{Tau}
-use Rattle.cg_cnodes.specs.declared.state.Lowering.{Lowering}
-use Rattle.cg_cnodes.specs.Kept.{kept_of}
-use Rattle.cg_cnodes.specs.Views.{place_of}
-use Rattle.cg_collect.specs.Collected.{Copy}
+use Rattle.cg_lower_nodes.specs.declared.state.Lowering.{Lowering}
+use Rattle.cg_lower_nodes.specs.Kept.{kept_of}
+use Rattle.cg_lower_nodes.specs.Views.{place_of}
+use Rattle.cg_lower.specs.Collected.{Copy}
 use Rattle.cg_ctree.specs.declared.tree.CFun.{CFun}
 use Rattle.cg_ctree.specs.declared.tree.COpnd.TheVariants.{Path}
 use Rattle.cg_ctree.specs.declared.tree.CPath.{CPath}
@@ -15,14 +15,14 @@ use Rattle.cg_ctree.specs.declared.tree.CRhs.TheVariants.{Call}
 use Rattle.cg_ctree.specs.declared.tree.CTy.TheVariants as ty
 use Rattle.cg_ctree.specs.Trees.{Body, Function}
 use Rattle.cg_lower.specs.Promises.{IsFewMaybe}
-use Rattle.cg_lower_laws.specs.CTypes.{c_type, declared, name}
-use Rattle.cg_lower_laws.specs.Dispatch.{dispatch_body, second_name, second_path}
-use Rattle.cg_lower_laws.specs.Functions.{Item, of_arrow, of_instance}
-use Rattle.cg_lower_laws.specs.IteratorCode.{low_iterator}
-use Rattle.cg_lower_laws.specs.LibraryCode.{low_library, whole_argument}
-use Rattle.cg_lower_laws.specs.Lowered.{Low, Whole, dispatch_name, function_name}
-use Rattle.cg_lower_laws.specs.Places.{argument_name}
-use Rattle.cg_operations.specs.Iterators.{is_iterator}
+use Rattle.cg_lower_def.specs.CTypes.{c_type, declared, name}
+use Rattle.cg_lower_def.specs.Dispatch.{dispatch_body, second_name, second_path}
+use Rattle.cg_lower_def.specs.Functions.{Item, of_arrow, of_instance}
+use Rattle.cg_lower_def.specs.IteratorCode.{low_iterator}
+use Rattle.cg_lower_def.specs.LibraryCode.{low_library, whole_argument}
+use Rattle.cg_lower_def.specs.Lowered.{Low, Whole, dispatch_name, function_name}
+use Rattle.cg_lower_def.specs.Places.{argument_name}
+use Rattle.cg_eval_operations.specs.Iterators.{is_iterator}
 use Rattle.cg_typing.specs.Parts.{given_by, taken_by}
 
 -- ---- functions

@@ -1,12 +1,12 @@
 -- The C program of a list of instances: one definite program (docs/LANGUAGE.md, "The C of instances", functions).
 use Rattle.std.specs.Prelude.{ℕ, ◌-◌, nat_lt, List, length, map, if◌then◌else◌}
-use Rattle.cg_collect.specs.Calls.{calls_in}
-use Rattle.cg_collect.specs.Collected.{Copy, entries_of, table_in, whole_of}
+use Rattle.cg_lower.specs.Calls.{calls_in}
+use Rattle.cg_lower.specs.Collected.{Copy, entries_of, table_in, whole_of}
 use Rattle.cg_ctree.specs.Trees.{Program}
-use Rattle.cg_lower_laws.specs.Functions.{Item, of_arrow, of_instance, program_in}
-use Rattle.cg_lower_laws.specs.Lowered.{Whole}
-use Rattle.cg_lower_laws.specs.Structs.{structs_in}
-use Rattle.cg_order.specs.Ranks.{in_order}
+use Rattle.cg_lower_def.specs.Functions.{Item, of_arrow, of_instance, program_in}
+use Rattle.cg_lower_def.specs.Lowered.{Whole}
+use Rattle.cg_lower_def.specs.Structs.{structs_in}
+use Rattle.cg_graphs.specs.Ranks.{in_order}
 
 -- the function that a node of the graph of calls is, where there are so many arrow types
 abbrev pub item_of : ℕ → ℕ → Item

@@ -3,18 +3,18 @@ use Rattle.std.specs.Prelude.{◌≡◌, ℕ, ◌^◌, ◌<◌, ◌≤◌, true,
 use Rattle.std.specs.List.{AllByRecursion, flat_map}
 use Rattle.cg_base.specs.declared.fun.Fun.TheVariants.{User}
 use Rattle.cg_base.specs.Types.{Tau, fields, end}
-use Rattle.cg_collect.specs.Collected.{Copy, arrows_in, entries_of, list_of, table_in, types_of, whole_of}
+use Rattle.cg_lower.specs.Collected.{Copy, arrows_in, entries_of, list_of, table_in, types_of, whole_of}
 use Rattle.cg_core.specs.Kernels.{Function}
-use Rattle.cg_crun.specs.Runs.{linked_to}
+use Rattle.cg_cmachine_def.specs.Runs.{linked_to}
 use Rattle.cg_ctree.specs.Spells.{IsPrintable}
 use Rattle.cg_ctree.specs.Trees.{Program as CText}
 use Rattle.cg_heap.specs.declared.foreign.Link.{Link}
-use Rattle.cg_lower_laws.specs.Functions.{low_instance}
-use Rattle.cg_lower_laws.specs.Lowered.{Low, Whole, function_name}
-use Rattle.cg_lower_laws.specs.Printables.{AreShallow}
-use Rattle.cg_lower_laws.specs.Simulated.{Simulates}
-use Rattle.cg_lower_laws.specs.Structs.{IsCovered, IsTable}
-use Rattle.cg_machine.specs.Foreigns.{is_known}
+use Rattle.cg_lower_def.specs.Functions.{low_instance}
+use Rattle.cg_lower_def.specs.Lowered.{Low, Whole, function_name}
+use Rattle.cg_lower_def.specs.Printables.{AreShallow}
+use Rattle.cg_lower_def.specs.Simulated.{Simulates}
+use Rattle.cg_lower_def.specs.Structs.{IsCovered, IsTable}
+use Rattle.cg_eval_def.specs.Foreigns.{is_known}
 use Rattle.cg_typing.specs.Instances.{AreInstances, Entry, Instance, IsGood}
 use Rattle.cg_update.specs.Calls.{Program}
 

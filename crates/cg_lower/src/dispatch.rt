@@ -6,17 +6,17 @@ ghost use Rattle.cg_base.specs.Types.{type_of};
 ghost use Rattle.cg_base.specs.declared.kind.Word.TheVariants.{U32 as Word32};
 ghost use Rattle.cg_ctree.specs.declared.tree.CTy.TheVariants as c_types;
 ghost use Rattle.cg_ctree.specs.Trees as trees;
-ghost use Rattle.cg_lower_laws.specs.CTypes.{c_type, declared, name as name_of};
-ghost use Rattle.cg_lower_laws.specs.Dispatch as pure;
-ghost use Rattle.cg_lower_laws.specs.Places.{argument_name};
-ghost use Rattle.cg_lower_laws.specs.Structs.{numbered_in};
+ghost use Rattle.cg_lower_def.specs.CTypes.{c_type, declared, name as name_of};
+ghost use Rattle.cg_lower_def.specs.Dispatch as pure;
+ghost use Rattle.cg_lower_def.specs.Places.{argument_name};
+ghost use Rattle.cg_lower_def.specs.Structs.{numbered_in};
 ghost use Rattle.cg_typing.specs.Parts.{given_by, taken_by};
 ghost use Rattle.cg_lower.specs.Lowerings.{call_of, dispatch_by, dispatch_body_by, variable_path};
 
 use crate::function::{given, taken};
 use cg_base::{Items, Memory, Ty, Word};
-use cg_cnodes::numbered;
-use cg_cstructs::Structs;
+use cg_lower_nodes::numbered;
+use cg_lower_tables::Structs;
 use cg_ctree::{CBody, CCase, CDecl, CFun, COpnd, CPath, CRhs, CStmt, CTy};
 use std::alloc::Global;
 

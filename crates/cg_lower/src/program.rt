@@ -4,14 +4,14 @@
 ghost use Rattle.std.specs.Prelude.{◌≡◌, ◌++◌, List, [], get_or, length, map, slice_get, IfOk, OnOk};
 ghost use Rattle.std.specs.Option.{option_map};
 ghost use Rattle.std.specs.List.{AllByRecursion};
-ghost use Rattle.cg_circles.specs.Orders.{lists};
+ghost use Rattle.cg_graphs.specs.Orders.{lists};
 ghost use Rattle.cg_ctree.specs.Trees.{function_of, program_of};
-ghost use Rattle.cg_cnodes.specs.Kept.{kept_of, whole_of};
-ghost use Rattle.cg_lower_laws.specs.Dispatch.{dispatch_of};
-ghost use Rattle.cg_lower_laws.specs.Functions.{function_at, function_of_item, functions_at, with_function};
-ghost use Rattle.cg_collect.specs.Calls.{tags_of};
-ghost use Rattle.cg_collect.specs.Collected.{entries_of, list_of};
-ghost use Rattle.cg_collect.specs.Copies.{copies_of};
+ghost use Rattle.cg_lower_nodes.specs.Kept.{kept_of, whole_of};
+ghost use Rattle.cg_lower_def.specs.Dispatch.{dispatch_of};
+ghost use Rattle.cg_lower_def.specs.Functions.{function_at, function_of_item, functions_at, with_function};
+ghost use Rattle.cg_lower.specs.Calls.{tags_of};
+ghost use Rattle.cg_lower.specs.Collected.{entries_of, list_of};
+ghost use Rattle.cg_lower.specs.Copies.{copies_of};
 ghost use Rattle.cg_lower.specs.Lowerings.{IsFewItem};
 ghost use Rattle.cg_lower.specs.Programs.{item_of, lowered};
 ghost use Rattle.cg_lower.specs.Promises.{CanBePrinted, IsFewMaybe, IsSimulated};
@@ -20,11 +20,12 @@ ghost use Rattle.cg_typing.specs.Instances.{Entry};
 use crate::dispatch::dispatch;
 use crate::function::lower_function;
 use cg_base::{Items, Memory};
-use cg_cnodes::Lowering;
-use cg_collect::{Collected, calls, collect, tags};
+use cg_lower_nodes::Lowering;
+use crate::gather::{Collected, collect};
+use crate::graph::{calls, tags};
 use cg_ctree::{CFun, CProgram};
 use cg_mono::Mono;
-use cg_order::by_rank;
+use cg_graphs::by_rank;
 use std::alloc::Global;
 
 // The places of the instances of the arrow type of a number; none, where there is no such arrow type.

@@ -18,14 +18,14 @@ use Rattle.cg_base.specs.Same.{same_type}
 use Rattle.cg_base.specs.Types.{Tau, word, arrow, abs, fields, none, more, Parts, end, part}
 use Rattle.cg_base.specs.Words.{bits}
 use Rattle.cg_cgen.proofs.Numbers.{flag_is_small}
-use Rattle.cg_crun.proofs.LayoutLaws.{layout_unfolds}
-use Rattle.cg_crun.specs.BuiltIns.{array_call, array_of, get, length_of, put}
-use Rattle.cg_crun.specs.Layouts.{Layout, cell, size, spot, walk}
-use Rattle.cg_crun.specs.Operands.{Frame, typed}
-use Rattle.cg_crun.specs.Operations.{flag, word_value}
-use Rattle.cg_crun.specs.Outcomes as runs
-use Rattle.cg_crun.specs.Runs.{Linked, judged_word}
-use Rattle.cg_crun.specs.Targets.{spliced, with_scalars}
+use Rattle.cg_cmachine_laws.proofs.LayoutLaws.{layout_unfolds}
+use Rattle.cg_cmachine_def.specs.BuiltIns.{array_call, array_of, get, length_of, put}
+use Rattle.cg_cmachine_def.specs.Layouts.{Layout, cell, size, spot, walk}
+use Rattle.cg_cmachine_def.specs.Operands.{Frame, typed}
+use Rattle.cg_cmachine_def.specs.Operations.{flag, word_value}
+use Rattle.cg_cmachine_def.specs.Outcomes as runs
+use Rattle.cg_cmachine_def.specs.Runs.{Linked, judged_word}
+use Rattle.cg_cmachine_def.specs.Targets.{spliced, with_scalars}
 use Rattle.cg_ctree.specs.declared.tree.COp.TheVariants as cop
 use Rattle.cg_ctree.specs.declared.tree.CRhs.TheVariants.{Call as called}
 use Rattle.cg_ctree.specs.Trees.{Stmt, assign, branch, call as done_by, stop, to_block, while}
@@ -37,7 +37,7 @@ use Rattle.cg_heap.specs.Reps.{first_address, first_number, slots}
 use Rattle.cg_heap.specs.Stored.{Stored, cell_at, changed, in_cell, in_place, with_element}
 use Rattle.cg_kinds.specs.Kinds.{bang}
 use Rattle.cg_lib_heap.specs.Library.{words_at}
-use Rattle.cg_operations.specs.Iterators.{counted, indices_from}
+use Rattle.cg_eval_operations.specs.Iterators.{counted, indices_from}
 use Rattle.cg_typing.specs.Library.{array, given, library_type, pair}
 use Rattle.cg_typing.specs.Parts.{given_by, taken_by}
 use Rattle.cg_update.specs.Calls.{Program, are_words, types_of}
@@ -45,12 +45,12 @@ use Rattle.cg_update.specs.Machines.{are_machine, is_machine, part_at, type_of_p
 use Rattle.cg_update.specs.Outcomes.{State, Outcome, gives, where_true, with_store}
 use Rattle.cg_update.specs.Turns.{Argument, array_in, ended, field_in, field_of, turns}
 use Rattle.cg_update.specs.Updates.{Calls, calls_source}
-use Rattle.cg_lower_laws.specs.CTypes.{c_type, count, record_struct, IsDeclared}
-use Rattle.cg_lower_laws.specs.IteratorCode.{array_begins, array_goes_on, array_of_argument, array_reads, computing, function_type, less, low_fold, low_map, turning, whole_local}
-use Rattle.cg_lower_laws.specs.LibraryCode.{field_of_argument, setting, whole_argument}
-use Rattle.cg_lower_laws.specs.Lowered.{Whole}
-use Rattle.cg_lower_laws.specs.Places.{Place, Step, argument, argument_name, field, held, local, local_name, number, operand, path, step_name}
-use Rattle.cg_lower_laws.specs.Simulated.{as_run}
+use Rattle.cg_lower_def.specs.CTypes.{c_type, count, record_struct, IsDeclared}
+use Rattle.cg_lower_def.specs.IteratorCode.{array_begins, array_goes_on, array_of_argument, array_reads, computing, function_type, less, low_fold, low_map, turning, whole_local}
+use Rattle.cg_lower_def.specs.LibraryCode.{field_of_argument, setting, whole_argument}
+use Rattle.cg_lower_def.specs.Lowered.{Whole}
+use Rattle.cg_lower_def.specs.Places.{Place, Step, argument, argument_name, field, held, local, local_name, number, operand, path, step_name}
+use Rattle.cg_lower_def.specs.Simulated.{as_run}
 use Rattle.cg_lower_laws.proofs.Frames.{Fresh, Is, Keeps, is_kept}
 use Rattle.cg_lower_laws.proofs.Inversions.{bind_is, pay_is, same_rest, same_scalars, same_state, where_is}
 use Rattle.cg_lower_laws.proofs.Iterating.{IteratorClaim, SourceCalled, SourceRuns}

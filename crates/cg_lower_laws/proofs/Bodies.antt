@@ -3,19 +3,19 @@ use Rattle.std.proofs.Common.{◌≡◌, ℕ, zero, suc, ◌+◌, ◌^◌, ◌<�
 use Rattle.std.proofs.lemmas.Bool.{le-leb}
 use Rattle.std.proofs.lemmas.List.{drop_all}
 use Rattle.cg_base.specs.Types.{Tau}
-use Rattle.cg_crun.specs.Layouts.{Layout, size}
-use Rattle.cg_crun.specs.Operands.{Value, typed, Variable, Frame, give, judge}
-use Rattle.cg_crun.specs.Outcomes.{ok, State, Outcome, done, stuck, needs, astray, bind}
-use Rattle.cg_crun.specs.Runs.{Linked, Flow, goes, back, Calls, own, callee, onward, returned, run_stmt, run_block, run_frame, run_function, start, unset, enter, filled, find, calls_in}
+use Rattle.cg_cmachine_def.specs.Layouts.{Layout, size}
+use Rattle.cg_cmachine_def.specs.Operands.{Value, typed, Variable, Frame, give, judge}
+use Rattle.cg_cmachine_def.specs.Outcomes.{ok, State, Outcome, done, stuck, needs, astray, bind}
+use Rattle.cg_cmachine_def.specs.Runs.{Linked, Flow, goes, back, Calls, own, callee, onward, returned, run_stmt, run_block, run_frame, run_function, start, unset, enter, filled, find, calls_in}
 use Rattle.cg_ctree.specs.declared.tree.COpnd.{COpnd}
 use Rattle.cg_ctree.specs.declared.tree.CTy.{CTy}
 use Rattle.cg_ctree.specs.Trees.{Stmt, return', to_block, Function}
 use Rattle.cg_heap.specs.declared.cell.Scalar.{Scalar}
 use Rattle.cg_heap.specs.declared.cell.Scalar.TheVariants.{Unset}
-use Rattle.cg_lower_laws.specs.CTypes.{declared}
-use Rattle.cg_lower_laws.specs.Functions.{body_of, locals_from}
-use Rattle.cg_lower_laws.specs.Lowered.{Low}
-use Rattle.cg_lower_laws.specs.Places.{argument_name, local_name, operand}
+use Rattle.cg_lower_def.specs.CTypes.{declared}
+use Rattle.cg_lower_def.specs.Functions.{body_of, locals_from}
+use Rattle.cg_lower_def.specs.Lowered.{Low}
+use Rattle.cg_lower_def.specs.Places.{argument_name, local_name, operand}
 use Rattle.cg_lower_laws.proofs.Frames.{Is, Fresh, Keeps}
 use Rattle.cg_lower_laws.proofs.Names.{apart, itself}
 use Rattle.cg_lower_laws.proofs.Operands.{IsReadable, Reads, reads}

@@ -7,31 +7,31 @@ use Rattle.cg_base.specs.declared.kind.Word.TheVariants.{U8, U32}
 use Rattle.cg_base.specs.Same.{same_type}
 use Rattle.cg_base.specs.Types.{Tau, arrow}
 use Rattle.cg_cgen.proofs.Numbers.{flag_is_small}
-use Rattle.cg_crun.specs.Layouts.{Layout, cell, size}
-use Rattle.cg_crun.specs.Operands.{Frame}
-use Rattle.cg_crun.specs.Operations.{flag}
-use Rattle.cg_crun.specs.Outcomes as runs
-use Rattle.cg_crun.specs.Outcomes.{ok}
-use Rattle.cg_crun.specs.Runs.{Linked, judged_word}
+use Rattle.cg_cmachine_def.specs.Layouts.{Layout, cell, size}
+use Rattle.cg_cmachine_def.specs.Operands.{Frame}
+use Rattle.cg_cmachine_def.specs.Operations.{flag}
+use Rattle.cg_cmachine_def.specs.Outcomes as runs
+use Rattle.cg_cmachine_def.specs.Outcomes.{ok}
+use Rattle.cg_cmachine_def.specs.Runs.{Linked, judged_word}
 use Rattle.cg_ctree.specs.Trees.{to_block, while}
 use Rattle.cg_heap.specs.declared.cell.Scalar.{Scalar}
 use Rattle.cg_heap.specs.declared.cell.Scalar.TheVariants.{Unset, Word as NumberScalar}
 use Rattle.cg_heap.specs.Reps.{first_number, slots, slots_of_parts}
 use Rattle.cg_heap.specs.Stored.{Stored}
-use Rattle.cg_operations.specs.Iterators.{counted, indices_from}
-use Rattle.cg_operations.specs.Positions.{position_among}
+use Rattle.cg_eval_operations.specs.Iterators.{counted, indices_from}
+use Rattle.cg_eval_operations.specs.Positions.{position_among}
 use Rattle.cg_typing.specs.Library.{given, pair, stopped}
 use Rattle.cg_update.specs.Calls.{Program, types_of}
 use Rattle.cg_update.specs.Machines.{is_machine, only_at, part_at, type_of_part}
 use Rattle.cg_update.specs.Outcomes.{State, Outcome, no_result, gives, bind, pay}
 use Rattle.cg_update.specs.Turns.{Argument, carried, ended, field_in, indices, stops, turns}
 use Rattle.cg_update.specs.Updates.{Calls}
-use Rattle.cg_lower_laws.specs.CTypes.{c_type, IsDeclared}
-use Rattle.cg_lower_laws.specs.IteratorCode.{break_begins, break_ends, break_goes_on, break_stops, break_tag, break_turn, function_type, loop_begins, loop_goes_on, low_break, turning, whole_local}
-use Rattle.cg_lower_laws.specs.LibraryCode.{field_of_argument, setting}
-use Rattle.cg_lower_laws.specs.Lowered.{Whole}
-use Rattle.cg_lower_laws.specs.Places.{field, held, local, local_name, number, operand, payload, tag}
-use Rattle.cg_lower_laws.specs.Simulated.{as_run}
+use Rattle.cg_lower_def.specs.CTypes.{c_type, IsDeclared}
+use Rattle.cg_lower_def.specs.IteratorCode.{break_begins, break_ends, break_goes_on, break_stops, break_tag, break_turn, function_type, loop_begins, loop_goes_on, low_break, turning, whole_local}
+use Rattle.cg_lower_def.specs.LibraryCode.{field_of_argument, setting}
+use Rattle.cg_lower_def.specs.Lowered.{Whole}
+use Rattle.cg_lower_def.specs.Places.{field, held, local, local_name, number, operand, payload, tag}
+use Rattle.cg_lower_def.specs.Simulated.{as_run}
 use Rattle.cg_lower_laws.proofs.Bodies.{length_replicate}
 use Rattle.cg_lower_laws.proofs.Frames.{Is, Keeps}
 use Rattle.cg_lower_laws.proofs.Inversions.{Bound, bind_is, pay_is, same_rest, same_scalars, same_state}

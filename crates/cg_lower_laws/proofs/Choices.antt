@@ -9,12 +9,12 @@ use Rattle.cg_base.specs.Types.{Tau, var, seen, unit, word, bool, arrow, abs, va
 use Rattle.cg_base.specs.Words.{bits}
 use Rattle.cg_core.specs.declared.at.At.{At}
 use Rattle.cg_core.specs.Terms.{Note, Tree, term, if_else, case_of}
-use Rattle.cg_crun.specs.Layouts.{Layout, cell, size}
-use Rattle.cg_crun.specs.Operands.{Frame, read, word_in}
-use Rattle.cg_crun.specs.Operations.{computed, flag, word_value}
-use Rattle.cg_crun.specs.Outcomes.{ok, on}
-use Rattle.cg_crun.specs.Runs.{Linked, choose, judged_word}
-use Rattle.cg_crun.specs.Targets.{with_scalars}
+use Rattle.cg_cmachine_def.specs.Layouts.{Layout, cell, size}
+use Rattle.cg_cmachine_def.specs.Operands.{Frame, read, word_in}
+use Rattle.cg_cmachine_def.specs.Operations.{computed, flag, word_value}
+use Rattle.cg_cmachine_def.specs.Outcomes.{ok, on}
+use Rattle.cg_cmachine_def.specs.Runs.{Linked, choose, judged_word}
+use Rattle.cg_cmachine_def.specs.Targets.{with_scalars}
 use Rattle.cg_ctree.specs.declared.tree.COp.TheVariants as cop
 use Rattle.cg_ctree.specs.declared.tree.COpnd.TheVariants.{Number}
 use Rattle.cg_ctree.specs.declared.tree.CRhs.TheVariants.{Opnd, Binary}
@@ -26,7 +26,7 @@ use Rattle.cg_heap.specs.declared.cell.Scalar.{Scalar}
 use Rattle.cg_heap.specs.declared.cell.Scalar.TheVariants.{Unset, Word as NumberScalar, Address}
 use Rattle.cg_heap.specs.Reps.{first_number, tail}
 use Rattle.cg_heap.specs.Stored.{Stored}
-use Rattle.cg_operations.specs.Positions.{position_among}
+use Rattle.cg_eval_operations.specs.Positions.{position_among}
 use Rattle.cg_typing.specs.Parts.{alternative_in, held as type_held, is_left}
 use Rattle.cg_typing.specs.Rules.{type_at}
 use Rattle.cg_update.specs.Calls.{Program, types_of}
@@ -34,11 +34,11 @@ use Rattle.cg_update.specs.Machines.{is_machine, is_alternative, part_at}
 use Rattle.cg_update.specs.Outcomes.{State, Outcome, gives, on as where_there}
 use Rattle.cg_update.specs.Turns.{alternatives_in, place_in}
 use Rattle.cg_update.specs.Updates.{Calls, Variables, update, update_shape}
-use Rattle.cg_lower_laws.specs.CTypes.{c_type, count, IsDeclared}
-use Rattle.cg_lower_laws.specs.Lowered.{Low, Whole, low, low_shape, arm, chosen, copy, is_tagged}
-use Rattle.cg_lower_laws.specs.Places.{tag, payload, local, local_name, Place, number, held, at, path, operand}
-use Rattle.cg_lower_laws.specs.Simulated.{as_run}
-use Rattle.cg_lower_laws.specs.Typed.{IsTyped}
+use Rattle.cg_lower_def.specs.CTypes.{c_type, count, IsDeclared}
+use Rattle.cg_lower_def.specs.Lowered.{Low, Whole, low, low_shape, arm, chosen, copy, is_tagged}
+use Rattle.cg_lower_def.specs.Places.{tag, payload, local, local_name, Place, number, held, at, path, operand}
+use Rattle.cg_lower_def.specs.Simulated.{as_run}
+use Rattle.cg_lower_def.specs.Typed.{IsTyped}
 use Rattle.cg_lower_laws.proofs.Frames.{Is, is_kept, is_later, set_is, Changes, changes_none, changes_on, changes_set, changes_wider, Fresh, fresh_back, fresh_front, fresh_later, Keeps, keeps_later, outside_below, under_at, under_more}
 use Rattle.cg_lower_laws.proofs.Inversions.{Bound, bind_is, on_is}
 use Rattle.cg_lower_laws.proofs.Layouts.{lay, left_there, machine_slots, named_is, size_slots, with_part_type}

@@ -20,12 +20,12 @@ use Rattle.cg_cgen.specs.Meanings.{AreFor, Changes as Computed, IsApart, IsNumbe
 use Rattle.cg_cgen.proofs.Numbers.{bit_fits}
 use Rattle.cg_cgen.proofs.Operating.{operators_compute}
 use Rattle.cg_cgen.proofs.Paths.{number_read}
-use Rattle.cg_crun.specs.Layouts.{Layout, cell, size, spot}
-use Rattle.cg_crun.specs.Operands.{Value, typed as of_layout, Frame, give}
-use Rattle.cg_crun.specs.Operations.{converted}
-use Rattle.cg_crun.specs.Outcomes.{State as RunState, done, ok, on}
-use Rattle.cg_crun.specs.Runs.{Linked, Calls as Runner, goes, calls_in, run_block, run_stmt}
-use Rattle.cg_crun.specs.Targets.{spliced, with_scalars}
+use Rattle.cg_cmachine_def.specs.Layouts.{Layout, cell, size, spot}
+use Rattle.cg_cmachine_def.specs.Operands.{Value, typed as of_layout, Frame, give}
+use Rattle.cg_cmachine_def.specs.Operations.{converted}
+use Rattle.cg_cmachine_def.specs.Outcomes.{State as RunState, done, ok, on}
+use Rattle.cg_cmachine_def.specs.Runs.{Linked, Calls as Runner, goes, calls_in, run_block, run_stmt}
+use Rattle.cg_cmachine_def.specs.Targets.{spliced, with_scalars}
 use Rattle.cg_ctree.specs.declared.tree.COpnd.{COpnd}
 use Rattle.cg_ctree.specs.declared.tree.CPath.{CPath}
 use Rattle.cg_ctree.specs.declared.tree.CRhs.TheVariants.{Conv}
@@ -41,7 +41,7 @@ use Rattle.cg_inst.proofs.SameInstance.{instance_is}
 use Rattle.cg_inst.proofs.SameType.{same_is}
 use Rattle.cg_typing.specs.Functions.{arg_types, fun_type}
 use Rattle.cg_kinds.specs.Kinds.{is_word, subst as type_with}
-use Rattle.cg_operations.specs.Operators.{on_one, on_two, width}
+use Rattle.cg_eval_operations.specs.Operators.{on_one, on_two, width}
 use Rattle.cg_typing.specs.Library.{library_type}
 use Rattle.cg_typing.specs.Instances.{AreInstances, Entry, Instance, as_arguments}
 use Rattle.cg_typing.specs.Operators.{Sort, arithmetic, equality, order, logic, gives as type_given, sort_of, takes}
@@ -51,11 +51,11 @@ use Rattle.cg_update.specs.Calls.{Program, types_of}
 use Rattle.cg_update.specs.Machines.{is_machine, is_type}
 use Rattle.cg_update.specs.Outcomes.{State, gives, bind}
 use Rattle.cg_update.specs.Updates.{Calls, Variables, place_of, update, update_shape}
-use Rattle.cg_lower_laws.specs.CTypes.{c_type, IsDeclared}
-use Rattle.cg_lower_laws.specs.Lowered.{Low, Whole, arrow_number, call_operands, callee, calling, dispatch_name, function_name, joined, leaf, low_cast, low_operator, operating, place, set, word_of, low, low_shape}
-use Rattle.cg_lower_laws.specs.Places.{Place, number, held, argument, local, local_name, operand, path}
-use Rattle.cg_lower_laws.specs.Simulated.{as_run}
-use Rattle.cg_lower_laws.specs.Typed.{IsTyped}
+use Rattle.cg_lower_def.specs.CTypes.{c_type, IsDeclared}
+use Rattle.cg_lower_def.specs.Lowered.{Low, Whole, arrow_number, call_operands, callee, calling, dispatch_name, function_name, joined, leaf, low_cast, low_operator, operating, place, set, word_of, low, low_shape}
+use Rattle.cg_lower_def.specs.Places.{Place, number, held, argument, local, local_name, operand, path}
+use Rattle.cg_lower_def.specs.Simulated.{as_run}
+use Rattle.cg_lower_def.specs.Typed.{IsTyped}
 use Rattle.cg_lower_laws.proofs.Frames.{Fresh, fresh_back, fresh_front, fresh_later, IsNumeral, Is, set_is, changes_none, changes_set, Keeps, keeps_later, outside_argument, outside_below, Under, under_more}
 use Rattle.cg_lower_laws.proofs.Inversions.{Bound, bind_is, on_is, same_rest, same_scalars, same_state}
 use Rattle.cg_lower_laws.proofs.Layouts.{machine_slots, size_slots}

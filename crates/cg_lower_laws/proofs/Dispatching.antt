@@ -7,11 +7,11 @@ use Rattle.cg_base.specs.Same.{same_type}
 use Rattle.cg_base.specs.Types.{Tau}
 use Rattle.cg_cgen.specs.Meanings.{IsNumber}
 use Rattle.cg_cgen.proofs.Paths.{number_read}
-use Rattle.cg_crun.specs.Layouts.{Layout, cell, size}
-use Rattle.cg_crun.specs.Operands.{Value, typed as of_layout, Frame, give, judge, look, read}
-use Rattle.cg_crun.specs.Outcomes.{State, Outcome, ok, on, done, stuck, needs, astray, bind, lift}
-use Rattle.cg_crun.specs.Runs.{Linked, Flow, goes, back, Calls, calls_in, enter, find, judged_word, onward, returned, run_block, run_body, run_cases, run_frame, run_function, run_stmt, unset}
-use Rattle.cg_crun.specs.Targets.{with_scalars}
+use Rattle.cg_cmachine_def.specs.Layouts.{Layout, cell, size}
+use Rattle.cg_cmachine_def.specs.Operands.{Value, typed as of_layout, Frame, give, judge, look, read}
+use Rattle.cg_cmachine_def.specs.Outcomes.{State, Outcome, ok, on, done, stuck, needs, astray, bind, lift}
+use Rattle.cg_cmachine_def.specs.Runs.{Linked, Flow, goes, back, Calls, calls_in, enter, find, judged_word, onward, returned, run_block, run_body, run_cases, run_frame, run_function, run_stmt, unset}
+use Rattle.cg_cmachine_def.specs.Targets.{with_scalars}
 use Rattle.cg_ctree.specs.declared.tree.COpnd.{COpnd}
 use Rattle.cg_ctree.specs.declared.tree.COpnd.TheVariants.{Path}
 use Rattle.cg_ctree.specs.declared.tree.CRhs.TheVariants.{Call}
@@ -23,10 +23,10 @@ use Rattle.cg_heap.specs.declared.cell.Scalar.TheVariants.{Unset, Word as Number
 use Rattle.cg_inst.proofs.SameType.{same_is}
 use Rattle.cg_typing.specs.Instances.{Entry}
 use Rattle.cg_typing.specs.Parts.{given_by, taken_by}
-use Rattle.cg_lower_laws.specs.CTypes.{declared}
-use Rattle.cg_lower_laws.specs.Dispatch.{dispatch_body, dispatch_cases, dispatch_of, dispatched, second_name, second_path, tags_from}
-use Rattle.cg_lower_laws.specs.Lowered.{Low, Whole, arrow_number, dispatch_name, function_name, typed}
-use Rattle.cg_lower_laws.specs.Places.{argument, argument_name, held, local, local_name, path}
+use Rattle.cg_lower_def.specs.CTypes.{declared}
+use Rattle.cg_lower_def.specs.Dispatch.{dispatch_body, dispatch_cases, dispatch_of, dispatched, second_name, second_path, tags_from}
+use Rattle.cg_lower_def.specs.Lowered.{Low, Whole, arrow_number, dispatch_name, function_name, typed}
+use Rattle.cg_lower_def.specs.Places.{argument, argument_name, held, local, local_name, path}
 use Rattle.cg_lower_laws.proofs.Bodies.{BodyRan, body_returns, length_replicate}
 use Rattle.cg_lower_laws.proofs.Computing.{one_slot}
 use Rattle.cg_lower_laws.proofs.Finding.{behind, own_dispatch}

@@ -2,10 +2,10 @@
 use Rattle.std.proofs.Common.{◌≡◌, ℕ, zero, suc, ◌^◌, ◌<◌, Bool, true, false, nat_eq, Option, Some, None, List, [], ◌∷◌, bytes_eq, refl, sym, ap, ◌∙◌, subst, arith}
 use Rattle.std.proofs.lemmas.Bool.{eq-eqb, eqb-false, eqb-true}
 use Rattle.std.specs.List.{Contains}
-use Rattle.cg_crun.specs.Runs.{Linked, own, abstract', callee, without_body, find, linked_to}
+use Rattle.cg_cmachine_def.specs.Runs.{Linked, own, abstract', callee, without_body, find, linked_to}
 use Rattle.cg_ctree.specs.Trees.{Body, Function}
-use Rattle.cg_lower_laws.specs.Functions.{Item, of_arrow, of_instance, functions_at, with_function}
-use Rattle.cg_lower_laws.specs.Lowered.{dispatch_name, function_name}
+use Rattle.cg_lower_def.specs.Functions.{Item, of_arrow, of_instance, functions_at, with_function}
+use Rattle.cg_lower_def.specs.Lowered.{dispatch_name, function_name}
 use Rattle.cg_lower_laws.proofs.Names.{apart, itself}
 
 -- ---- items, and their names

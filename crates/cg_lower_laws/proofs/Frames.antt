@@ -2,13 +2,13 @@
 use Rattle.std.proofs.Common.{◌≡◌, ℕ, suc, ◌+◌, ◌^◌, ◌<◌, ◌≤◌, Bool, true, false, Some, List, [], ◌∷◌, ◌++◌, length, replicate, map, refl, sym, ap, ◌∙◌, subst, arith, bytes_eq, take_all}
 use Rattle.cg_base.specs.declared.kind.Word.{Word}
 use Rattle.cg_base.specs.Words.{bits}
-use Rattle.cg_crun.specs.Layouts.{Layout, cell, size, Spot, spot, walk}
-use Rattle.cg_crun.specs.Operands.{Variable, Frame, look, part_of}
-use Rattle.cg_crun.specs.Targets.{with_scalars}
+use Rattle.cg_cmachine_def.specs.Layouts.{Layout, cell, size, Spot, spot, walk}
+use Rattle.cg_cmachine_def.specs.Operands.{Variable, Frame, look, part_of}
+use Rattle.cg_cmachine_def.specs.Targets.{with_scalars}
 use Rattle.cg_ctree.specs.declared.tree.CTy.{CTy}
 use Rattle.cg_heap.specs.declared.cell.Scalar.{Scalar}
 use Rattle.cg_heap.specs.declared.cell.Scalar.TheVariants.{Unset, Word as NumberScalar}
-use Rattle.cg_lower_laws.specs.Places.{Step, at, step_name, Base, argument, local, argument_name, local_name, base_name, Place, number, held}
+use Rattle.cg_lower_def.specs.Places.{Step, at, step_name, Base, argument, local, argument_name, local_name, base_name, Place, number, held}
 use Rattle.cg_lower_laws.proofs.Names.{apart, name_is}
 
 -- ---- variables

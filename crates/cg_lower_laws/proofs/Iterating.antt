@@ -5,10 +5,10 @@ use Rattle.cg_base.specs.declared.fun.Lib.{Lib}
 use Rattle.cg_base.specs.declared.kind.Word.TheVariants.{U32}
 use Rattle.cg_base.specs.Same.{same_type}
 use Rattle.cg_base.specs.Types.{Tau, arrow}
-use Rattle.cg_crun.specs.Layouts.{Layout, cell}
-use Rattle.cg_crun.specs.Operands.{Frame, Value, give}
-use Rattle.cg_crun.specs.Outcomes.{ok}
-use Rattle.cg_crun.specs.Runs.{Linked}
+use Rattle.cg_cmachine_def.specs.Layouts.{Layout, cell}
+use Rattle.cg_cmachine_def.specs.Operands.{Frame, Value, give}
+use Rattle.cg_cmachine_def.specs.Outcomes.{ok}
+use Rattle.cg_cmachine_def.specs.Runs.{Linked}
 use Rattle.cg_heap.specs.declared.cell.Scalar.{Scalar}
 use Rattle.cg_heap.specs.declared.cell.Scalar.TheVariants.{Word as NumberScalar}
 use Rattle.cg_update.specs.Calls.{Program, types_of}
@@ -17,10 +17,10 @@ use Rattle.cg_update.specs.Outcomes.{State, gives}
 use Rattle.cg_typing.specs.Library.{library_type}
 use Rattle.cg_typing.specs.Parts.{given_by, taken_by}
 use Rattle.cg_update.specs.Updates.{Calls, calls_source, iterated}
-use Rattle.cg_lower_laws.specs.CTypes.{c_type, IsDeclared}
-use Rattle.cg_lower_laws.specs.IteratorCode.{function_type, low_iterator}
-use Rattle.cg_lower_laws.specs.Lowered.{Whole, arrow_number, dispatch_name}
-use Rattle.cg_lower_laws.specs.Places.{argument_name}
+use Rattle.cg_lower_def.specs.CTypes.{c_type, IsDeclared}
+use Rattle.cg_lower_def.specs.IteratorCode.{function_type, low_iterator}
+use Rattle.cg_lower_def.specs.Lowered.{Whole, arrow_number, dispatch_name}
+use Rattle.cg_lower_def.specs.Places.{argument_name}
 use Rattle.cg_lower_laws.proofs.Computing.{Called}
 use Rattle.cg_lower_laws.proofs.Frames.{Fresh, Is}
 use Rattle.cg_lower_laws.proofs.LibraryCalls.{LibraryRan}

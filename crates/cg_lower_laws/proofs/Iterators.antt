@@ -3,8 +3,8 @@ use Rattle.std.proofs.Common.{◌≡◌, true, List, [], ◌∷◌, length, sym,
 use Rattle.cg_base.specs.declared.fun.Lib.{Lib}
 use Rattle.cg_base.specs.declared.fun.Lib.TheVariants.{Map, Fold, Seq32, Seq64, Seq32Break}
 use Rattle.cg_base.specs.Types.{Tau}
-use Rattle.cg_lawful.specs.Lawful.{library_arity}
-use Rattle.cg_operations.specs.Iterators.{is_iterator}
+use Rattle.cg_core_def.specs.Lawful.{library_arity}
+use Rattle.cg_eval_operations.specs.Iterators.{is_iterator}
 use Rattle.cg_typing.specs.Functions.{are_good_arguments, asked_by_library}
 use Rattle.cg_typing.specs.Instances.{as_arguments}
 use Rattle.cg_lower_laws.proofs.ArrayLoops.{fold_ran, map_ran}

@@ -8,18 +8,18 @@ use Rattle.cg_base.specs.declared.kind.Sigil.TheVariants.{R, W, U}
 use Rattle.cg_base.specs.declared.kind.Word.TheVariants.{U32}
 use Rattle.cg_base.specs.Types.{Tau, var, seen, unit, word, bool, arrow, abs, variant, fields, Parts, end, part, Piece}
 use Rattle.cg_base.specs.Words.{bits}
-use Rattle.cg_crun.specs.Layouts.{Layout, cell, group, behind, find_member, further, laid, members_of, size, Spot, spot, walk, layout, pointed}
-use Rattle.cg_crun.specs.Parts.{sizes_of}
-use Rattle.cg_crun.proofs.LayoutLaws.{layout_unfolds, size_sums}
+use Rattle.cg_cmachine_def.specs.Layouts.{Layout, cell, group, behind, find_member, further, laid, members_of, size, Spot, spot, walk, layout, pointed}
+use Rattle.cg_cmachine_def.specs.Parts.{sizes_of}
+use Rattle.cg_cmachine_laws.proofs.LayoutLaws.{layout_unfolds, size_sums}
 use Rattle.cg_ctree.specs.declared.tree.CStruct.{CStruct}
 use Rattle.cg_ctree.specs.declared.tree.CTy.TheVariants as ty
 use Rattle.cg_heap.specs.declared.cell.Scalar.{Scalar}
 use Rattle.cg_heap.specs.declared.cell.Scalar.TheVariants.{Unset, Word as NumberScalar, Address}
 use Rattle.cg_heap.specs.Reps.{head, number_of, slots, slots_of_parts, tail}
-use Rattle.cg_operations.specs.Positions.{position_among}
+use Rattle.cg_eval_operations.specs.Positions.{position_among}
 use Rattle.cg_typing.specs.Parts.{held, is_left, is_there, part_named, parts_with, with_part}
 use Rattle.cg_update.specs.Machines.{are_machine, is_address, is_alternative, is_machine, is_number_below, is_place_of, is_tagged, only_at, part_at, type_of_part, with_part_at}
-use Rattle.cg_lower_laws.specs.CTypes.{form, form_parts, name, struct_name, c_type, count, record_struct, variant_struct, members_from, tag_name, field_name, payload_name, IsDeclared, AreDeclared}
+use Rattle.cg_lower_def.specs.CTypes.{form, form_parts, name, struct_name, c_type, count, record_struct, variant_struct, members_from, tag_name, field_name, payload_name, IsDeclared, AreDeclared}
 use Rattle.cg_lower_laws.proofs.Names.{apart, itself}
 
 -- how many slots stand before the part at a place

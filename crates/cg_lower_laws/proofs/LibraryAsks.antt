@@ -6,12 +6,12 @@ use Rattle.cg_base.specs.declared.kind.Word.{Word}
 use Rattle.cg_base.specs.declared.kind.Word.TheVariants.{U8, U32}
 use Rattle.cg_base.specs.Types.{Tau, unit, Parts, end, part}
 use Rattle.cg_base.specs.Words.{bits}
-use Rattle.cg_crun.specs.Layouts.{Layout, cell, pointer, size, spot, walk, layout}
-use Rattle.cg_crun.specs.Operands.{Frame, judge, typed as value_of}
-use Rattle.cg_crun.specs.Operations.{flag, word_value}
-use Rattle.cg_crun.specs.Outcomes.{ok, State}
-use Rattle.cg_crun.specs.Runs.{Linked, judged_word, plain}
-use Rattle.cg_crun.specs.Targets.{spliced, with_scalars}
+use Rattle.cg_cmachine_def.specs.Layouts.{Layout, cell, pointer, size, spot, walk, layout}
+use Rattle.cg_cmachine_def.specs.Operands.{Frame, judge, typed as value_of}
+use Rattle.cg_cmachine_def.specs.Operations.{flag, word_value}
+use Rattle.cg_cmachine_def.specs.Outcomes.{ok, State}
+use Rattle.cg_cmachine_def.specs.Runs.{Linked, judged_word, plain}
+use Rattle.cg_cmachine_def.specs.Targets.{spliced, with_scalars}
 use Rattle.cg_ctree.specs.declared.tree.COpnd.{COpnd}
 use Rattle.cg_ctree.specs.declared.tree.CRhs.{CRhs}
 use Rattle.cg_ctree.specs.declared.tree.CRhs.TheVariants.{Opnd, IsNull}
@@ -24,9 +24,9 @@ use Rattle.cg_heap.specs.Reps.{slots}
 use Rattle.cg_heap.specs.Stored.{Stored}
 use Rattle.cg_typing.specs.Library.{maybe, pair, state}
 use Rattle.cg_update.specs.Machines.{type_of_part}
-use Rattle.cg_lower_laws.specs.CTypes.{c_type, count, field_name, payload_name, tag_name, IsDeclared}
-use Rattle.cg_lower_laws.specs.LibraryCode.{asking, setting}
-use Rattle.cg_lower_laws.specs.Places.{Step, step_name, field, tag, payload, local, local_name, Place, number, held, path, operand}
+use Rattle.cg_lower_def.specs.CTypes.{c_type, count, field_name, payload_name, tag_name, IsDeclared}
+use Rattle.cg_lower_def.specs.LibraryCode.{asking, setting}
+use Rattle.cg_lower_def.specs.Places.{Step, step_name, field, tag, payload, local, local_name, Place, number, held, path, operand}
 use Rattle.cg_lower_laws.proofs.Frames.{Is, Outside, Fresh, Keeps, Under, set_is, changes_set, is_later, keeps_later, outside_below, outside_behind, is_kept}
 use Rattle.cg_lower_laws.proofs.Layouts.{lay, size_slots, field_leads, tag_leads, payload_leads, walk_on}
 use Rattle.cg_lower_laws.proofs.LibraryParts.{held_read}

@@ -9,15 +9,15 @@ use Rattle.cg_base.specs.declared.kind.Word.{Word}
 use Rattle.cg_base.specs.declared.kind.Word.TheVariants.{U8, U32}
 use Rattle.cg_base.specs.Types.{Tau, word, arrow, abs, fields, none, more, Parts, end, part}
 use Rattle.cg_base.specs.Words.{bits}
-use Rattle.cg_crun.proofs.LayoutLaws.{layout_unfolds}
-use Rattle.cg_crun.specs.BuiltIns.{allocator, array_of, array_call, create, free, free_array, get, length_of, put, width_text}
-use Rattle.cg_crun.specs.Layouts.{Layout, cell, pointer, layout, pointed, size}
-use Rattle.cg_crun.specs.Operands.{Frame, judge, judge_all, typed}
-use Rattle.cg_crun.specs.Operations.{word_value}
-use Rattle.cg_crun.specs.Outcomes as runs
-use Rattle.cg_crun.specs.Outcomes.{ok, done}
-use Rattle.cg_crun.specs.Runs.{Linked}
-use Rattle.cg_crun.specs.Targets.{with_scalars, write}
+use Rattle.cg_cmachine_laws.proofs.LayoutLaws.{layout_unfolds}
+use Rattle.cg_cmachine_def.specs.BuiltIns.{allocator, array_of, array_call, create, free, free_array, get, length_of, put, width_text}
+use Rattle.cg_cmachine_def.specs.Layouts.{Layout, cell, pointer, layout, pointed, size}
+use Rattle.cg_cmachine_def.specs.Operands.{Frame, judge, judge_all, typed}
+use Rattle.cg_cmachine_def.specs.Operations.{word_value}
+use Rattle.cg_cmachine_def.specs.Outcomes as runs
+use Rattle.cg_cmachine_def.specs.Outcomes.{ok, done}
+use Rattle.cg_cmachine_def.specs.Runs.{Linked}
+use Rattle.cg_cmachine_def.specs.Targets.{with_scalars, write}
 use Rattle.cg_ctree.specs.declared.tree.COpnd.{COpnd}
 use Rattle.cg_ctree.specs.declared.tree.CRhs.{CRhs}
 use Rattle.cg_ctree.specs.declared.tree.CRhs.TheVariants.{Call as called_by, New as made_by}
@@ -33,9 +33,9 @@ use Rattle.cg_heap.specs.declared.cell.Scalar.TheVariants.{Unset, Word as Number
 use Rattle.cg_heap.specs.Reps.{slots, slots_of_parts}
 use Rattle.cg_heap.specs.Stored.{Stored, cell_at, changed, with_element, with_fresh, without_answer, without_cell}
 use Rattle.cg_kinds.specs.Kinds.{bang, is_word}
-use Rattle.cg_lawful.specs.Lawful.{library_arity}
+use Rattle.cg_core_def.specs.Lawful.{library_arity}
 use Rattle.cg_lib_heap.specs.Library.{freed_at, granted, kept, library_heap, next_at, words_at}
-use Rattle.cg_operations.specs.Iterators.{is_iterator}
+use Rattle.cg_eval_operations.specs.Iterators.{is_iterator}
 use Rattle.cg_typing.specs.Functions.{are_good_arguments, asked_by_library, meets_asked, next_asked}
 use Rattle.cg_typing.specs.Instances.{as_arguments}
 use Rattle.cg_typing.specs.Library.{array, library_type, maybe, pair, state, triple}
@@ -45,11 +45,11 @@ use Rattle.cg_update.specs.Machines.{is_machine}
 use Rattle.cg_update.specs.Outcomes.{State, Outcome, no_result, gives, given}
 use Rattle.cg_update.specs.Turns.{fields_in}
 use Rattle.cg_value.specs.Fits.{most_elements}
-use Rattle.cg_lower_laws.specs.CTypes.{c_type, form, form_parts, record_struct, struct_name, IsDeclared}
-use Rattle.cg_lower_laws.specs.LibraryCode.{low_fresh, low_library, whole_argument, field_of_argument}
-use Rattle.cg_lower_laws.specs.Lowered.{Low, Whole}
-use Rattle.cg_lower_laws.specs.Places.{Place, field, argument, argument_name, local, local_name, path, operand}
-use Rattle.cg_lower_laws.specs.Simulated.{as_run}
+use Rattle.cg_lower_def.specs.CTypes.{c_type, form, form_parts, record_struct, struct_name, IsDeclared}
+use Rattle.cg_lower_def.specs.LibraryCode.{low_fresh, low_library, whole_argument, field_of_argument}
+use Rattle.cg_lower_def.specs.Lowered.{Low, Whole}
+use Rattle.cg_lower_def.specs.Places.{Place, field, argument, argument_name, local, local_name, path, operand}
+use Rattle.cg_lower_def.specs.Simulated.{as_run}
 use Rattle.cg_lower_laws.proofs.Frames.{Is, Fresh, Keeps, is_kept, set_is}
 use Rattle.cg_lower_laws.proofs.Inversions.{where_is, pay_for_is}
 use Rattle.cg_lower_laws.proofs.Layouts.{lay, size_slots}

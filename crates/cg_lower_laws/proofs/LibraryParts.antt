@@ -8,12 +8,12 @@ use Rattle.cg_base.specs.declared.kind.Word.{Word}
 use Rattle.cg_base.specs.declared.kind.Word.TheVariants.{U8, U16, U32, U64}
 use Rattle.cg_base.specs.Types.{Tau, word, fields, Parts, end, part}
 use Rattle.cg_base.specs.Words.{bits}
-use Rattle.cg_crun.specs.BuiltIns.{free, create, free_array, length_of, get, put, called, array_of, array_call, is_there, pointer_of, number_of as number_from, element_at, with_element_at, make_struct, granted, next_answer}
-use Rattle.cg_crun.specs.Layouts.{Layout, cell, pointer}
-use Rattle.cg_crun.specs.Operands.{Value, typed, Frame, judge, judge_all, read, part_of}
-use Rattle.cg_crun.specs.Operations.{word_value}
-use Rattle.cg_crun.specs.Outcomes.{ok, on, State, done}
-use Rattle.cg_crun.specs.Runs.{Linked, callee, built}
+use Rattle.cg_cmachine_def.specs.BuiltIns.{free, create, free_array, length_of, get, put, called, array_of, array_call, is_there, pointer_of, number_of as number_from, element_at, with_element_at, make_struct, granted, next_answer}
+use Rattle.cg_cmachine_def.specs.Layouts.{Layout, cell, pointer}
+use Rattle.cg_cmachine_def.specs.Operands.{Value, typed, Frame, judge, judge_all, read, part_of}
+use Rattle.cg_cmachine_def.specs.Operations.{word_value}
+use Rattle.cg_cmachine_def.specs.Outcomes.{ok, on, State, done}
+use Rattle.cg_cmachine_def.specs.Runs.{Linked, callee, built}
 use Rattle.cg_ctree.specs.declared.tree.COpnd.{COpnd}
 use Rattle.cg_ctree.specs.declared.tree.CStruct.{CStruct}
 use Rattle.cg_heap.specs.declared.cell.Cell.{Cell}
@@ -30,9 +30,9 @@ use Rattle.cg_typing.specs.Library.{pair, triple}
 use Rattle.cg_update.specs.Calls.{are_answers, are_slots, are_words}
 use Rattle.cg_update.specs.Machines.{is_machine, part_at, type_of_part}
 use Rattle.cg_value.specs.Fits.{most_elements}
-use Rattle.cg_lower_laws.specs.CTypes.{IsDeclared}
-use Rattle.cg_lower_laws.specs.LibraryCode.{whole_argument, field_of_argument}
-use Rattle.cg_lower_laws.specs.Places.{Step, Base, argument, argument_name, held, operand}
+use Rattle.cg_lower_def.specs.CTypes.{IsDeclared}
+use Rattle.cg_lower_def.specs.LibraryCode.{whole_argument, field_of_argument}
+use Rattle.cg_lower_def.specs.Places.{Step, Base, argument, argument_name, held, operand}
 use Rattle.cg_lower_laws.proofs.Frames.{Is, Keeps, is_kept}
 use Rattle.cg_lower_laws.proofs.Layouts.{lay}
 use Rattle.cg_lower_laws.proofs.Operands.{IsReadable, readable, given_typed, keeps_field}

@@ -1,9 +1,9 @@
 -- Loops: so many steps from a test on, wherever as many turns as steps are left may be made.
 use Rattle.std.proofs.Common.{◌≡◌, ℕ, zero, suc, ◌+◌, ◌≤◌, List, [], ◌∷◌, refl, sym, subst, arith}
-use Rattle.cg_crun.specs.Layouts.{Layout}
-use Rattle.cg_crun.specs.Operands.{Frame}
-use Rattle.cg_crun.specs.Outcomes.{State, done, ok}
-use Rattle.cg_crun.specs.Runs.{Linked, goes, judged_word, turns, run_block, run_stmt, calls_in}
+use Rattle.cg_cmachine_def.specs.Layouts.{Layout}
+use Rattle.cg_cmachine_def.specs.Operands.{Frame}
+use Rattle.cg_cmachine_def.specs.Outcomes.{State, done, ok}
+use Rattle.cg_cmachine_def.specs.Runs.{Linked, goes, judged_word, turns, run_block, run_stmt, calls_in}
 use Rattle.cg_ctree.specs.declared.tree.COpnd.{COpnd}
 use Rattle.cg_ctree.specs.Trees.{Stmt, while, to_block}
 use Rattle.cg_lower_laws.proofs.Runs.{Runs}

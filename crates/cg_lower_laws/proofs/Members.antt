@@ -7,11 +7,11 @@ use Rattle.cg_base.specs.declared.place.Place.{Place as Position}
 use Rattle.cg_base.specs.Types.{Tau, var, seen, unit, word, bool, arrow, abs, variant, fields, Parts}
 use Rattle.cg_core.specs.declared.at.At.{At}
 use Rattle.cg_core.specs.Terms.{Note, Tree, term, Shape, esac, member, take_field}
-use Rattle.cg_crun.specs.Layouts.{Layout, layout, pointer, size}
-use Rattle.cg_crun.specs.Operands.{Frame, give, read_path, typed as value_of, Value}
-use Rattle.cg_crun.specs.Outcomes.{ok}
-use Rattle.cg_crun.specs.Runs.{Linked, plain}
-use Rattle.cg_crun.specs.Targets.{with_scalars}
+use Rattle.cg_cmachine_def.specs.Layouts.{Layout, layout, pointer, size}
+use Rattle.cg_cmachine_def.specs.Operands.{Frame, give, read_path, typed as value_of, Value}
+use Rattle.cg_cmachine_def.specs.Outcomes.{ok}
+use Rattle.cg_cmachine_def.specs.Runs.{Linked, plain}
+use Rattle.cg_cmachine_def.specs.Targets.{with_scalars}
 use Rattle.cg_ctree.specs.declared.tree.COpnd.TheVariants.{Path}
 use Rattle.cg_ctree.specs.declared.tree.CRhs.{CRhs}
 use Rattle.cg_ctree.specs.declared.tree.CRhs.TheVariants.{Opnd}
@@ -24,7 +24,7 @@ use Rattle.cg_heap.specs.declared.cell.Scalar.{Scalar}
 use Rattle.cg_heap.specs.declared.cell.Scalar.TheVariants.{Unset, Address}
 use Rattle.cg_heap.specs.Reps.{tail, first_address}
 use Rattle.cg_heap.specs.Stored.{cell_at}
-use Rattle.cg_operations.specs.Positions.{position, position_among}
+use Rattle.cg_eval_operations.specs.Positions.{position, position_among}
 use Rattle.cg_typing.specs.Parts.{alternative_in, field_in, held as held_type, is_left, with_part}
 use Rattle.cg_typing.specs.Rules.{type_at}
 use Rattle.cg_update.specs.Calls.{Program, types_of}
@@ -32,11 +32,11 @@ use Rattle.cg_update.specs.Machines.{is_address, is_machine, part_at, type_of_pa
 use Rattle.cg_update.specs.Outcomes.{State, Outcome, gives, on, where_true}
 use Rattle.cg_update.specs.Turns.{alternatives_in, field_type, fields_in, place_in}
 use Rattle.cg_update.specs.Updates.{Calls, Variables, cell_slots, read, row_of, sigil_of, update, update_shape}
-use Rattle.cg_lower_laws.specs.CTypes.{c_type, IsDeclared, record_struct}
-use Rattle.cg_lower_laws.specs.Lowered.{Low, Whole, bare, bare_by, copy, fetching, joined, low, low_member, low_shape, remainder, set}
-use Rattle.cg_lower_laws.specs.Places.{Base, local, Place, number, held, field, payload, arrow_path, at, base_name, base_of, local_name, operand, path}
-use Rattle.cg_lower_laws.specs.Simulated.{as_run}
-use Rattle.cg_lower_laws.specs.Typed.{IsTyped}
+use Rattle.cg_lower_def.specs.CTypes.{c_type, IsDeclared, record_struct}
+use Rattle.cg_lower_def.specs.Lowered.{Low, Whole, bare, bare_by, copy, fetching, joined, low, low_member, low_shape, remainder, set}
+use Rattle.cg_lower_def.specs.Places.{Base, local, Place, number, held, field, payload, arrow_path, at, base_name, base_of, local_name, operand, path}
+use Rattle.cg_lower_def.specs.Simulated.{as_run}
+use Rattle.cg_lower_def.specs.Typed.{IsTyped}
 use Rattle.cg_lower_laws.proofs.Frames.{Is, set_is, Changes, changes_none, changes_set, changes_wider, Fresh, fresh_back, fresh_front, fresh_later, Keeps, is_kept, kept_is, keeps_later, Under, under_at, under_more}
 use Rattle.cg_lower_laws.proofs.Inversions.{Bound, bind_is, on_is, where_is, same_scalars}
 use Rattle.cg_lower_laws.proofs.Layouts.{lay, machine_slots, named_is, part_declared, size_slots, left_there, with_part_type}

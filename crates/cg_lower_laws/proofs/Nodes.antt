@@ -6,13 +6,13 @@ use Rattle.cg_base.specs.declared.kind.Word.{Word}
 use Rattle.cg_base.specs.declared.kind.Word.TheVariants.{U8}
 use Rattle.cg_base.specs.Words.{bits}
 use Rattle.cg_kinds.specs.Kinds.{is_word}
-use Rattle.cg_operations.specs.Operators.{truth}
+use Rattle.cg_eval_operations.specs.Operators.{truth}
 use Rattle.cg_base.specs.Types.{Tau, var as variable, seen, unit as nothing, bool as boolean, word, arrow, abs, variant, fields}
 use Rattle.cg_core.specs.declared.term.Seen.{Seen}
 use Rattle.cg_core.specs.Terms.{Arg, Note, Tree, term, Shape, var, unit, bool, lit, lets, let_bang, annot}
-use Rattle.cg_crun.specs.Layouts.{Layout}
-use Rattle.cg_crun.specs.Operands.{Frame}
-use Rattle.cg_crun.specs.Runs.{Linked}
+use Rattle.cg_cmachine_def.specs.Layouts.{Layout}
+use Rattle.cg_cmachine_def.specs.Operands.{Frame}
+use Rattle.cg_cmachine_def.specs.Runs.{Linked}
 use Rattle.cg_ctree.specs.declared.tree.CTy.{CTy}
 use Rattle.cg_ctree.specs.declared.tree.CTy.TheVariants as ty
 use Rattle.cg_heap.specs.declared.cell.Scalar.{Scalar}
@@ -22,10 +22,10 @@ use Rattle.cg_update.specs.Calls.{Program, types_of}
 use Rattle.cg_update.specs.Machines.{is_machine}
 use Rattle.cg_update.specs.Outcomes.{State, gives, bind}
 use Rattle.cg_update.specs.Updates.{Calls, Variables, formed, update, update_shape}
-use Rattle.cg_lower_laws.specs.CTypes.{c_type}
-use Rattle.cg_lower_laws.specs.Lowered.{Low, Whole, leaf, joined, low, low_shape}
-use Rattle.cg_lower_laws.specs.Places.{Place, number}
-use Rattle.cg_lower_laws.specs.Typed.{IsTyped}
+use Rattle.cg_lower_def.specs.CTypes.{c_type}
+use Rattle.cg_lower_def.specs.Lowered.{Low, Whole, leaf, joined, low, low_shape}
+use Rattle.cg_lower_def.specs.Places.{Place, number}
+use Rattle.cg_lower_def.specs.Typed.{IsTyped}
 use Rattle.cg_lower_laws.proofs.Frames.{Fresh, fresh_front, fresh_back, fresh_later, Keeps, Under}
 use Rattle.cg_lower_laws.proofs.Inversions.{Bound, bind_is, pay_is, formed_is, same_scalars, same_state, same_rest}
 use Rattle.cg_lower_laws.proofs.Terms.{lay_c, Ran, leaf_ran, joined_ran, AreKept, kept_at, kept_later, kept_push}

@@ -13,13 +13,13 @@ use Rattle.cg_base.specs.Same.{same_type}
 use Rattle.cg_base.specs.Types.{Tau, word, arrow, fields, Parts, end, part}
 use Rattle.cg_base.specs.Words.{bits}
 use Rattle.cg_cgen.proofs.Numbers.{bit_fits, flag_is_small}
-use Rattle.cg_crun.specs.Layouts.{Layout, cell, size, spot, walk}
-use Rattle.cg_crun.specs.Operands.{Frame, typed}
-use Rattle.cg_crun.specs.Operations.{flag, word_value}
-use Rattle.cg_crun.specs.Outcomes as runs
-use Rattle.cg_crun.specs.Outcomes.{ok}
-use Rattle.cg_crun.specs.Runs.{Linked}
-use Rattle.cg_crun.specs.Targets.{spliced}
+use Rattle.cg_cmachine_def.specs.Layouts.{Layout, cell, size, spot, walk}
+use Rattle.cg_cmachine_def.specs.Operands.{Frame, typed}
+use Rattle.cg_cmachine_def.specs.Operations.{flag, word_value}
+use Rattle.cg_cmachine_def.specs.Outcomes as runs
+use Rattle.cg_cmachine_def.specs.Outcomes.{ok}
+use Rattle.cg_cmachine_def.specs.Runs.{Linked}
+use Rattle.cg_cmachine_def.specs.Targets.{spliced}
 use Rattle.cg_ctree.specs.declared.tree.COp.TheVariants as cop
 use Rattle.cg_ctree.specs.declared.tree.CTy.{CTy}
 use Rattle.cg_ctree.specs.declared.tree.CTy.TheVariants as ty
@@ -29,19 +29,19 @@ use Rattle.cg_heap.specs.declared.cell.Scalar.TheVariants.{Unset, Word as Number
 use Rattle.cg_heap.specs.Reps.{first_number, slots}
 use Rattle.cg_heap.specs.Stored.{Stored}
 use Rattle.cg_kinds.specs.Kinds.{bang}
-use Rattle.cg_operations.specs.Iterators.{counted, indices_from}
+use Rattle.cg_eval_operations.specs.Iterators.{counted, indices_from}
 use Rattle.cg_typing.specs.Library.{given, turn_of_loop}
 use Rattle.cg_update.specs.Calls.{Program, types_of}
 use Rattle.cg_update.specs.Machines.{are_machine, is_machine, part_at, type_of_part}
 use Rattle.cg_update.specs.Outcomes.{State, Outcome, gives, bind, pay}
 use Rattle.cg_update.specs.Turns.{Argument, field_in, indices, turns}
 use Rattle.cg_update.specs.Updates.{Calls, calls_source}
-use Rattle.cg_lower_laws.specs.CTypes.{c_type, count, IsDeclared}
-use Rattle.cg_lower_laws.specs.IteratorCode.{computing, function_type, loop_begins, loop_goes_on, low_loop, turning, whole_local}
-use Rattle.cg_lower_laws.specs.LibraryCode.{field_of_argument, setting, whole_argument}
-use Rattle.cg_lower_laws.specs.Lowered.{Whole}
-use Rattle.cg_lower_laws.specs.Places.{argument, argument_name, field, held, local, local_name, number, operand, step_name}
-use Rattle.cg_lower_laws.specs.Simulated.{as_run}
+use Rattle.cg_lower_def.specs.CTypes.{c_type, count, IsDeclared}
+use Rattle.cg_lower_def.specs.IteratorCode.{computing, function_type, loop_begins, loop_goes_on, low_loop, turning, whole_local}
+use Rattle.cg_lower_def.specs.LibraryCode.{field_of_argument, setting, whole_argument}
+use Rattle.cg_lower_def.specs.Lowered.{Whole}
+use Rattle.cg_lower_def.specs.Places.{argument, argument_name, field, held, local, local_name, number, operand, step_name}
+use Rattle.cg_lower_def.specs.Simulated.{as_run}
 use Rattle.cg_lower_laws.proofs.Bodies.{length_replicate}
 use Rattle.cg_lower_laws.proofs.Frames.{Fresh, Is, Keeps, is_kept}
 use Rattle.cg_lower_laws.proofs.Inversions.{bind_is, pay_is, same_rest, same_scalars, same_state}

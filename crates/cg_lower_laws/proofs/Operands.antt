@@ -9,10 +9,10 @@ use Rattle.cg_base.specs.declared.kind.Word.{Word}
 use Rattle.cg_base.specs.declared.kind.Word.TheVariants.{U8, U16, U32, U64}
 use Rattle.cg_base.specs.Types.{Tau, var, seen, unit, word, bool, arrow, abs, variant, fields, Parts}
 use Rattle.cg_base.specs.Words.{bits, same_word}
-use Rattle.cg_crun.specs.Layouts.{Layout, cell, pointer, group, laid, members_in, size, sizes, same_layout, Spot, spot, walk, layout}
-use Rattle.cg_crun.specs.Operands.{Value, literal, typed, Frame, judge, read, read_path, give, part_of}
-use Rattle.cg_crun.specs.Outcomes.{ok}
-use Rattle.cg_crun.specs.Targets.{spliced, with_scalars, write}
+use Rattle.cg_cmachine_def.specs.Layouts.{Layout, cell, pointer, group, laid, members_in, size, sizes, same_layout, Spot, spot, walk, layout}
+use Rattle.cg_cmachine_def.specs.Operands.{Value, literal, typed, Frame, judge, read, read_path, give, part_of}
+use Rattle.cg_cmachine_def.specs.Outcomes.{ok}
+use Rattle.cg_cmachine_def.specs.Targets.{spliced, with_scalars, write}
 use Rattle.cg_ctree.specs.declared.tree.COpnd.{COpnd}
 use Rattle.cg_ctree.specs.declared.tree.CStruct.{CStruct}
 use Rattle.cg_ctree.specs.declared.tree.CTy.TheVariants as ty
@@ -22,11 +22,11 @@ use Rattle.cg_heap.specs.declared.cell.Scalar.TheVariants.{Unset, Word as Number
 use Rattle.cg_heap.specs.Reps.{slots}
 use Rattle.cg_heap.specs.Stored.{Stored, cell_at, changed}
 use Rattle.cg_update.specs.Machines.{is_machine, is_number_below, is_address, is_place_of, is_type, part_at, type_of_part, with_part_at}
-use Rattle.cg_lower_laws.specs.CTypes.{count, record_struct, variant_struct, IsDeclared}
-use Rattle.cg_lower_laws.specs.Places.{Step, step_name, field, payload, tag, Base, base_name, Place, number, held, at, path, arrow_path, operand}
+use Rattle.cg_lower_def.specs.CTypes.{count, record_struct, variant_struct, IsDeclared}
+use Rattle.cg_lower_def.specs.Places.{Step, step_name, field, payload, tag, Base, base_name, Place, number, held, at, path, arrow_path, operand}
 use Rattle.cg_lower_laws.proofs.Frames.{Is, IsPart, IsNumeral, Keeps}
 use Rattle.cg_lower_laws.proofs.Layouts.{lay, before, part_declared, size_slots, field_leads, tag_leads, payload_leads, part_is, with_part_is, is_within, field_fits, payload_fits, tag_fits, walk_on}
-use Rattle.cg_crun.proofs.LayoutLaws.{layout_unfolds}
+use Rattle.cg_cmachine_laws.proofs.LayoutLaws.{layout_unfolds}
 
 -- ---- values
 

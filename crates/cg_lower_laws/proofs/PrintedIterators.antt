@@ -6,7 +6,7 @@ use Rattle.cg_base.specs.declared.kind.Word.{Word}
 use Rattle.cg_base.specs.declared.kind.Word.TheVariants.{U8, U32, U64}
 use Rattle.cg_base.specs.Types.{Tau}
 use Rattle.cg_cgen.specs.Code.{computed_by}
-use Rattle.cg_crun.specs.BuiltIns.{array_call}
+use Rattle.cg_cmachine_def.specs.BuiltIns.{array_call}
 use Rattle.cg_ctree.specs.declared.tree.COp.{COp}
 use Rattle.cg_ctree.specs.declared.tree.COp.TheVariants as cop
 use Rattle.cg_ctree.specs.declared.tree.CRhs.TheVariants.{Call as called}
@@ -15,10 +15,10 @@ use Rattle.cg_ctree.specs.Trees.{Stmt, to_block, while}
 use Rattle.cg_lib_value.specs.Library.{first_type}
 use Rattle.cg_typing.specs.Library.{library_type}
 use Rattle.cg_typing.specs.Parts.{given_by, taken_by}
-use Rattle.cg_lower_laws.specs.IteratorCode.{array_begins, array_goes_on, array_of_argument, array_reads, break_begins, break_ends, break_goes_on, break_stops, break_turn, computing, function_type, loop_begins, loop_goes_on, low_break, low_fold, low_iterator, low_loop, low_map, turn_of_fold, turn_of_map, turn_of_numbers, turning, whole_local}
-use Rattle.cg_lower_laws.specs.LibraryCode.{field_of_argument, setting}
-use Rattle.cg_lower_laws.specs.Lowered.{Whole, arrow_number, word_of}
-use Rattle.cg_lower_laws.specs.Places.{Place, Step, field, held, local, number, operand, path, payload, tag}
+use Rattle.cg_lower_def.specs.IteratorCode.{array_begins, array_goes_on, array_of_argument, array_reads, break_begins, break_ends, break_goes_on, break_stops, break_turn, computing, function_type, loop_begins, loop_goes_on, low_break, low_fold, low_iterator, low_loop, low_map, turn_of_fold, turn_of_map, turn_of_numbers, turning, whole_local}
+use Rattle.cg_lower_def.specs.LibraryCode.{field_of_argument, setting}
+use Rattle.cg_lower_def.specs.Lowered.{Whole, arrow_number, word_of}
+use Rattle.cg_lower_def.specs.Places.{Place, Step, field, held, local, number, operand, path, payload, tag}
 use Rattle.cg_lower_laws.proofs.PrintedLibrary.{done_prints, setting_prints}
 use Rattle.cg_lower_laws.proofs.PrintedNames.{FitsPlace, dispatch_named, get_named, length_named, operand_prints, operands_print, path_prints, put_named, type_prints}
 use Rattle.cg_lower_laws.proofs.PrintedNodes.{Print, PrintsLow, all_append, assign_prints, block_prints, inner_is, leaf_prints}

@@ -9,11 +9,11 @@ use Rattle.cg_base.specs.declared.kind.Sigil.TheVariants.{R, W, U}
 use Rattle.cg_base.specs.declared.kind.Word.{Word}
 use Rattle.cg_base.specs.declared.kind.Word.TheVariants.{U8, U16, U32, U64}
 use Rattle.cg_base.specs.Types.{Tau, var, seen, unit, word, bool, arrow, abs, variant, fields, Taus}
-use Rattle.cg_crun.specs.BuiltIns.{array_call, width_text}
+use Rattle.cg_cmachine_def.specs.BuiltIns.{array_call, width_text}
 use Rattle.cg_ctree.specs.Spells.{IsCName, IsPrintableOpnd, IsPrintablePath, IsPrintableType}
 use Rattle.cg_ctree.specs.Tokens.{is_word, letter, part_of_name}
-use Rattle.cg_lower_laws.specs.CTypes.{abstract_struct, c_type, element, name, tag_name}
-use Rattle.cg_lower_laws.specs.Places.{Base, argument, local, Place, number, held, Step, field, tag, payload, arrow_path, at, base_name, operand, path, step_name}
+use Rattle.cg_lower_def.specs.CTypes.{abstract_struct, c_type, element, name, tag_name}
+use Rattle.cg_lower_def.specs.Places.{Base, argument, local, Place, number, held, Step, field, tag, payload, arrow_path, at, base_name, operand, path, step_name}
 
 -- ---- digits
 

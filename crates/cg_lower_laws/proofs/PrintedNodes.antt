@@ -18,8 +18,8 @@ use Rattle.cg_ctree.specs.declared.tree.CTy.{CTy}
 use Rattle.cg_ctree.specs.declared.tree.CTy.TheVariants as ty
 use Rattle.cg_ctree.specs.Spells.{IsCName, IsInner, IsPrintableOpnd, IsPrintablePath, IsPrintableRight, IsPrintableStmt, IsPrintableBlock, IsPrintableType, SomeAll}
 use Rattle.cg_ctree.specs.Trees.{Stmt, assign, to_block}
-use Rattle.cg_lower_laws.specs.Lowered.{Low, Lows, and_then, arm, as_low, bare, bare_by, before, calling, chosen, converting, copy, fetching, filling, injecting, is_tagged, joined, leaf, low_case, low_cast, low_if, low_member, low_operator, low_put, operating, owned, owned_by, remainder, set}
-use Rattle.cg_lower_laws.specs.Places.{Base, argument, local, Place, number, held, Step, field, tag, payload, arrow_path, at, base_of, operand, path}
+use Rattle.cg_lower_def.specs.Lowered.{Low, Lows, and_then, arm, as_low, bare, bare_by, before, calling, chosen, converting, copy, fetching, filling, injecting, is_tagged, joined, leaf, low_case, low_cast, low_if, low_member, low_operator, low_put, operating, owned, owned_by, remainder, set}
+use Rattle.cg_lower_def.specs.Places.{Base, argument, local, Place, number, held, Step, field, tag, payload, arrow_path, at, base_of, operand, path}
 use Rattle.cg_lower_laws.proofs.PrintedNames.{FitsPlace, arrow_prints, at_fits, operand_prints, path_prints}
 
 -- ---- lists

@@ -22,9 +22,9 @@ use Rattle.cg_ctree.specs.Spells.{ArePrintableCases, IsCName, IsPrintableBlock, 
 use Rattle.cg_ctree.specs.Trees.{assign, return', switch}
 use Rattle.cg_heap.specs.declared.foreign.Link.{Link}
 use Rattle.cg_inst.specs.Lists.{same_instance}
-use Rattle.cg_operations.specs.Iterators.{is_iterator}
-use Rattle.cg_operations.specs.Operators.{truth}
-use Rattle.cg_operations.specs.Positions.{position, position_among}
+use Rattle.cg_eval_operations.specs.Iterators.{is_iterator}
+use Rattle.cg_eval_operations.specs.Operators.{truth}
+use Rattle.cg_eval_operations.specs.Positions.{position, position_among}
 use Rattle.cg_typing.specs.Contexts.{Context}
 use Rattle.cg_typing.specs.Functions.{arg_types}
 use Rattle.cg_typing.specs.Instances.{Entry, Instance, IsDerivedBody, IsEntry, IsDerivedMaybe, nodes_of, nodes_below, nodes_of_fields}
@@ -34,15 +34,15 @@ use Rattle.cg_typing.specs.Trees.{strings_of, the_parts}
 use Rattle.cg_update.specs.Calls.{Program}
 use Rattle.cg_update.specs.Turns.{field_type, place_in}
 use Rattle.cg_update.specs.Updates.{place_of, sigil_of}
-use Rattle.cg_lower_laws.specs.CTypes.{count, IsDeclared}
-use Rattle.cg_lower_laws.specs.Functions.{Item, of_arrow, of_instance, body_of, function_maybe, function_of_item, function_of, functions_at, locals_from, low_body, low_instance, low_outside, with_function}
-use Rattle.cg_lower_laws.specs.Dispatch.{dispatch_body, dispatch_cases, dispatch_of, second_path, tags_from}
-use Rattle.cg_lower_laws.specs.IteratorCode.{low_iterator}
-use Rattle.cg_lower_laws.specs.LibraryCode.{low_library, whole_argument}
-use Rattle.cg_lower_laws.specs.Lowered.{Low, Whole, arrow_number, call_operands, callee, calling, function_name, injecting, joined, literal, low, low_fields, low_member, low_shape, remainder, place, typed, word_of}
-use Rattle.cg_lower_laws.specs.Places.{Place, argument, held, local, number, path, payload, at, operand}
-use Rattle.cg_lower_laws.specs.Printables.{AreShallow, LoweringIsPrintable, depth, depth_below, depth_of_fields}
-use Rattle.cg_lower_laws.specs.Simulated.{IsProgramOf}
+use Rattle.cg_lower_def.specs.CTypes.{count, IsDeclared}
+use Rattle.cg_lower_def.specs.Functions.{Item, of_arrow, of_instance, body_of, function_maybe, function_of_item, function_of, functions_at, locals_from, low_body, low_instance, low_outside, with_function}
+use Rattle.cg_lower_def.specs.Dispatch.{dispatch_body, dispatch_cases, dispatch_of, second_path, tags_from}
+use Rattle.cg_lower_def.specs.IteratorCode.{low_iterator}
+use Rattle.cg_lower_def.specs.LibraryCode.{low_library, whole_argument}
+use Rattle.cg_lower_def.specs.Lowered.{Low, Whole, arrow_number, call_operands, callee, calling, function_name, injecting, joined, literal, low, low_fields, low_member, low_shape, remainder, place, typed, word_of}
+use Rattle.cg_lower_def.specs.Places.{Place, argument, held, local, number, path, payload, at, operand}
+use Rattle.cg_lower_def.specs.Printables.{AreShallow, LoweringIsPrintable, depth, depth_below, depth_of_fields}
+use Rattle.cg_lower_def.specs.Simulated.{IsProgramOf}
 use Rattle.cg_lower_laws.proofs.PrintedNames.{FitsPlace, argument_named, at_fits, dispatch_named, function_named, local_named, operand_prints, path_prints, type_prints}
 use Rattle.cg_lower_laws.proofs.PrintedIterators.{iterator_prints}
 use Rattle.cg_lower_laws.proofs.PrintedLibrary.{library_prints}

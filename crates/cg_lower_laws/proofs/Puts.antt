@@ -6,12 +6,12 @@ use Rattle.cg_base.specs.declared.kind.Sigil.TheVariants.{R, W, U}
 use Rattle.cg_base.specs.Types.{Tau, var, seen, unit, word, bool, arrow, abs, variant, fields, Parts}
 use Rattle.cg_core.specs.declared.at.At.{At}
 use Rattle.cg_core.specs.Terms.{Note, Tree, term, put}
-use Rattle.cg_crun.specs.Layouts.{Layout, layout, pointer, size, spot}
-use Rattle.cg_crun.specs.Operands.{Frame}
-use Rattle.cg_crun.specs.Outcomes.{ok}
-use Rattle.cg_crun.specs.Runs.{Linked}
-use Rattle.cg_crun.specs.Targets.{spliced, with_scalars}
-use Rattle.cg_crun.specs.Targets as targets
+use Rattle.cg_cmachine_def.specs.Layouts.{Layout, layout, pointer, size, spot}
+use Rattle.cg_cmachine_def.specs.Operands.{Frame}
+use Rattle.cg_cmachine_def.specs.Outcomes.{ok}
+use Rattle.cg_cmachine_def.specs.Runs.{Linked}
+use Rattle.cg_cmachine_def.specs.Targets.{spliced, with_scalars}
+use Rattle.cg_cmachine_def.specs.Targets as targets
 use Rattle.cg_ctree.specs.declared.tree.COpnd.{COpnd}
 use Rattle.cg_ctree.specs.declared.tree.CRhs.TheVariants.{Opnd}
 use Rattle.cg_ctree.specs.declared.tree.CTy.{CTy}
@@ -22,7 +22,7 @@ use Rattle.cg_heap.specs.declared.cell.Scalar.{Scalar}
 use Rattle.cg_heap.specs.declared.cell.Scalar.TheVariants.{Address}
 use Rattle.cg_heap.specs.Reps.{first_address, slots}
 use Rattle.cg_heap.specs.Stored.{cell_at, changed}
-use Rattle.cg_operations.specs.Positions.{position}
+use Rattle.cg_eval_operations.specs.Positions.{position}
 use Rattle.cg_typing.specs.Parts.{field_in, held as held_type, is_there}
 use Rattle.cg_typing.specs.Rules.{type_at}
 use Rattle.cg_update.specs.Calls.{Program, types_of}
@@ -30,10 +30,10 @@ use Rattle.cg_update.specs.Machines.{is_address, is_machine, type_of_part, with_
 use Rattle.cg_update.specs.Outcomes.{State, Outcome, with_store, gives, bind, on, pay}
 use Rattle.cg_update.specs.Turns.{fields_in}
 use Rattle.cg_update.specs.Updates.{Calls, cell_slots, row_of, sigil_of, update, update_shape, with_row, write}
-use Rattle.cg_lower_laws.specs.CTypes.{c_type, IsDeclared, record_struct}
-use Rattle.cg_lower_laws.specs.Lowered.{Low, Whole, and_then, bare, before, copy, low, low_put, low_shape, owned, owned_by, set}
-use Rattle.cg_lower_laws.specs.Places.{arrow_path, argument, local, Place, number, held, field, base_name, base_of, local_name, operand, path}
-use Rattle.cg_lower_laws.specs.Simulated.{as_run}
+use Rattle.cg_lower_def.specs.CTypes.{c_type, IsDeclared, record_struct}
+use Rattle.cg_lower_def.specs.Lowered.{Low, Whole, and_then, bare, before, copy, low, low_put, low_shape, owned, owned_by, set}
+use Rattle.cg_lower_def.specs.Places.{arrow_path, argument, local, Place, number, held, field, base_name, base_of, local_name, operand, path}
+use Rattle.cg_lower_def.specs.Simulated.{as_run}
 use Rattle.cg_lower_laws.proofs.Frames.{Is, set_is, changes_none, changes_set, Fresh, fresh_back, fresh_front, fresh_later, Keeps, is_kept, kept_is, keeps_later, Under, under_more}
 use Rattle.cg_lower_laws.proofs.Inversions.{Bound, bind_is, on_is, pay_is}
 use Rattle.cg_lower_laws.proofs.Layouts.{before as offset, field_leads, lay, machine_slots, named_is, size_slots, with_part_is, with_part_type}

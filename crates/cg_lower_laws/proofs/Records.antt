@@ -6,18 +6,18 @@ use Rattle.cg_base.specs.declared.kind.Sigil.TheVariants.{U}
 use Rattle.cg_base.specs.declared.kind.Word.TheVariants.{U32}
 use Rattle.cg_base.specs.Types.{Tau, var as variable, seen, unit as nothing, bool as boolean, word, arrow, abs, variant, fields, Parts, end as no_parts, part}
 use Rattle.cg_core.specs.Terms.{Note, Tree, term, con, struct, Named, end, field as named}
-use Rattle.cg_crun.specs.Layouts.{Layout, cell, size, Spot, spot, walk}
-use Rattle.cg_crun.specs.Operands.{Frame}
-use Rattle.cg_crun.specs.Outcomes.{State as RunState}
-use Rattle.cg_crun.specs.Runs.{Linked}
-use Rattle.cg_crun.specs.Targets.{spliced, with_scalars}
+use Rattle.cg_cmachine_def.specs.Layouts.{Layout, cell, size, Spot, spot, walk}
+use Rattle.cg_cmachine_def.specs.Operands.{Frame}
+use Rattle.cg_cmachine_def.specs.Outcomes.{State as RunState}
+use Rattle.cg_cmachine_def.specs.Runs.{Linked}
+use Rattle.cg_cmachine_def.specs.Targets.{spliced, with_scalars}
 use Rattle.cg_ctree.specs.declared.tree.CRhs.TheVariants.{Opnd}
 use Rattle.cg_ctree.specs.declared.tree.CTy.{CTy}
 use Rattle.cg_ctree.specs.Trees.{assign}
 use Rattle.cg_heap.specs.declared.cell.Scalar.{Scalar}
 use Rattle.cg_heap.specs.declared.cell.Scalar.TheVariants.{Unset, Word as NumberScalar}
 use Rattle.cg_heap.specs.Reps.{slots, slots_of_parts}
-use Rattle.cg_operations.specs.Positions.{position_among}
+use Rattle.cg_eval_operations.specs.Positions.{position_among}
 use Rattle.cg_typing.specs.Parts.{alternative_in, held as type_held, is_left}
 use Rattle.cg_typing.specs.Rules.{parts_made, type_at}
 use Rattle.cg_update.specs.Calls.{Program, types_of}
@@ -25,11 +25,11 @@ use Rattle.cg_update.specs.Machines.{is_machine, only_at, type_of_part}
 use Rattle.cg_update.specs.Outcomes.{State, gives, bind}
 use Rattle.cg_update.specs.Turns.{place_in, chosen_in}
 use Rattle.cg_update.specs.Updates.{Calls, update, update_shape, update_fields}
-use Rattle.cg_lower_laws.specs.CTypes.{c_type, count, field_name, IsDeclared, AreDeclared}
-use Rattle.cg_lower_laws.specs.Lowered.{Low, Lows, Whole, as_low, set, injecting, filling, low, low_shape, low_fields}
-use Rattle.cg_lower_laws.specs.Places.{Step, step_name, field, tag, payload, local, local_name, Place, number, path, operand}
-use Rattle.cg_lower_laws.specs.Simulated.{as_run}
-use Rattle.cg_lower_laws.specs.Typed.{AreTyped}
+use Rattle.cg_lower_def.specs.CTypes.{c_type, count, field_name, IsDeclared, AreDeclared}
+use Rattle.cg_lower_def.specs.Lowered.{Low, Lows, Whole, as_low, set, injecting, filling, low, low_shape, low_fields}
+use Rattle.cg_lower_def.specs.Places.{Step, step_name, field, tag, payload, local, local_name, Place, number, path, operand}
+use Rattle.cg_lower_def.specs.Simulated.{as_run}
+use Rattle.cg_lower_def.specs.Typed.{AreTyped}
 use Rattle.cg_lower_laws.proofs.Frames.{Is, set_is, Changes, changes_none, changes_on, changes_set, Fresh, fresh_front, fresh_back, fresh_later, Keeps, keeps_later, Under, under_more}
 use Rattle.cg_lower_laws.proofs.Inversions.{Bound, bind_is, pay_is, same_scalars, same_state, same_rest}
 use Rattle.cg_lower_laws.proofs.Layouts.{before, part_declared, size_slots, machine_slots, field_leads, payload_leads, payload_fits, tag_leads, tag_fits, only_is, named_is, left_there}

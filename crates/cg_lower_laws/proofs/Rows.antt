@@ -15,14 +15,14 @@ use Rattle.cg_ctree.specs.declared.tree.CRhs.TheVariants.{Opnd, Binary, Call}
 use Rattle.cg_ctree.specs.declared.tree.CTy.TheVariants as ty
 use Rattle.cg_ctree.specs.Trees.{assign, branch, stop, to_block, while}
 use Rattle.cg_kinds.specs.Kinds.{bang}
-use Rattle.cg_operations.specs.Positions.{position, position_among}
+use Rattle.cg_eval_operations.specs.Positions.{position, position_among}
 use Rattle.cg_update.specs.Machines.{type_of_part}
-use Rattle.cg_lower_laws.specs.CTypes.{struct_name}
-use Rattle.cg_lower_laws.specs.Dispatch.{tags_from}
-use Rattle.cg_lower_laws.specs.IteratorCode.{low_iterator}
-use Rattle.cg_lower_laws.specs.LibraryCode.{whole_argument}
-use Rattle.cg_lower_laws.specs.Lowered.{Whole, arrow_number, dispatch_name, low, low_fields}
-use Rattle.cg_lower_laws.specs.Places.{argument, arrow_path, field, held, local, path, payload, tag}
+use Rattle.cg_lower_def.specs.CTypes.{struct_name}
+use Rattle.cg_lower_def.specs.Dispatch.{tags_from}
+use Rattle.cg_lower_def.specs.IteratorCode.{low_iterator}
+use Rattle.cg_lower_def.specs.LibraryCode.{whole_argument}
+use Rattle.cg_lower_def.specs.Lowered.{Whole, arrow_number, dispatch_name, low, low_fields}
+use Rattle.cg_lower_def.specs.Places.{argument, arrow_path, field, held, local, path, payload, tag}
 
 abbrev place : Place
 place = record { line = 1; column = 1 }

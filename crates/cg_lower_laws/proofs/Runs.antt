@@ -1,11 +1,11 @@
 -- Runs of statements that go on to their end, and how they join: exact steps, whatever steps are left behind them.
 use Rattle.std.proofs.Common.{◌≡◌, ℕ, zero, suc, ◌+◌, ◌<◌, ◌≤◌, Bool, true, false, Some, None, List, [], ◌∷◌, ◌++◌, refl, sym, ap, ◌∙◌, subst, arith}
-use Rattle.cg_crun.specs.BuiltIns.{BuiltIn, Given, called, make_struct}
-use Rattle.cg_crun.specs.Layouts.{Layout, size, pointed}
-use Rattle.cg_crun.specs.Operands.{Value, Frame, judge, judge_all}
-use Rattle.cg_crun.specs.Outcomes.{ok, State, Outcome, done, stuck, needs, astray, bind, lift}
-use Rattle.cg_crun.specs.Runs.{Linked, Flow, goes, back, Calls, Callee, built, abstract', own, callee, call_abstract, choose, judged_word, plain, onward, assigned, assigned_given, assigned_call, dropped_call, run_assign, run_stmt, run_block, calls_in}
-use Rattle.cg_crun.specs.Targets.{Written, write}
+use Rattle.cg_cmachine_def.specs.BuiltIns.{BuiltIn, Given, called, make_struct}
+use Rattle.cg_cmachine_def.specs.Layouts.{Layout, size, pointed}
+use Rattle.cg_cmachine_def.specs.Operands.{Value, Frame, judge, judge_all}
+use Rattle.cg_cmachine_def.specs.Outcomes.{ok, State, Outcome, done, stuck, needs, astray, bind, lift}
+use Rattle.cg_cmachine_def.specs.Runs.{Linked, Flow, goes, back, Calls, Callee, built, abstract', own, callee, call_abstract, choose, judged_word, plain, onward, assigned, assigned_given, assigned_call, dropped_call, run_assign, run_stmt, run_block, calls_in}
+use Rattle.cg_cmachine_def.specs.Targets.{Written, write}
 use Rattle.cg_ctree.specs.declared.tree.COpnd.{COpnd}
 use Rattle.cg_ctree.specs.declared.tree.CPath.{CPath}
 use Rattle.cg_ctree.specs.declared.tree.CRhs.{CRhs}

@@ -4,13 +4,13 @@ use Rattle.std.specs.List.{AllByRecursion}
 use Rattle.cg_base.specs.Types.{Tau}
 use Rattle.cg_core.specs.declared.op.Op.{Op}
 use Rattle.cg_core.specs.Terms.{Note, Tree, term, Shape, var, unit, bool, lit, fun, op, app, lets, let_bang, if_else, con, case_of, esac, struct, member, take_field, put, cast, annot, Trees, none, more, Named, end, field as named}
-use Rattle.cg_crun.specs.Layouts.{Layout}
-use Rattle.cg_crun.specs.Runs.{Linked}
+use Rattle.cg_cmachine_def.specs.Layouts.{Layout}
+use Rattle.cg_cmachine_def.specs.Runs.{Linked}
 use Rattle.cg_typing.specs.Instances.{AreInstances, nodes_below, nodes_of, nodes_of_fields}
 use Rattle.cg_update.specs.Calls.{Program, types_of}
 use Rattle.cg_update.specs.Updates.{Calls, update_shape}
-use Rattle.cg_lower_laws.specs.Lowered.{Whole}
-use Rattle.cg_lower_laws.specs.Simulated.{CallsListed}
+use Rattle.cg_lower_def.specs.Lowered.{Whole}
+use Rattle.cg_lower_def.specs.Simulated.{CallsListed}
 use Rattle.cg_lower_laws.proofs.Choices.{sim_case, sim_if}
 use Rattle.cg_lower_laws.proofs.Computing.{CallsRun, ValuesRun, sim_app, sim_app_value, sim_binary, sim_cast, sim_fun, sim_unary}
 use Rattle.cg_lower_laws.proofs.Members.{sim_esac, sim_member, sim_take}

@@ -5,18 +5,18 @@ use Rattle.std.proofs.lemmas.List.{append-nil, drop_all, replicate-append-replic
 use Rattle.cg_base.specs.declared.kind.Sigil.TheVariants.{U}
 use Rattle.cg_base.specs.declared.kind.Word.TheVariants.{U8, U32}
 use Rattle.cg_base.specs.Types.{Tau, unit, Parts, end, part}
-use Rattle.cg_crun.proofs.LayoutLaws.{layout_unfolds}
-use Rattle.cg_crun.specs.Layouts.{cell, size, spot, walk}
-use Rattle.cg_crun.specs.Operands.{Frame}
-use Rattle.cg_crun.specs.Targets.{spliced}
+use Rattle.cg_cmachine_laws.proofs.LayoutLaws.{layout_unfolds}
+use Rattle.cg_cmachine_def.specs.Layouts.{cell, size, spot, walk}
+use Rattle.cg_cmachine_def.specs.Operands.{Frame}
+use Rattle.cg_cmachine_def.specs.Targets.{spliced}
 use Rattle.cg_ctree.specs.declared.tree.CStruct.{CStruct}
 use Rattle.cg_heap.specs.declared.cell.Scalar.{Scalar}
 use Rattle.cg_heap.specs.declared.cell.Scalar.TheVariants.{Unset, Word as NumberScalar, Address}
 use Rattle.cg_heap.specs.Reps.{slots}
 use Rattle.cg_typing.specs.Library.{pair, stopped}
 use Rattle.cg_update.specs.Machines.{is_alternative, is_machine, part_at, type_of_part}
-use Rattle.cg_lower_laws.specs.CTypes.{count, field_name, payload_name, tag_name, record_struct, IsDeclared}
-use Rattle.cg_lower_laws.specs.Places.{Place, at, field, tag}
+use Rattle.cg_lower_def.specs.CTypes.{count, field_name, payload_name, tag_name, record_struct, IsDeclared}
+use Rattle.cg_lower_def.specs.Places.{Place, at, field, tag}
 use Rattle.cg_lower_laws.proofs.Bodies.{length_replicate}
 use Rattle.cg_lower_laws.proofs.Frames.{Keeps}
 use Rattle.cg_lower_laws.proofs.Layouts.{lay, field_leads, payload_leads, size_slots, tag_leads, walk_on}

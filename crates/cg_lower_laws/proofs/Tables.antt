@@ -7,14 +7,14 @@ use Rattle.cg_base.specs.declared.kind.Word.TheVariants.{U8, U32}
 use Rattle.cg_base.specs.Same.{same_type}
 use Rattle.cg_base.specs.Types.{Tau, word, abs, variant, fields, Parts, end, part}
 use Rattle.cg_inst.proofs.SameType.{same_is}
-use Rattle.cg_crun.specs.Layouts.{declared as looked_up, holds_itself, members_in, structs_among}
-use Rattle.cg_crun.proofs.LayoutLaws.{no_circle}
+use Rattle.cg_cmachine_def.specs.Layouts.{declared as looked_up, holds_itself, members_in, structs_among}
+use Rattle.cg_cmachine_laws.proofs.LayoutLaws.{no_circle}
 use Rattle.cg_ctree.specs.declared.tree.CDecl.{CDecl}
 use Rattle.cg_ctree.specs.declared.tree.CStruct.{CStruct}
 use Rattle.cg_ctree.specs.declared.tree.CTy.{CTy}
 use Rattle.cg_ctree.specs.declared.tree.CTy.TheVariants as ty
-use Rattle.cg_lower_laws.specs.CTypes.{AreDeclared, c_type, declared, form, form_parts, IsDeclared, members_from, name, record_members, record_struct, struct_name, tag_name, variant_members, variant_struct}
-use Rattle.cg_lower_laws.specs.Structs.{AreCovered, CoveredAreDeclared, HasBelow, IsCovered, IsTable, is_in, numbered_in, StandBelow, struct_members, structs_from, structs_in}
+use Rattle.cg_lower_def.specs.CTypes.{AreDeclared, c_type, declared, form, form_parts, IsDeclared, members_from, name, record_members, record_struct, struct_name, tag_name, variant_members, variant_struct}
+use Rattle.cg_lower_def.specs.Structs.{AreCovered, CoveredAreDeclared, HasBelow, IsCovered, IsTable, is_in, numbered_in, StandBelow, struct_members, structs_from, structs_in}
 use Rattle.cg_lower_laws.proofs.Names.{apart, itself}
 
 -- ---- C sees no more of a type than its form

@@ -1,21 +1,21 @@
 -- The statements of a term do what the update semantics does: one lemma for each way of putting lowered parts together.
 use Rattle.std.proofs.Common.{◌≡◌, ℕ, zero, suc, ◌+◌, ◌*◌, ◌^◌, ◌≤◌, true, Option, Some, List, [], ◌∷◌, ◌++◌, length, length-append, get_or, slice_get, subst, arith}
 use Rattle.cg_base.specs.Types.{Tau}
-use Rattle.cg_crun.specs.Layouts.{Layout, layout, size}
-use Rattle.cg_crun.specs.Operands.{Value, Frame, give}
-use Rattle.cg_crun.specs.Outcomes.{State as RunState, ok}
-use Rattle.cg_crun.specs.Runs.{Linked, plain}
-use Rattle.cg_crun.specs.Targets.{with_scalars}
+use Rattle.cg_cmachine_def.specs.Layouts.{Layout, layout, size}
+use Rattle.cg_cmachine_def.specs.Operands.{Value, Frame, give}
+use Rattle.cg_cmachine_def.specs.Outcomes.{State as RunState, ok}
+use Rattle.cg_cmachine_def.specs.Runs.{Linked, plain}
+use Rattle.cg_cmachine_def.specs.Targets.{with_scalars}
 use Rattle.cg_ctree.specs.declared.tree.CRhs.{CRhs}
 use Rattle.cg_ctree.specs.declared.tree.CTy.{CTy}
 use Rattle.cg_ctree.specs.Trees.{Stmt, assign}
 use Rattle.cg_heap.specs.declared.cell.Scalar.{Scalar}
 use Rattle.cg_update.specs.Machines.{is_machine}
 use Rattle.cg_update.specs.Outcomes.{State}
-use Rattle.cg_lower_laws.specs.CTypes.{c_type}
-use Rattle.cg_lower_laws.specs.Lowered.{Low, leaf, joined, before, and_then, set}
-use Rattle.cg_lower_laws.specs.Places.{local, Place, number, held, local_name, path}
-use Rattle.cg_lower_laws.specs.Simulated.{as_run}
+use Rattle.cg_lower_def.specs.CTypes.{c_type}
+use Rattle.cg_lower_def.specs.Lowered.{Low, leaf, joined, before, and_then, set}
+use Rattle.cg_lower_def.specs.Places.{local, Place, number, held, local_name, path}
+use Rattle.cg_lower_def.specs.Simulated.{as_run}
 use Rattle.cg_lower_laws.proofs.Frames.{Is, set_is, Changes, changes_none, changes_on, changes_wider, changes_set, Fresh, fresh_back, fresh_later, Keeps, keeps_later, is_kept, Under, under_more}
 use Rattle.cg_lower_laws.proofs.Operands.{write_whole}
 use Rattle.cg_lower_laws.proofs.Runs.{Runs, runs_none, runs_on, is_plain, runs_plain}

@@ -10,12 +10,12 @@ use Rattle.cg_base.specs.Types.{Tau, arrow, Parts, end, part}
 use Rattle.cg_base.specs.Words.{bits}
 use Rattle.cg_cgen.specs.Code.{inner}
 use Rattle.cg_cgen.proofs.Numbers.{cast, difference, flag_is_small, kept, small}
-use Rattle.cg_crun.specs.Layouts.{Layout, cell, size, spot, walk}
-use Rattle.cg_crun.specs.Operands.{Frame, typed}
-use Rattle.cg_crun.specs.Operations.{computed, flag, word_value}
-use Rattle.cg_crun.specs.Outcomes.{ok}
-use Rattle.cg_crun.specs.Runs.{Linked}
-use Rattle.cg_crun.specs.Targets.{spliced, with_scalars, write}
+use Rattle.cg_cmachine_def.specs.Layouts.{Layout, cell, size, spot, walk}
+use Rattle.cg_cmachine_def.specs.Operands.{Frame, typed}
+use Rattle.cg_cmachine_def.specs.Operations.{computed, flag, word_value}
+use Rattle.cg_cmachine_def.specs.Outcomes.{ok}
+use Rattle.cg_cmachine_def.specs.Runs.{Linked}
+use Rattle.cg_cmachine_def.specs.Targets.{spliced, with_scalars, write}
 use Rattle.cg_ctree.specs.declared.tree.COp.TheVariants as cop
 use Rattle.cg_ctree.specs.declared.tree.CRhs.TheVariants.{Call as called}
 use Rattle.cg_ctree.specs.Trees.{assign}
@@ -25,12 +25,12 @@ use Rattle.cg_inst.proofs.SameType.{same_is}
 use Rattle.cg_update.specs.Calls.{Program}
 use Rattle.cg_update.specs.Machines.{are_machine, is_machine, is_type, part_at, type_of_part}
 use Rattle.cg_update.specs.Outcomes.{State}
-use Rattle.cg_lower_laws.specs.CTypes.{c_type, count}
-use Rattle.cg_lower_laws.specs.IteratorCode.{function_type, turning, whole_local}
-use Rattle.cg_lower_laws.specs.LibraryCode.{field_of_argument}
-use Rattle.cg_lower_laws.specs.Lowered.{Whole, arrow_number, dispatch_name}
-use Rattle.cg_lower_laws.specs.Places.{Step, argument, field, local, local_name, number, operand, path, step_name}
-use Rattle.cg_lower_laws.specs.Simulated.{as_run}
+use Rattle.cg_lower_def.specs.CTypes.{c_type, count}
+use Rattle.cg_lower_def.specs.IteratorCode.{function_type, turning, whole_local}
+use Rattle.cg_lower_def.specs.LibraryCode.{field_of_argument}
+use Rattle.cg_lower_def.specs.Lowered.{Whole, arrow_number, dispatch_name}
+use Rattle.cg_lower_def.specs.Places.{Step, argument, field, local, local_name, number, operand, path, step_name}
+use Rattle.cg_lower_def.specs.Simulated.{as_run}
 use Rattle.cg_lower_laws.proofs.Frames.{Keeps}
 use Rattle.cg_lower_laws.proofs.Iterating.{SourceCalled}
 use Rattle.cg_lower_laws.proofs.Layouts.{machine_slots}

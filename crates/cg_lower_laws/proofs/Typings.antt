@@ -19,8 +19,8 @@ use Rattle.cg_typing.specs.Instances.{nodes_of, nodes_below, nodes_of_fields}
 use Rattle.cg_typing.specs.Parts.{field_in, alternative_in, held, with_part}
 use Rattle.cg_typing.specs.Rules.{Derives, DerivesShape, DerivesFields, type_at}
 use Rattle.cg_typing.specs.Trees.{strings_of, the_parts}
-use Rattle.cg_lower_laws.specs.CTypes.{abstract_struct, c_type, element, form, form_parts, struct_name, IsDeclared}
-use Rattle.cg_lower_laws.specs.Typed.{IsTyped, IsTypedShape, AreTyped}
+use Rattle.cg_lower_def.specs.CTypes.{abstract_struct, c_type, element, form, form_parts, struct_name, IsDeclared}
+use Rattle.cg_lower_def.specs.Typed.{IsTyped, IsTypedShape, AreTyped}
 
 -- C has a variable for each entry of a context, of its type where it is present
 pub record Agrees (numbered : Tau → ℕ) (g : Context) (ts : List CTy) : Type 0 where

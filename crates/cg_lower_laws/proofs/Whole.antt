@@ -14,11 +14,11 @@ use Rattle.cg_base.specs.Types.{Tau, arrow}
 use Rattle.cg_core.specs.Kernels as kernels
 use Rattle.cg_core.specs.Terms.{Note, Tree}
 use Rattle.cg_base.specs.Words.{bits}
-use Rattle.cg_crun.specs.Layouts.{Layout, cell, pointer, group, same_layout, size}
-use Rattle.cg_crun.specs.Operands.{Frame, Value, literal, typed, give, scalars_of}
-use Rattle.cg_crun.specs.Outcomes as runs
-use Rattle.cg_crun.specs.Outcomes.{ok, no, done}
-use Rattle.cg_crun.specs.Runs.{Linked, call_abstract, find, state_behind}
+use Rattle.cg_cmachine_def.specs.Layouts.{Layout, cell, pointer, group, same_layout, size}
+use Rattle.cg_cmachine_def.specs.Operands.{Frame, Value, literal, typed, give, scalars_of}
+use Rattle.cg_cmachine_def.specs.Outcomes as runs
+use Rattle.cg_cmachine_def.specs.Outcomes.{ok, no, done}
+use Rattle.cg_cmachine_def.specs.Runs.{Linked, call_abstract, find, state_behind}
 use Rattle.cg_ctree.specs.declared.tree.CStruct.{CStruct}
 use Rattle.cg_ctree.specs.declared.tree.CTy.{CTy}
 use Rattle.cg_ctree.specs.declared.why.Why.TheVariants.{KindsDiffer}
@@ -29,9 +29,9 @@ use Rattle.cg_heap.specs.declared.cell.Scalar.TheVariants.{Word as NumberScalar}
 use Rattle.cg_heap.specs.declared.foreign.Link.{Link}
 use Rattle.cg_heap.specs.Stored.{Stored}
 use Rattle.cg_inst.proofs.SameType.{same_self}
-use Rattle.cg_lawful.specs.Lawful.{library_arity}
-use Rattle.cg_machine.specs.Foreigns.{is_known}
-use Rattle.cg_operations.specs.Iterators.{is_iterator}
+use Rattle.cg_core_def.specs.Lawful.{library_arity}
+use Rattle.cg_eval_def.specs.Foreigns.{is_known}
+use Rattle.cg_eval_operations.specs.Iterators.{is_iterator}
 use Rattle.cg_typing.specs.Contexts.{look}
 use Rattle.cg_typing.specs.Functions.{are_good_arguments, arg_types, asked_by, asked_by_library, fun_type}
 use Rattle.cg_typing.specs.Instances.{as_arguments, Entry, Instance, IsDerivedBody, IsDerivedMaybe, IsEntry, takes_as_many}
@@ -43,15 +43,15 @@ use Rattle.cg_update.specs.Machines.{is_machine}
 use Rattle.cg_update.specs.Outcomes.{State, starting, Outcome, no_result, gives, where_true, given, pay_for}
 use Rattle.cg_update.specs.Updates as updates
 use Rattle.cg_update.specs.Updates.{Result, calls_within, entered, entered_by, given_outside, outcome, result_of, update, updated}
-use Rattle.cg_lower_laws.specs.CTypes.{c_type, declared, IsDeclared}
-use Rattle.cg_lower_laws.specs.Functions.{Item, of_arrow, of_instance, body_of, function_maybe, function_of, function_of_item, linked_in, low_body, low_instance, low_outside}
-use Rattle.cg_lower_laws.specs.Dispatch.{dispatch_of, tags_from}
-use Rattle.cg_lower_laws.specs.IteratorCode.{function_type, low_iterator}
-use Rattle.cg_lower_laws.specs.LibraryCode.{low_library, whole_argument}
-use Rattle.cg_lower_laws.specs.Lowered.{Low, Whole, arrow_number, dispatch_name, function_name}
-use Rattle.cg_lower_laws.specs.Places.{argument, argument_name}
-use Rattle.cg_lower_laws.specs.Simulated.{as_run, IsCallable, IsProgramOf, IsReady, LoweringSimulates, Simulates}
-use Rattle.cg_lower_laws.specs.Typed.{IsTyped}
+use Rattle.cg_lower_def.specs.CTypes.{c_type, declared, IsDeclared}
+use Rattle.cg_lower_def.specs.Functions.{Item, of_arrow, of_instance, body_of, function_maybe, function_of, function_of_item, linked_in, low_body, low_instance, low_outside}
+use Rattle.cg_lower_def.specs.Dispatch.{dispatch_of, tags_from}
+use Rattle.cg_lower_def.specs.IteratorCode.{function_type, low_iterator}
+use Rattle.cg_lower_def.specs.LibraryCode.{low_library, whole_argument}
+use Rattle.cg_lower_def.specs.Lowered.{Low, Whole, arrow_number, dispatch_name, function_name}
+use Rattle.cg_lower_def.specs.Places.{argument, argument_name}
+use Rattle.cg_lower_def.specs.Simulated.{as_run, IsCallable, IsProgramOf, IsReady, LoweringSimulates, Simulates}
+use Rattle.cg_lower_def.specs.Typed.{IsTyped}
 use Rattle.cg_lower_laws.proofs.Bodies.{begins, begins_fresh, begins_is, BodyRan, bodied, body_answers, body_runs}
 use Rattle.cg_lower_laws.proofs.Computing.{Called, CallsRun, ValuesRun}
 use Rattle.cg_lower_laws.proofs.Dispatching.{arrow_at, dispatch_answers, tagged}

@@ -1,7 +1,7 @@
 // The laws of lowering.
-ghost use Rattle.cg_lower_laws.specs.Printables.{LoweringIsPrintable};
-ghost use Rattle.cg_lower_laws.specs.Simulated.{LoweringSimulates};
-ghost use Rattle.cg_lower_laws.specs.Structs.{CoveredAreDeclared};
+ghost use Rattle.cg_lower_def.specs.Printables.{LoweringIsPrintable};
+ghost use Rattle.cg_lower_def.specs.Simulated.{LoweringSimulates};
+ghost use Rattle.cg_lower_def.specs.Structs.{CoveredAreDeclared};
 
 /// The C of a list of instances simulates the update semantics: where an instance with a body gives a result at cost k on a heap, its C
 /// function ends within 32k + 32 steps, with the same scalars, heap, and addresses of the cells that were made and freed.

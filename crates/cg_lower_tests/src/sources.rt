@@ -1,8 +1,8 @@
 // Sources, read up to their kernels, checked, and lowered.
 ghost use Rattle.std.specs.Prelude.{IfOk};
 ghost use Rattle.cg_core.specs.Kernels.{kernel_of};
-ghost use Rattle.cg_lawful.specs.Lawful.{IsLawfulKernel};
-ghost use Rattle.cg_lawful_laws.specs.Shaped.{IsShaped};
+ghost use Rattle.cg_core_def.specs.Lawful.{IsLawfulKernel};
+ghost use Rattle.cg_resolve_def.specs.Shaped.{IsShaped};
 ghost use Rattle.cg_surface.specs.Programs.{program_of};
 
 use cg_check::check;

@@ -4,7 +4,7 @@ use Rattle.cg_base.specs.Types.{Tau}
 use Rattle.cg_core.specs.declared.term.Form.{the_lemmas}
 use Rattle.cg_core.specs.Terms.{Tree, OneField, Note, more, field, to_trees, to_named}
 use Rattle.cg_mono.specs.Fields.{subst_field}
-use Rattle.cg_typing_laws.specs.Subst.{subst_core, subst_cores, subst_fields}
+use Rattle.cg_typing.specs.Subst.{subst_core, subst_cores, subst_fields}
 
 pub cores_list : (types : List Tau) (ts : List (Tree Note)) → subst_cores types (to_trees ts) ≡ to_trees (map (subst_core types) ts)
 unfolding to_trees

@@ -15,7 +15,7 @@ ghost use Rattle.cg_mono.specs.Monos.{copies_in};
 ghost use Rattle.cg_typing.specs.Functions.{fun_type};
 ghost use Rattle.cg_typing.specs.Instances.{as_arguments};
 ghost use Rattle.cg_typing.specs.Kept.{maybe_core};
-ghost use Rattle.cg_typing_laws.specs.Subst.{subst_core};
+ghost use Rattle.cg_typing.specs.Subst.{subst_core};
 
 use crate::copies::{Copy, Mono};
 use crate::cores::specialise;
@@ -23,7 +23,7 @@ use cg_base::{Fun, Items, Memory, Ty};
 use cg_core::{KFun, Term, Typed};
 use cg_inst::{Instance, Instances};
 use cg_kinds::subst;
-use cg_parts::library_type;
+use cg_typing_parts::library_type;
 use cg_typing::Checked;
 use std::alloc::Global;
 

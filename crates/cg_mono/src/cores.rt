@@ -6,7 +6,7 @@ ghost use Rattle.cg_base.specs.Types.{type_of};
 ghost use Rattle.cg_core.specs.Kernels.{the_core, the_core_field, the_core_form};
 ghost use Rattle.cg_core.specs.Terms.{arg_of, case_of, if_else, let_bang, note_of, put, take_field};
 ghost use Rattle.cg_mono.specs.Fields.{subst_field};
-ghost use Rattle.cg_typing_laws.specs.Subst.{subst_arg, subst_core, subst_note, subst_shape};
+ghost use Rattle.cg_typing.specs.Subst.{subst_arg, subst_core, subst_note, subst_shape};
 
 use cg_base::{Items, Memory, Name, Place, Ty};
 use cg_core::{At, FieldTerm, Form, Seen, Term, TyArg, Typed};

@@ -10,14 +10,14 @@ use Rattle.cg_base.specs.declared.fun.Lib.{Lib}
 use Rattle.cg_base.specs.Types.{Tau}
 use Rattle.cg_core.specs.Kernels.{Function}
 use Rattle.cg_core.specs.Terms.{Note, Tree}
-use Rattle.cg_machine.specs.Evaluation.{Outcome, stuck, gives, pay_for, Table, Run, apply_fun, call, enter, iterated}
-use Rattle.cg_machine.specs.Foreigns.{cost_at, is_taken, table_over, value_at}
+use Rattle.cg_eval_def.specs.Evaluation.{Outcome, stuck, gives, pay_for, Table, Run, apply_fun, call, enter, iterated}
+use Rattle.cg_eval_def.specs.Foreigns.{cost_at, is_taken, table_over, value_at}
 use Rattle.cg_inst.specs.Lists.{Cores}
 use Rattle.cg_inst_laws.specs.Laws.{entry_of, place_in}
 use Rattle.cg_lib_value.specs.Library.{library_cost, library_value}
-use Rattle.cg_operations.specs.Iterators.{asked, indices, is_iterator}
+use Rattle.cg_eval_operations.specs.Iterators.{asked, indices, is_iterator}
 use Rattle.cg_typing.specs.Instances.{Instance, is_closed, nodes_of}
-use Rattle.cg_typing_laws.specs.Subst.{subst_core}
+use Rattle.cg_typing.specs.Subst.{subst_core}
 use Rattle.cg_value.specs.Foreign.{Foreign, IsLawful}
 use Rattle.cg_value.specs.Forms.{field}
 use Rattle.cg_value.specs.Values.{Val, function}

@@ -7,7 +7,7 @@ use Rattle.std.specs.Str.{bytes_eq}
 use Rattle.cg_base.specs.declared.kind.Word.{Word}
 use Rattle.cg_base.specs.Types.{Tau, var, seen, unit, word, bool, arrow, abs, variant, fields, Taus, none, more, Parts, end, part}
 use Rattle.cg_core.specs.Kernels.{Function}
-use Rattle.cg_machine.specs.Foreigns.{is_empty, is_known, is_taken, value_at}
+use Rattle.cg_eval_def.specs.Foreigns.{is_empty, is_known, is_taken, value_at}
 use Rattle.cg_typing.specs.Instances.{Instance}
 use Rattle.cg_typing.specs.Parts.{taken_by}
 use Rattle.cg_value.specs.Fits.{fits, fits_abstract, fits_alternative, fits_fields, is_answers, is_array, is_gone}

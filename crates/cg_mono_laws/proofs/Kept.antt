@@ -13,7 +13,7 @@ use Rattle.cg_core.specs.declared.term.Typed.{Typed}
 use Rattle.cg_core.specs.Derivations.{Derivation}
 use Rattle.cg_core.specs.Kernels.{Function, Body as Written}
 use Rattle.cg_core.specs.Terms.{Note, Tree, term}
-use Rattle.cg_machine.specs.Evaluation.{evaluate, with_fuel}
+use Rattle.cg_eval_def.specs.Evaluation.{evaluate, with_fuel}
 use Rattle.cg_inst.specs.Judged.{core_in, functions_in}
 use Rattle.cg_inst.specs.Lists.{Cores, IsList}
 use Rattle.cg_inst_laws.specs.Laws.{place_in}
@@ -25,7 +25,7 @@ use Rattle.cg_typing.specs.declared.checked.Checked.{Checked}
 use Rattle.cg_typing.specs.Holds.{cores_in, kept_at, trees_in}
 use Rattle.cg_typing.specs.Instances.{Instance, MentionsOnly, has_vars}
 use Rattle.cg_typing.specs.Kept.{AreKept, IsKept as IsKeptFunction, IsKeptMaybe, maybe_core, maybe_tree}
-use Rattle.cg_typing_laws.specs.Subst.{subst_core}
+use Rattle.cg_typing.specs.Subst.{subst_core}
 use Rattle.cg_value.specs.Foreign.{Foreign, IsLawful}
 use Rattle.cg_mono_laws.specs.Laws.{EvaluationIsKept, HoldsOver}
 use Rattle.cg_mono_laws.proofs.Calls.{AreFine, K, T, calls_alike}

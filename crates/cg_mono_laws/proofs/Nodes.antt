@@ -7,13 +7,13 @@ use Rattle.cg_base.specs.declared.fun.Fun.{Fun}
 use Rattle.cg_base.specs.Types.{Tau}
 use Rattle.cg_core.specs.declared.op.Op.{Op}
 use Rattle.cg_core.specs.Terms.{Arg, Note, Tree, term, Shape, var, unit, bool, lit, fun, op, app, lets, let_bang, if_else, con, case_of, esac, struct, member, take_field, put, cast, annot, none, more, Named, end, field as named}
-use Rattle.cg_machine.specs.Evaluation.{Outcome, gives, bind, pay, Context, Table, Run, all_of, apply, node_shape}
-use Rattle.cg_operations.specs.Operators.{operated, operated_both, truth}
-use Rattle.cg_operations.specs.Positions.{position}
+use Rattle.cg_eval_def.specs.Evaluation.{Outcome, gives, bind, pay, Context, Table, Run, all_of, apply, node_shape}
+use Rattle.cg_eval_operations.specs.Operators.{operated, operated_both, truth}
+use Rattle.cg_eval_operations.specs.Positions.{position}
 use Rattle.cg_typing.specs.Functions.{arg_types}
 use Rattle.cg_typing.specs.Instances.{Instance, is_closed, nodes_of, nodes_of_fields}
 use Rattle.cg_typing.specs.Rules.{type_at}
-use Rattle.cg_typing_laws.specs.Subst.{subst_arg, subst_core, subst_fields, subst_note, subst_shape}
+use Rattle.cg_typing.specs.Subst.{subst_arg, subst_core, subst_fields, subst_note, subst_shape}
 use Rattle.cg_kinds.specs.Kinds.{subst}
 use Rattle.cg_value.specs.Forms.{field, has_name, is_true, payload_in, with_field, without}
 use Rattle.cg_value.specs.Values.{Val, chosen, function, nothing, parts, to_vals}

@@ -3,8 +3,8 @@
 use Rattle.std.proofs.Common.{◌≡◌, ℕ, zero, suc, ◌-◌, Bool, cond, IsTrue, List, [], ◌∷◌, nat_lt, refl, ap, ◌∙◌}
 use Rattle.std.specs.Prelude.{if◌then◌else◌}
 use Rattle.cg_base.specs.declared.fun.Lib.{Lib}
-use Rattle.cg_machine.specs.Evaluation.{Outcome, spent, stuck, gives, bind, pay, pay_for, turns}
-use Rattle.cg_operations.specs.Iterators.{changed, carried, ended, stops}
+use Rattle.cg_eval_def.specs.Evaluation.{Outcome, spent, stuck, gives, bind, pay, pay_for, turns}
+use Rattle.cg_eval_operations.specs.Iterators.{changed, carried, ended, stops}
 use Rattle.cg_typing.specs.Instances.{Instance}
 use Rattle.cg_value.specs.Values.{Val}
 use Rattle.cg_mono_laws.specs.Laws.{IsOver, is_over}

@@ -8,8 +8,8 @@ use Rattle.cg_base.specs.declared.fun.Lib.TheVariants.{New, Free, Create, FreeAr
 use Rattle.cg_base.specs.Types.{Tau, fields, piece_list}
 use Rattle.cg_core.specs.declared.op.Op.{Op}
 use Rattle.cg_lib_value.specs.Library.{answered, first_type, later_answers, library_value, makes_array, maybe, new_record, next_answer}
-use Rattle.cg_operations.specs.Iterators.{asked, carried, changed, ended}
-use Rattle.cg_operations.specs.Operators.{literal, operated, operated_both}
+use Rattle.cg_eval_operations.specs.Iterators.{asked, carried, changed, ended}
+use Rattle.cg_eval_operations.specs.Operators.{literal, operated, operated_both}
 use Rattle.cg_typing.specs.Instances.{Instance}
 use Rattle.cg_value.specs.Forms.{answers_in, elements_in, field, number_in, pair, payload_in, with_element, with_field, without}
 use Rattle.cg_value.specs.Values as values

@@ -5,12 +5,12 @@ use Rattle.std.specs.Str.{bytes_eq}
 use Rattle.cg_base.specs.Types.{Tau, word, bool, fields, Parts, end, part}
 use Rattle.cg_core.specs.Terms.{Arg, Note, Tree, term}
 use Rattle.cg_kinds.specs.Kinds.{subst, subst_parts}
-use Rattle.cg_operations.specs.Positions.{position, position_among}
+use Rattle.cg_eval_operations.specs.Positions.{position, position_among}
 use Rattle.cg_typing.specs.Functions.{arg_types}
 use Rattle.cg_typing.specs.Instances.{is_closed}
 use Rattle.cg_typing.specs.Parts.{field_in, is_there}
 use Rattle.cg_typing.specs.Rules.{type_at}
-use Rattle.cg_typing_laws.specs.Subst.{subst_arg, subst_core}
+use Rattle.cg_typing.specs.Subst.{subst_arg, subst_core}
 use Rattle.std.specs.List.{list_all}
 use Rattle.cg_inst_laws.proofs.Closed.{given_stay}
 use Rattle.cg_inst.proofs.Names.{never}

@@ -7,8 +7,8 @@ use Rattle.cg_base.specs.declared.fun.Fun.TheVariants.{User}
 use Rattle.cg_base.specs.Types.{Tau}
 use Rattle.cg_core.specs.Kernels.{Function}
 use Rattle.cg_core.specs.Terms.{Note, Tree}
-use Rattle.cg_machine.specs.Evaluation.{Outcome, gives, Table, outcome}
-use Rattle.cg_machine.specs.Foreigns.{cost_at, is_taken, table_of, value_at}
+use Rattle.cg_eval_def.specs.Evaluation.{Outcome, gives, Table, outcome}
+use Rattle.cg_eval_def.specs.Foreigns.{cost_at, is_taken, table_of, value_at}
 use Rattle.cg_inst.specs.Judged.{core_in, functions_in}
 use Rattle.cg_inst.specs.Lists.{IsList, same_instance}
 use Rattle.cg_inst_laws.specs.Laws.{entry_of, place_in}

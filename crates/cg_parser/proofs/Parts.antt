@@ -1,9 +1,9 @@
 -- What a part of an item, read by a reader of its own, has read.
 use Rattle.std.proofs.Common.{◌≡◌, List, [], ◌∷◌, ◌++◌, refl, sym, ◌∙◌, ap, true, false, Bool, Some, None, append_assoc}
 use Rattle.cg_base.specs.Reader.{Reader, Reads, run}
-use Rattle.cg_symbols.specs.Symbols.{Seen, is_first}
-use Rattle.cg_symbols.specs.Readings.{ArePast, IsPart}
-use Rattle.cg_symbols.specs.Follows.{Follows}
+use Rattle.cg_parser_symbols.specs.Symbols.{Seen, is_first}
+use Rattle.cg_parser_symbols.specs.Readings.{ArePast, IsPart}
+use Rattle.cg_parser_symbols.specs.Follows.{Follows}
 
 pub past_more : (front : List Seen) (t : Seen) → ArePast front → is_first t.place ≡ false → ArePast (front ++ t ∷ [])
 past_more [] t past h = (h, tt)

@@ -10,7 +10,7 @@ use Rattle.cg_lexer.specs.Next.{IsUnknown, IsOpen, IsFault}
 use Rattle.cg_lexer.proofs.Division.{one_token, none_in_space, none_at_fault, some_at_fault, one_fault}
 use Rattle.cg_surface.specs.declared.program.Program.{Program}
 use Rattle.cg_surface.specs.Programs.{Entry, program_of, program_depth}
-use Rattle.cg_symbols.specs.Symbols.{Seen, seen}
+use Rattle.cg_parser_symbols.specs.Symbols.{Seen, seen}
 use Rattle.cg_parser.specs.Grammar.{SpellsTokens, Spells}
 use Rattle.cg_parser.specs.Answers.{depth_limit, Viable, IsUnexpected, at_token, at_end, IsMisplaced, IsWrongBarIn, NoProgram, Answers, lexer_fault}
 use Rattle.cg_parser.specs.Laws.{OneAnswer}

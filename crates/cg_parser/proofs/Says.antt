@@ -17,8 +17,8 @@ use Rattle.cg_lexer.specs.Next.{IsFault, Next, Gives, Finishes}
 use Rattle.cg_lexer.proofs.Division.{one_token, none_in_space, none_at_fault, some_at_fault, divides_more, goes_on, no_more}
 use Rattle.cg_surface.specs.declared.program.Program.{Program}
 use Rattle.cg_surface.specs.Programs.{Entry, program_of, program_depth}
-use Rattle.cg_symbols.specs.Symbols.{Seen, seen}
-use Rattle.cg_symbols.specs.Follows.{Follows, option_map}
+use Rattle.cg_parser_symbols.specs.Symbols.{Seen, seen}
+use Rattle.cg_parser_symbols.specs.Follows.{Follows, option_map}
 use Rattle.cg_parser.specs.Grammar.{SpellsTokens, Spells}
 use Rattle.cg_parser.specs.Bounded.{within_program}
 use Rattle.cg_parser.specs.Answers.{depth_limit, Viable, at_token, at_end, IsWrongBarIn, Answers, Concludes, lexer_fault}

@@ -9,8 +9,8 @@ use Rattle.cg_surface.specs.Written.{Written}
 use Rattle.cg_surface.specs.Patterns.{Pattern}
 use Rattle.cg_surface.specs.Exprs.{Expr}
 use Rattle.cg_surface.specs.Programs.{Entry, synonym, abstract, signature, define}
-use Rattle.cg_symbols.specs.Symbols.{Symbol, lower, upper, type_word, all_word, opening, closing, colon, has_kinds, equals, comma, dot, Seen, is_first}
-use Rattle.cg_symbols.specs.Readings.{Reading, ◌then◌, head, inner, inner_sign, IsPart}
+use Rattle.cg_parser_symbols.specs.Symbols.{Symbol, lower, upper, type_word, all_word, opening, closing, colon, has_kinds, equals, comma, dot, Seen, is_first}
+use Rattle.cg_parser_symbols.specs.Readings.{Reading, ◌then◌, head, inner, inner_sign, IsPart}
 use Rattle.cg_parser.specs.Grammar.{are_letters, kinds_of, no_kinds, bound, ReadsParams, ReadsVar, VarsBefore, ReadsVars, ReadsAll, nothing, alone, listed, head_sign, ReadsEntry, ReadsProgram}
 use Rattle.cg_parser.specs.Machine.{State, Between, AfterType, InParams, InSynonym, AfterName, AfterColon, AfterAll, WantVar, AfterVar, WantKinds, AfterKinds, WantDot, InSignature, InParam, InBody, Failed, name_at}
 use Rattle.cg_parser.specs.Machine as machine

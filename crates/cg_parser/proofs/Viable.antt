@@ -9,8 +9,8 @@ use Rattle.cg_surface.specs.Written.{Written}
 use Rattle.cg_surface.specs.Patterns.{Pattern}
 use Rattle.cg_surface.specs.Exprs.{Expr}
 use Rattle.cg_surface.specs.Programs.{Entry}
-use Rattle.cg_symbols.specs.Symbols.{Symbol, lower, upper, all_word, closing, colon, equals, dot, Seen, is_first}
-use Rattle.cg_symbols.specs.Readings.{ArePast}
+use Rattle.cg_parser_symbols.specs.Symbols.{Symbol, lower, upper, all_word, closing, colon, equals, dot, Seen, is_first}
+use Rattle.cg_parser_symbols.specs.Readings.{ArePast}
 use Rattle.cg_parser.specs.Grammar.{ReadsProgram}
 use Rattle.cg_parser.specs.Machine.{State, Between, AfterType, InParams, InSynonym, AfterName, AfterColon, AfterAll, WantVar, AfterVar, WantKinds, AfterKinds, WantDot, InSignature, InParam, InBody, Failed}
 use Rattle.cg_parser.specs.Machine as machine

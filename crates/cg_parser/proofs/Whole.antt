@@ -4,20 +4,20 @@ use Rattle.cg_base.specs.Reader.{Reader, Reads}
 use Rattle.cg_surface.specs.Patterns.{Pattern}
 use Rattle.cg_surface.specs.Exprs.{Expr}
 use Rattle.cg_surface.specs.Programs.{Entry}
-use Rattle.cg_symbols.specs.Symbols.{Seen}
-use Rattle.cg_symbols.specs.Follows.{Follows}
-use Rattle.cg_parse_types.specs.Grammar.{SpellsType}
-use Rattle.cg_parse_types.specs.Plain as plain_types
-use Rattle.cg_parse_types.proofs.Laws as type_laws
-use Rattle.cg_parse_types.proofs.Follow as type_follows
-use Rattle.cg_parse_patterns.specs.Grammar.{SpellsPattern}
-use Rattle.cg_parse_patterns.specs.Plain as plain_patterns
-use Rattle.cg_parse_patterns.proofs.Laws as pattern_laws
-use Rattle.cg_parse_patterns.proofs.Follow as pattern_follows
-use Rattle.cg_build_exprs.specs.Bounded.{within as expr_within}
-use Rattle.cg_parse_exprs.specs.Laws.{ExprStage, expr_reader}
-use Rattle.cg_parse_exprs.proofs.Exactly as exprs_exactly
-use Rattle.cg_parse_exprs.proofs.Viable as expr_ends
+use Rattle.cg_parser_symbols.specs.Symbols.{Seen}
+use Rattle.cg_parser_symbols.specs.Follows.{Follows}
+use Rattle.cg_parser_types.specs.Grammar.{SpellsType}
+use Rattle.cg_parser_types.specs.Plain as plain_types
+use Rattle.cg_parser_types.proofs.Laws as type_laws
+use Rattle.cg_parser_types.proofs.Follow as type_follows
+use Rattle.cg_parser_patterns.specs.Grammar.{SpellsPattern}
+use Rattle.cg_parser_patterns.specs.Plain as plain_patterns
+use Rattle.cg_parser_patterns.proofs.Laws as pattern_laws
+use Rattle.cg_parser_patterns.proofs.Follow as pattern_follows
+use Rattle.cg_parser_build.specs.Bounded.{within as expr_within}
+use Rattle.cg_parser_exprs.specs.Laws.{ExprStage, expr_reader}
+use Rattle.cg_parser_exprs.proofs.Exactly as exprs_exactly
+use Rattle.cg_parser_exprs.proofs.Viable as expr_ends
 use Rattle.cg_parser.specs.Bounded.{bounded, within_program}
 use Rattle.cg_parser.specs.Grammar.{SpellsTokens, SpellsExpr}
 use Rattle.cg_parser.specs.Machine.{State}

@@ -1,17 +1,17 @@
 -- The parser's reader stops at a bar at a wrong column exactly where one stands.
 use Rattle.std.proofs.Common.{◌≡◌, List, refl, sym, ◌∙◌, ap, true, false, Bool}
 use Rattle.cg_base.specs.Reader.{run}
-use Rattle.cg_symbols.specs.Symbols.{Seen}
-use Rattle.cg_parse_types.specs.Grammar.{SpellsType}
-use Rattle.cg_parse_types.specs.Plain as plain_types
-use Rattle.cg_parse_patterns.specs.Grammar.{SpellsPattern}
-use Rattle.cg_parse_patterns.specs.Plain as plain_patterns
-use Rattle.cg_parse_exprs.specs.Machine.{WrongBar}
-use Rattle.cg_parse_exprs.specs.State.{is_wrong_bar}
-use Rattle.cg_parse_exprs.specs.Unfinished.{IsWrongBar}
-use Rattle.cg_parse_exprs.specs.Laws.{ExprStage, expr_reader}
-use Rattle.cg_parse_exprs.proofs.Exactly.{asked}
-use Rattle.cg_parse_exprs.proofs.Wrong as exprs_wrong
+use Rattle.cg_parser_symbols.specs.Symbols.{Seen}
+use Rattle.cg_parser_types.specs.Grammar.{SpellsType}
+use Rattle.cg_parser_types.specs.Plain as plain_types
+use Rattle.cg_parser_patterns.specs.Grammar.{SpellsPattern}
+use Rattle.cg_parser_patterns.specs.Plain as plain_patterns
+use Rattle.cg_parser_exprs.specs.Machine.{WrongBar}
+use Rattle.cg_parser_exprs.specs.State.{is_wrong_bar}
+use Rattle.cg_parser_exprs.specs.Unfinished.{IsWrongBar}
+use Rattle.cg_parser_exprs.specs.Laws.{ExprStage, expr_reader}
+use Rattle.cg_parser_exprs.proofs.Exactly.{asked}
+use Rattle.cg_parser_exprs.proofs.Wrong as exprs_wrong
 use Rattle.cg_parser.specs.Answers.{IsWrongBarIn}
 use Rattle.cg_parser.specs.Grammar.{SpellsExpr}
 use Rattle.cg_parser.specs.Machine.{InBody}

@@ -12,11 +12,11 @@ use Rattle.cg_surface.specs.declared.program.Program.{Program}
 use Rattle.cg_core.specs.declared.at.At.{At}
 use Rattle.cg_surface.specs.Patterns.{Pattern}
 use Rattle.cg_surface.specs.Programs.{Entry, program_of, program_depth}
-use Rattle.cg_symbols.specs.Symbols.{lower, equals, Seen, seen, is_first}
-use Rattle.cg_symbols.specs.Readings.{◌then◌, head, inner_sign, IsPart}
-use Rattle.cg_parse_types.specs.Grammar.{SpellsType}
-use Rattle.cg_parse_patterns.specs.Grammar.{SpellsPattern}
-use Rattle.cg_parse_exprs.specs.Unfinished.{IsWrongBar}
+use Rattle.cg_parser_symbols.specs.Symbols.{lower, equals, Seen, seen, is_first}
+use Rattle.cg_parser_symbols.specs.Readings.{◌then◌, head, inner_sign, IsPart}
+use Rattle.cg_parser_types.specs.Grammar.{SpellsType}
+use Rattle.cg_parser_patterns.specs.Grammar.{SpellsPattern}
+use Rattle.cg_parser_exprs.specs.Unfinished.{IsWrongBar}
 use Rattle.cg_parser.specs.Grammar.{ReadsProgram, SpellsExpr, SpellsTokens, Spells}
 use Rattle.cg_parser.specs.declared.fault.ParseFault.{ParseFault}
 use Rattle.cg_parser.specs.declared.fault.ParseFault.TheVariants.{S1, S2, S3, S4, Nesting, Memory}

@@ -4,7 +4,7 @@ use Rattle.cg_surface.specs.Written.{Written}
 use Rattle.cg_surface.specs.Patterns.{Pattern}
 use Rattle.cg_surface.specs.Exprs.{Expr}
 use Rattle.cg_surface.specs.Programs.{Entry, synonym, abstract, signature, define, entry_depth, program_depth}
-use Rattle.cg_symbols.specs.Follows.{option_map}
+use Rattle.cg_parser_symbols.specs.Follows.{option_map}
 use Rattle.cg_parser.specs.Answers.{depth_limit}
 use Rattle.cg_parser.specs.Machine.{Builder}
 

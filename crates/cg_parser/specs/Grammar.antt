@@ -10,11 +10,11 @@ use Rattle.cg_surface.specs.Written.{Written}
 use Rattle.cg_surface.specs.Patterns.{Pattern}
 use Rattle.cg_surface.specs.Exprs.{Expr}
 use Rattle.cg_surface.specs.Programs.{Entry, synonym, abstract, signature, define}
-use Rattle.cg_symbols.specs.Symbols.{Symbol, lower, upper, type_word, all_word, opening, closing, colon, has_kinds, equals, comma, dot, Seen, seen}
-use Rattle.cg_symbols.specs.Readings.{Reading, ◌then◌, head, inner, inner_sign, IsPart}
-use Rattle.cg_parse_types.specs.Grammar.{SpellsType}
-use Rattle.cg_parse_patterns.specs.Grammar.{SpellsPattern}
-use Rattle.cg_parse_exprs.specs.Grammar as exprs
+use Rattle.cg_parser_symbols.specs.Symbols.{Symbol, lower, upper, type_word, all_word, opening, closing, colon, has_kinds, equals, comma, dot, Seen, seen}
+use Rattle.cg_parser_symbols.specs.Readings.{Reading, ◌then◌, head, inner, inner_sign, IsPart}
+use Rattle.cg_parser_types.specs.Grammar.{SpellsType}
+use Rattle.cg_parser_patterns.specs.Grammar.{SpellsPattern}
+use Rattle.cg_parser_exprs.specs.Grammar as exprs
 
 -- the letters of kinds: D, S and E
 abbrev pub is_letter : ℕ → Bool

@@ -8,15 +8,15 @@ use Rattle.cg_surface.specs.Written.{Written}
 use Rattle.cg_surface.specs.Patterns.{Pattern, pattern_of}
 use Rattle.cg_surface.specs.Exprs.{Expr}
 use Rattle.cg_surface.specs.Programs.{Entry, entry_of, program_of}
-use Rattle.cg_symbols.specs.Symbols.{Seen}
-use Rattle.cg_parse_types.specs.Bounded as bounded_types
-use Rattle.cg_parse_types.specs.States as type_state
-use Rattle.cg_parse_patterns.specs.Bounded as bounded_patterns
-use Rattle.cg_parse_patterns.specs.State as pattern_state
-use Rattle.cg_parse_exprs.specs.Bounded as bounded_exprs
-use Rattle.cg_parse_exprs.specs.State as expr_state
-use Rattle.cg_parse_types.specs.declared.reader.TypeEnd.{TypeEnd}
-use Rattle.cg_parse_exprs.specs.declared.reader.ExprEnd.{ExprEnd}
+use Rattle.cg_parser_symbols.specs.Symbols.{Seen}
+use Rattle.cg_parser_types.specs.Bounded as bounded_types
+use Rattle.cg_parser_types.specs.States as type_state
+use Rattle.cg_parser_patterns.specs.Bounded as bounded_patterns
+use Rattle.cg_parser_patterns.specs.State as pattern_state
+use Rattle.cg_parser_exprs.specs.Bounded as bounded_exprs
+use Rattle.cg_parser_exprs.specs.State as expr_state
+use Rattle.cg_parser_types.specs.declared.reader.TypeEnd.{TypeEnd}
+use Rattle.cg_parser_exprs.specs.declared.reader.ExprEnd.{ExprEnd}
 use Rattle.cg_parser.specs.Machine.{State}
 use Rattle.cg_parser.specs.Machine as machine
 use Rattle.cg_parser.specs.declared.phase.Parts.{Parts}

@@ -8,8 +8,8 @@ ghost use Rattle.cg_parser.specs.Views.{types, patterns, exprs, items_of, item_o
 use crate::phase::Vars;
 use cg_base::{Items, Memory};
 use cg_core::At;
-use cg_parse_exprs::ExprEnd;
-use cg_parse_types::TypeEnd;
+use cg_parser_exprs::ExprEnd;
+use cg_parser_types::TypeEnd;
 use cg_surface::{Item, Pat, Program};
 
 /// Adds an item to those before it.

@@ -2,8 +2,8 @@
 ghost use Rattle.std.specs.Prelude.{◌≡◌, List, Option, Some, None, IfOk, if◌then◌else◌};
 ghost use Rattle.cg_lexer.specs.Tokens.{lexeme};
 ghost use Rattle.cg_surface.specs.Programs.{Entry};
-ghost use Rattle.cg_symbols.specs.Symbols.{equals, seen};
-ghost use Rattle.cg_symbols.specs.Views.{symbol_view};
+ghost use Rattle.cg_parser_symbols.specs.Symbols.{equals, seen};
+ghost use Rattle.cg_parser_symbols.specs.Views.{symbol_view};
 ghost use Rattle.cg_parser.specs.Bounded.{bounded};
 ghost use Rattle.cg_parser.specs.Machine as machine;
 ghost use Rattle.cg_parser.specs.Views.{types, patterns, exprs, items_of, Read, parts_of, state_of};
@@ -15,9 +15,9 @@ use crate::phase::{Parts, Phase, Vars};
 use cg_base::{Bound, Items, Memory, Name, Place};
 use cg_core::At;
 use cg_lexer::Token;
-use cg_parse_patterns::PatternEnd;
+use cg_parser_patterns::PatternEnd;
 use cg_surface::{Item, Pat, Program};
-use cg_symbols::{Symbol, symbol_at};
+use cg_parser_symbols::{Symbol, symbol_at};
 use std::alloc::Global;
 
 /// Ends the last item, where it can end.

@@ -4,9 +4,9 @@ ghost use Rattle.cg_parser.specs.Views.{types, patterns, exprs, parts_of};
 
 use cg_base::{Bound, Items, Memory, Name, Place};
 use cg_core::At;
-use cg_parse_exprs::ExprReader;
-use cg_parse_patterns::PatternReader;
-use cg_parse_types::TypeReader;
+use cg_parser_exprs::ExprReader;
+use cg_parser_patterns::PatternReader;
+use cg_parser_types::TypeReader;
 use cg_surface::Pat;
 use std::alloc::Global;
 

@@ -9,8 +9,8 @@ use Rattle.cg_surface.specs.Written as types
 use Rattle.cg_surface.specs.Patterns as patterns
 use Rattle.cg_surface.specs.Exprs as exprs
 use Rattle.cg_surface.specs.Programs.{Entry, signature, define}
-use Rattle.cg_desugar.specs.Faults.{unknown, twice, program_faults}
-use Rattle.cg_desugar.specs.Order.{AreOrdered, Precedes}
+use Rattle.cg_resolve_def.specs.Faults.{unknown, twice, program_faults}
+use Rattle.cg_resolve_def.specs.Order.{AreOrdered, Precedes}
 use Rattle.cg_parser_laws.proofs.Places.{before_self}
 
 -- the places of one line

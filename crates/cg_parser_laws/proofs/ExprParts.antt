@@ -7,10 +7,10 @@ use Rattle.cg_core.specs.declared.op.Op.{Op}
 use Rattle.cg_core.specs.declared.op.Op.TheVariants.{Add, Sub, Mul, Div, Rem, And, Or, Xor, Shl, Shr, Complement, Eq, Ne, Lt, Gt, Le, Ge, Both, Either, Not}
 use Rattle.cg_surface.specs.Written.{Written}
 use Rattle.cg_surface.specs.Patterns.{Pattern}
-use Rattle.cg_symbols.specs.Symbols.{Seen}
-use Rattle.cg_desugar.specs.Faults.{variables}
-use Rattle.cg_parse_exprs.specs.Grammar.{op_sign, op_word}
-use Rattle.cg_parse_exprs.specs.Grammar as grammar
+use Rattle.cg_parser_symbols.specs.Symbols.{Seen}
+use Rattle.cg_resolve_def.specs.Faults.{variables}
+use Rattle.cg_parser_exprs.specs.Grammar.{op_sign, op_word}
+use Rattle.cg_parser_exprs.specs.Grammar as grammar
 use Rattle.cg_parser_laws.proofs.Names.{at_key}
 use Rattle.cg_parser_laws.proofs.Spans.{Key, Spans, before, front_spans, join, nothing_spans, sign_spans, stands_one, token_spans, token_with}
 

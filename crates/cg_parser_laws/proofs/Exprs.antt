@@ -10,12 +10,12 @@ use Rattle.cg_surface.specs.Written as types
 use Rattle.cg_surface.specs.Patterns.{Pattern}
 use Rattle.cg_surface.specs.Exprs.{Expr, Exprs, FieldExprs, Binds as Bindings, Alts}
 use Rattle.cg_surface.specs.Exprs as exprs
-use Rattle.cg_symbols.specs.Symbols.{Seen}
-use Rattle.cg_symbols.specs.Readings.{Reading}
-use Rattle.cg_parse_exprs.specs.Grammar.{AltsBind, AreMany, AreNamed, Binds, BindsBind, ExprsBind, FieldsBind, OnlyLast, op_sign, op_word}
-use Rattle.cg_parse_exprs.specs.Grammar as grammar
-use Rattle.cg_desugar.specs.Takes.{exprs_length, values_length}
-use Rattle.cg_lawful_laws.specs.Shaped.{AreShapedBinds, AreShapedChoices, AreShapedExprs, AreShapedTypes, AreShapedValues, HasLast, HaveHeads, IsBare, IsBinary, IsShapedExpr, IsShapedPattern, IsShapedType, IsUnary, binds_length, choices_length}
+use Rattle.cg_parser_symbols.specs.Symbols.{Seen}
+use Rattle.cg_parser_symbols.specs.Readings.{Reading}
+use Rattle.cg_parser_exprs.specs.Grammar.{AltsBind, AreMany, AreNamed, Binds, BindsBind, ExprsBind, FieldsBind, OnlyLast, op_sign, op_word}
+use Rattle.cg_parser_exprs.specs.Grammar as grammar
+use Rattle.cg_resolve_def.specs.Takes.{exprs_length, values_length}
+use Rattle.cg_resolve_def.specs.Shaped.{AreShapedBinds, AreShapedChoices, AreShapedExprs, AreShapedTypes, AreShapedValues, HasLast, HaveHeads, IsBare, IsBinary, IsShapedExpr, IsShapedPattern, IsShapedType, IsUnary, binds_length, choices_length}
 
 -- a tuple has two components at least
 exprs_many : (es : Exprs) → AreMany es → 2 ≤ exprs_length es

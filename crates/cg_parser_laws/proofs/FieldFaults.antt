@@ -5,10 +5,10 @@ use Rattle.cg_base.specs.declared.place.Place.{Place}
 use Rattle.cg_base.specs.Places.{IsBefore, is_at}
 use Rattle.cg_core.specs.declared.at.At.{At}
 use Rattle.cg_surface.specs.Programs.{Entry}
-use Rattle.cg_symbols.specs.Symbols.{Symbol, Seen}
-use Rattle.cg_symbols.specs.Readings.{token}
-use Rattle.cg_desugar.specs.Declared.{is_among}
-use Rattle.cg_desugar.specs.Faults.{NameFault, unknown, twice, arguments, again, field_with, mention_faults}
+use Rattle.cg_parser_symbols.specs.Symbols.{Symbol, Seen}
+use Rattle.cg_parser_symbols.specs.Readings.{token}
+use Rattle.cg_resolve_def.specs.Declared.{is_among}
+use Rattle.cg_resolve_def.specs.Faults.{NameFault, unknown, twice, arguments, again, field_with, mention_faults}
 use Rattle.cg_parser_laws.proofs.Names.{again_stands, fault_key, mention_is}
 use Rattle.cg_parser_laws.proofs.Places.{before_self}
 use Rattle.cg_parser_laws.proofs.Rising.{Rising}

@@ -7,13 +7,13 @@ use Rattle.cg_surface.specs.Written.{Written}
 use Rattle.cg_surface.specs.Patterns.{Pattern}
 use Rattle.cg_surface.specs.Exprs.{Expr}
 use Rattle.cg_surface.specs.Programs.{Entry, synonym, abstract, signature, define}
-use Rattle.cg_symbols.specs.Symbols.{Seen, seen}
-use Rattle.cg_symbols.specs.Readings.{◌then◌, IsPart}
-use Rattle.cg_desugar.specs.Declared.{OfProgram, function_named, is_among}
-use Rattle.cg_desugar.specs.Faults.{Before, NameFault, unknown, twice, again, ats_of, beforehand, bound, declared_with, entry_faults, expr_faults, faults_from, names_of, pattern_faults, program_faults, type_faults, unsigned, var_names, variables, vars_named}
-use Rattle.cg_desugar.specs.Order.{AreOrdered}
-use Rattle.cg_parse_types.specs.Grammar.{SpellsType}
-use Rattle.cg_parse_patterns.specs.Grammar.{SpellsPattern}
+use Rattle.cg_parser_symbols.specs.Symbols.{Seen, seen}
+use Rattle.cg_parser_symbols.specs.Readings.{◌then◌, IsPart}
+use Rattle.cg_resolve_def.specs.Declared.{OfProgram, function_named, is_among}
+use Rattle.cg_resolve_def.specs.Faults.{Before, NameFault, unknown, twice, again, ats_of, beforehand, bound, declared_with, entry_faults, expr_faults, faults_from, names_of, pattern_faults, program_faults, type_faults, unsigned, var_names, variables, vars_named}
+use Rattle.cg_resolve_def.specs.Order.{AreOrdered}
+use Rattle.cg_parser_types.specs.Grammar.{SpellsType}
+use Rattle.cg_parser_patterns.specs.Grammar.{SpellsPattern}
 use Rattle.cg_parser.specs.Grammar.{ReadsAll, ReadsEntry, ReadsParams, ReadsProgram, ReadsVar, ReadsVars, SpellsExpr, VarsBefore, nothing, alone, listed}
 use Rattle.cg_parser_laws.specs.Laws.{SpelledFaultsAreOrdered}
 use Rattle.cg_parser_laws.proofs.ExprFaults.{spelled_expr_spans}

@@ -6,15 +6,15 @@ use Rattle.cg_surface.specs.Written.{Written}
 use Rattle.cg_surface.specs.Patterns.{Pattern}
 use Rattle.cg_surface.specs.Exprs.{Expr}
 use Rattle.cg_surface.specs.Programs.{Entry, synonym, abstract, signature, define}
-use Rattle.cg_symbols.specs.Symbols.{Seen, seen}
-use Rattle.cg_symbols.specs.Readings.{IsPart}
-use Rattle.cg_desugar.specs.Declared.{function_named}
-use Rattle.cg_desugar.specs.Expand.{Bodies, bodies}
-use Rattle.cg_desugar.specs.Faults.{names_of, var_names, variables, vars_named}
-use Rattle.cg_desugar.specs.Takes.{Alone, missing_fields, missing_from, take_faults, types_in, with_vars, written_from, written_in}
-use Rattle.cg_desugar.specs.Order.{AreGrowing}
-use Rattle.cg_parse_types.specs.Grammar.{SpellsType}
-use Rattle.cg_parse_patterns.specs.Grammar.{SpellsPattern}
+use Rattle.cg_parser_symbols.specs.Symbols.{Seen, seen}
+use Rattle.cg_parser_symbols.specs.Readings.{IsPart}
+use Rattle.cg_resolve_def.specs.Declared.{function_named}
+use Rattle.cg_resolve_def.specs.Expand.{Bodies, bodies}
+use Rattle.cg_resolve_def.specs.Faults.{names_of, var_names, variables, vars_named}
+use Rattle.cg_resolve_def.specs.Takes.{Alone, missing_fields, missing_from, take_faults, types_in, with_vars, written_from, written_in}
+use Rattle.cg_resolve_def.specs.Order.{AreGrowing}
+use Rattle.cg_parser_types.specs.Grammar.{SpellsType}
+use Rattle.cg_parser_patterns.specs.Grammar.{SpellsPattern}
 use Rattle.cg_parser.specs.Grammar.{ReadsEntry, ReadsProgram, SpellsExpr}
 use Rattle.cg_parser_laws.specs.Laws.{SpelledTakesGrow}
 use Rattle.cg_parser_laws.proofs.ExprTakes.{spelled_expr_takes}

@@ -4,12 +4,12 @@ use Rattle.cg_base.specs.declared.place.Place.{Place}
 use Rattle.cg_base.specs.Places.{IsBefore}
 use Rattle.cg_core.specs.declared.at.At.{At}
 use Rattle.cg_surface.specs.Programs.{Entry}
-use Rattle.cg_symbols.specs.Symbols.{Seen}
-use Rattle.cg_symbols.specs.Readings.{◌then◌}
-use Rattle.cg_desugar.specs.Declared.{is_among, is_variable, type_arity, OfLibrary, OfProgram, library, looked_up, function_named}
-use Rattle.cg_desugar.specs.Faults.{NameFault, unknown, twice, arguments, again, counted, type_name_faults, name_faults, user_faults, function_faults, mention_faults, twins}
-use Rattle.cg_desugar.specs.Order.{place_of, number_of}
-use Rattle.cg_parse_types.specs.Grammar.{NamesBefore, ReadsNames}
+use Rattle.cg_parser_symbols.specs.Symbols.{Seen}
+use Rattle.cg_parser_symbols.specs.Readings.{◌then◌}
+use Rattle.cg_resolve_def.specs.Declared.{is_among, is_variable, type_arity, OfLibrary, OfProgram, library, looked_up, function_named}
+use Rattle.cg_resolve_def.specs.Faults.{NameFault, unknown, twice, arguments, again, counted, type_name_faults, name_faults, user_faults, function_faults, mention_faults, twins}
+use Rattle.cg_resolve_def.specs.Order.{place_of, number_of}
+use Rattle.cg_parser_types.specs.Grammar.{NamesBefore, ReadsNames}
 use Rattle.cg_parser_laws.proofs.Spans.{Between, Chain, IsEarlier, Key, Spans, StandAt, behind, between_then, join, nothing_spans, sign_spans, stands_either, stands_none, stands_one, token_with}
 
 abbrev pub fault_key : NameFault → Key

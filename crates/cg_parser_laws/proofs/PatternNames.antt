@@ -4,9 +4,9 @@ use Rattle.std.proofs.Common.{List, [], ⊎_elim, sym, subst}
 use Rattle.cg_core.specs.declared.at.At.{At}
 use Rattle.cg_surface.specs.Patterns.{Pattern, Patterns, FieldPatterns}
 use Rattle.cg_surface.specs.Patterns as patterns
-use Rattle.cg_symbols.specs.Symbols.{Seen}
-use Rattle.cg_desugar.specs.Faults.{all_variables, field_variables, variables}
-use Rattle.cg_parse_patterns.specs.Grammar.{FieldAs, FieldsBefore, PatternsBefore, ReadsFields, ReadsList, ReadsPattern, SpellsPattern}
+use Rattle.cg_parser_symbols.specs.Symbols.{Seen}
+use Rattle.cg_resolve_def.specs.Faults.{all_variables, field_variables, variables}
+use Rattle.cg_parser_patterns.specs.Grammar.{FieldAs, FieldsBefore, PatternsBefore, ReadsFields, ReadsList, ReadsPattern, SpellsPattern}
 use Rattle.cg_parser_laws.proofs.Names.{at_key}
 use Rattle.cg_parser_laws.proofs.Spans.{Spans, before, behind, join, nothing_spans, sign_spans, stands_one, token_spans, token_with}
 

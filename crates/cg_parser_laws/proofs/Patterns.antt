@@ -4,11 +4,11 @@ use Rattle.std.proofs.Common.{◌≤◌, List, [], ⊎_elim, sym, subst as carry
 use Rattle.cg_core.specs.declared.at.At.{At}
 use Rattle.cg_surface.specs.Patterns.{Pattern, Patterns, FieldPatterns}
 use Rattle.cg_surface.specs.Patterns as patterns
-use Rattle.cg_symbols.specs.Symbols.{Seen}
-use Rattle.cg_symbols.specs.Readings.{Reading}
-use Rattle.cg_parse_patterns.specs.Grammar.{AreMany, FieldAs, FieldsBefore, PatternsBefore, ReadsFields, ReadsList, ReadsPattern, SpellsPattern}
-use Rattle.cg_desugar.specs.Takes.{patterns_length}
-use Rattle.cg_lawful_laws.specs.Shaped.{AreShapedPatterned, AreShapedPatterns, IsShapedPattern, patterned_length}
+use Rattle.cg_parser_symbols.specs.Symbols.{Seen}
+use Rattle.cg_parser_symbols.specs.Readings.{Reading}
+use Rattle.cg_parser_patterns.specs.Grammar.{AreMany, FieldAs, FieldsBefore, PatternsBefore, ReadsFields, ReadsList, ReadsPattern, SpellsPattern}
+use Rattle.cg_resolve_def.specs.Takes.{patterns_length}
+use Rattle.cg_resolve_def.specs.Shaped.{AreShapedPatterned, AreShapedPatterns, IsShapedPattern, patterned_length}
 
 -- a tuple has two components at least, and fields are one at least
 patterns_many : (xs : Patterns) → AreMany xs → 2 ≤ patterns_length xs

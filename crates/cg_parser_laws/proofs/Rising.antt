@@ -10,7 +10,7 @@ use Rattle.cg_lexer.specs.Bytes.{digit_of}
 use Rattle.cg_lexer.specs.Numbers.{base_mark, base_size}
 use Rattle.cg_lexer.specs.Gaps.{gap_text}
 use Rattle.cg_lexer.specs.Tokens.{Cursor, Divides, IsTextOf, Lexeme, Lexes, Takes, start}
-use Rattle.cg_symbols.specs.Symbols.{Seen, seen}
+use Rattle.cg_parser_symbols.specs.Symbols.{Seen, seen}
 use Rattle.cg_parser_laws.proofs.Places.{HasRoom, IsAtMost, after, after_some, before_most}
 
 -- each of these tokens stands behind the one before it, and the first behind a place

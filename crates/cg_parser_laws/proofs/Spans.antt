@@ -4,8 +4,8 @@ use Rattle.std.proofs.lemmas.List.Elements.{All-cons, All-nil}
 use Rattle.std.specs.List.{All}
 use Rattle.cg_base.specs.declared.place.Place.{Place}
 use Rattle.cg_base.specs.Places.{IsBefore}
-use Rattle.cg_symbols.specs.Symbols.{Seen, Symbol}
-use Rattle.cg_symbols.specs.Readings.{token, sign}
+use Rattle.cg_parser_symbols.specs.Symbols.{Seen, Symbol}
+use Rattle.cg_parser_symbols.specs.Readings.{token, sign}
 use Rattle.cg_parser_laws.proofs.Places.{IsAtMost, before_trans, before_most, most_before, most_trans}
 use Rattle.cg_parser_laws.proofs.Rising.{Rising}
 

@@ -7,20 +7,20 @@ use Rattle.cg_base.specs.declared.kind.Bound.{Bound}
 use Rattle.cg_base.specs.declared.place.Place.{Place}
 use Rattle.cg_core.specs.declared.at.At.{At}
 use Rattle.cg_core.specs.Kernels.{Function}
-use Rattle.cg_desugar.specs.Desugar.{function_of_entry, functions_of}
+use Rattle.cg_resolve_def.specs.Desugar.{function_of_entry, functions_of}
 use Rattle.cg_lexer.specs.declared.token.TokenKind.{TokenKind}
 use Rattle.cg_lexer.specs.declared.token.TokenKind.TheVariants.{Lower, Upper, Number, Word, Sign, End}
 use Rattle.cg_lexer.specs.Tokens.{Cursor, Divides, IsTextOf, Lexeme, start}
 use Rattle.cg_parser.specs.Grammar.{ReadsAll, ReadsEntry, ReadsParams, ReadsProgram, ReadsVar, ReadsVars, Spells, SpellsExpr, VarsBefore, nothing, alone, listed}
 use Rattle.cg_parser_laws.specs.Laws.{IsNamed, SpelledIsNamed}
-use Rattle.cg_parse_patterns.specs.Grammar.{SpellsPattern}
-use Rattle.cg_parse_types.specs.Grammar.{SpellsType}
+use Rattle.cg_parser_patterns.specs.Grammar.{SpellsPattern}
+use Rattle.cg_parser_types.specs.Grammar.{SpellsType}
 use Rattle.cg_surface.specs.Exprs.{Expr}
 use Rattle.cg_surface.specs.Patterns.{Pattern}
 use Rattle.cg_surface.specs.Programs.{Entry, synonym, abstract, signature, define}
 use Rattle.cg_surface.specs.Written.{Written}
-use Rattle.cg_symbols.specs.Readings.{IsPart}
-use Rattle.cg_symbols.specs.Symbols.{Symbol, lower, mark_symbol, operator_symbol, Seen, seen, sign_symbol, symbol_of, word_symbol}
+use Rattle.cg_parser_symbols.specs.Readings.{IsPart}
+use Rattle.cg_parser_symbols.specs.Symbols.{Symbol, lower, mark_symbol, operator_symbol, Seen, seen, sign_symbol, symbol_of, word_symbol}
 
 -- ---- symbols
 

@@ -4,10 +4,10 @@ use Rattle.std.proofs.Common.{ℕ, List, [], refl, sym, ⊎_elim, subst}
 use Rattle.cg_surface.specs.Written.{Written, Writtens, WrittenFields, WrittenAlts}
 use Rattle.cg_surface.specs.Written as types
 use Rattle.cg_surface.specs.Programs.{Entry}
-use Rattle.cg_symbols.specs.Symbols.{Seen}
-use Rattle.cg_desugar.specs.Expand.{types_length}
-use Rattle.cg_desugar.specs.Faults.{alt_names, alts_faults, field_names, fields_faults, name_faults, type_faults, types_faults}
-use Rattle.cg_parse_types.specs.Grammar.{AltsBefore, FieldsBefore, ReadsAlts, ReadsArgs, ReadsFields, ReadsList, ReadsType, SpellsType, TypesBefore}
+use Rattle.cg_parser_symbols.specs.Symbols.{Seen}
+use Rattle.cg_resolve_def.specs.Expand.{types_length}
+use Rattle.cg_resolve_def.specs.Faults.{alt_names, alts_faults, field_names, fields_faults, name_faults, type_faults, types_faults}
+use Rattle.cg_parser_types.specs.Grammar.{AltsBefore, FieldsBefore, ReadsAlts, ReadsArgs, ReadsFields, ReadsList, ReadsType, SpellsType, TypesBefore}
 use Rattle.cg_parser_laws.proofs.Names.{again_stands, fault_key, name_stands, names_spans}
 use Rattle.cg_parser_laws.proofs.Spans.{Spans, StandAt, before, behind, join, nothing_spans, sign_spans, silent, token_spans, token_with}
 

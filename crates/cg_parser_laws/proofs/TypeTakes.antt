@@ -4,14 +4,14 @@ use Rattle.std.proofs.Common.{◌≡◌, ℕ, List, [], ◌∷◌, ◌++◌, ref
 use Rattle.cg_base.specs.declared.place.Place.{Place}
 use Rattle.cg_base.specs.Types.{Tau, fields}
 use Rattle.cg_core.specs.declared.at.At.{At}
-use Rattle.cg_lawful.specs.Lawful.{part_names}
+use Rattle.cg_core_def.specs.Lawful.{part_names}
 use Rattle.cg_surface.specs.Written.{Written, Writtens, WrittenFields, WrittenAlts}
 use Rattle.cg_surface.specs.Written as types
-use Rattle.cg_symbols.specs.Symbols.{Seen}
-use Rattle.cg_desugar.specs.Declared.{is_among}
-use Rattle.cg_desugar.specs.Expand.{Bodies, expanded}
-use Rattle.cg_desugar.specs.Takes.{all_missing, alts_takes, fields_takes, not_there, some_missing, take_faults, takes_faults}
-use Rattle.cg_parse_types.specs.Grammar.{AltsBefore, FieldsBefore, ReadsAlts, ReadsArgs, ReadsFields, ReadsList, ReadsNames, ReadsType, SpellsType, TypesBefore}
+use Rattle.cg_parser_symbols.specs.Symbols.{Seen}
+use Rattle.cg_resolve_def.specs.Declared.{is_among}
+use Rattle.cg_resolve_def.specs.Expand.{Bodies, expanded}
+use Rattle.cg_resolve_def.specs.Takes.{all_missing, alts_takes, fields_takes, not_there, some_missing, take_faults, takes_faults}
+use Rattle.cg_parser_types.specs.Grammar.{AltsBefore, FieldsBefore, ReadsAlts, ReadsArgs, ReadsFields, ReadsList, ReadsNames, ReadsType, SpellsType, TypesBefore}
 use Rattle.cg_parser_laws.proofs.Names.{all_told, names_spans, place_key, told_spans}
 use Rattle.cg_parser_laws.proofs.Spans.{Spans, StandAt, before, behind, join, nothing_spans, sign_spans, stands_either, stands_none, stands_one, token_spans, token_with}
 

@@ -4,11 +4,11 @@ use Rattle.std.proofs.Common.{◌≡◌, ◌+◌, ◌≤◌, List, [], ◌∷◌
 use Rattle.cg_core.specs.declared.at.At.{At}
 use Rattle.cg_surface.specs.Written.{Written, Writtens, WrittenFields, WrittenAlts}
 use Rattle.cg_surface.specs.Written as types
-use Rattle.cg_symbols.specs.Symbols.{Seen}
-use Rattle.cg_parse_types.specs.Grammar.{AltsBefore, AltsBind, AreMany, ArgsBind, Binds, FieldsBefore, FieldsBind, ReadsAlts, ReadsArgs, ReadsFields, ReadsList, ReadsNames, ReadsType, SpellsType, TypesBefore, TypesBind}
-use Rattle.cg_desugar.specs.Expand.{types_length}
-use Rattle.cg_desugar.specs.Takes.{alts_length, fields_length}
-use Rattle.cg_lawful_laws.specs.Shaped.{AreShapedAlts, AreShapedFields, AreShapedTypes, IsShapedType}
+use Rattle.cg_parser_symbols.specs.Symbols.{Seen}
+use Rattle.cg_parser_types.specs.Grammar.{AltsBefore, AltsBind, AreMany, ArgsBind, Binds, FieldsBefore, FieldsBind, ReadsAlts, ReadsArgs, ReadsFields, ReadsList, ReadsNames, ReadsType, SpellsType, TypesBefore, TypesBind}
+use Rattle.cg_resolve_def.specs.Expand.{types_length}
+use Rattle.cg_resolve_def.specs.Takes.{alts_length, fields_length}
+use Rattle.cg_resolve_def.specs.Shaped.{AreShapedAlts, AreShapedFields, AreShapedTypes, IsShapedType}
 
 -- a tuple has two components at least, and each other list of items has one
 types_many : (ts : Writtens) → AreMany ts → 2 ≤ types_length ts

@@ -5,11 +5,11 @@ use Rattle.cg_base.specs.Bytes.{Each, Starts}
 use Rattle.cg_base.specs.Places.{most}
 use Rattle.cg_lexer.specs.Bytes.{part_of_name, small}
 use Rattle.cg_surface.specs.Programs.{Entry}
-use Rattle.cg_desugar.specs.Desugar.{functions_of}
-use Rattle.cg_desugar.specs.Faults.{program_faults}
-use Rattle.cg_desugar.specs.Order.{AreGrowing, AreOrdered}
-use Rattle.cg_desugar.specs.Takes.{missing_fields}
-use Rattle.cg_lawful_laws.specs.Shaped.{IsShaped}
+use Rattle.cg_resolve_def.specs.Desugar.{functions_of}
+use Rattle.cg_resolve_def.specs.Faults.{program_faults}
+use Rattle.cg_resolve_def.specs.Order.{AreGrowing, AreOrdered}
+use Rattle.cg_resolve_def.specs.Takes.{missing_fields}
+use Rattle.cg_resolve_def.specs.Shaped.{IsShaped}
 use Rattle.cg_parser.specs.Grammar.{Spells}
 
 -- each program that the bytes of a text spell has a shape that the grammar gives

@@ -2,25 +2,25 @@
 use Rattle.std.proofs.Common.{◌≡◌, ℕ, ◌≤◌, List, [], length, Result, Ok, Err, sym, subst}
 use Rattle.std.specs.Result.{IsErrAnd}
 use Rattle.cg_base.specs.declared.limit.Limit.TheVariants as limits
-use Rattle.cg_circles.specs.Circles.{IsOrder}
-use Rattle.cg_circles.proofs.Laws.{order_has_no_circle}
+use Rattle.cg_graphs.specs.Circles.{IsOrder}
+use Rattle.cg_graphs.proofs.Laws.{order_has_no_circle}
 use Rattle.cg_core.specs.declared.kernel.Kernel.{Kernel}
 use Rattle.cg_surface.specs.Programs.{Entry}
-use Rattle.cg_desugar.specs.Desugar.{functions_of, functions_limit, parts_limit, type_limit, NamesStand}
-use Rattle.cg_desugar.specs.Faults.{program_faults}
-use Rattle.cg_desugar.specs.Mentions.{mentions}
-use Rattle.cg_desugar.specs.Takes.{missing_fields, widest_part, largest_type}
-use Rattle.cg_names.specs.Says.{IsFirstFault}
-use Rattle.cg_names.specs.declared.fault.NamingFault.{NamingFault}
-use Rattle.cg_names.specs.declared.fault.NamingFault.TheVariants as naming
-use Rattle.cg_takes.specs.Says as takes
-use Rattle.cg_takes.specs.declared.fault.TakeFault.{TakeFault}
-use Rattle.cg_takes.specs.declared.fault.TakeFault.TheVariants as take_faults
-use Rattle.cg_written.specs.Answers.{SynonymsSay}
-use Rattle.cg_written.specs.declared.oversize.Oversize.{Oversize}
-use Rattle.cg_written.specs.declared.oversize.Oversize.TheVariants as sizes
-use Rattle.cg_terms.specs.declared.fault.TermFault.{TermFault}
-use Rattle.cg_terms.specs.declared.fault.TermFault.TheVariants as terms
+use Rattle.cg_resolve_def.specs.Desugar.{functions_of, functions_limit, parts_limit, type_limit, NamesStand}
+use Rattle.cg_resolve_def.specs.Faults.{program_faults}
+use Rattle.cg_resolve_def.specs.Mentions.{mentions}
+use Rattle.cg_resolve_def.specs.Takes.{missing_fields, widest_part, largest_type}
+use Rattle.cg_resolve_names.specs.Says.{IsFirstFault}
+use Rattle.cg_resolve_names.specs.declared.fault.NamingFault.{NamingFault}
+use Rattle.cg_resolve_names.specs.declared.fault.NamingFault.TheVariants as naming
+use Rattle.cg_resolve_takes.specs.Says as takes
+use Rattle.cg_resolve_takes.specs.declared.fault.TakeFault.{TakeFault}
+use Rattle.cg_resolve_takes.specs.declared.fault.TakeFault.TheVariants as take_faults
+use Rattle.cg_resolve_written.specs.Answers.{SynonymsSay}
+use Rattle.cg_resolve_written.specs.declared.oversize.Oversize.{Oversize}
+use Rattle.cg_resolve_written.specs.declared.oversize.Oversize.TheVariants as sizes
+use Rattle.cg_resolve_terms.specs.declared.fault.TermFault.{TermFault}
+use Rattle.cg_resolve_terms.specs.declared.fault.TermFault.TheVariants as terms
 use Rattle.cg_resolve.specs.Answers.{Answers, OrderSays, CountsSay, KernelSays}
 use Rattle.cg_resolve.specs.Faults.{of_naming, of_take, of_oversize, of_term}
 use Rattle.cg_resolve.specs.declared.fault.Fault.{Fault}

@@ -16,14 +16,14 @@ use Rattle.cg_surface.specs.declared.program.Item.{Item}
 use Rattle.cg_surface.specs.declared.written.STy.{STy}
 use Rattle.cg_surface.specs.Programs.{Entry, entry_of}
 use Rattle.cg_surface.specs.Written.{written_of, place_of}
-use Rattle.cg_desugar.specs.Declared.{definition_named}
-use Rattle.cg_desugar.specs.Desugar.{term_limit, deepest_body, body_of}
-use Rattle.cg_desugar.specs.Desugar.{function_of as signed}
-use Rattle.cg_desugar.specs.Expand.{Bodies, bodies, expanded}
-use Rattle.cg_desugar.specs.Faults.{var_names}
-use Rattle.cg_takes.proofs.HeadSteps.{place_at}
-use Rattle.cg_terms.specs.declared.fault.TermFault.{TermFault}
-use Rattle.cg_terms.specs.declared.fault.TermFault.TheVariants.{TooDeep, Memory}
+use Rattle.cg_resolve_def.specs.Declared.{definition_named}
+use Rattle.cg_resolve_def.specs.Desugar.{term_limit, deepest_body, body_of}
+use Rattle.cg_resolve_def.specs.Desugar.{function_of as signed}
+use Rattle.cg_resolve_def.specs.Expand.{Bodies, bodies, expanded}
+use Rattle.cg_resolve_def.specs.Faults.{var_names}
+use Rattle.cg_resolve_takes.proofs.HeadSteps.{place_at}
+use Rattle.cg_resolve_terms.specs.declared.fault.TermFault.{TermFault}
+use Rattle.cg_resolve_terms.specs.declared.fault.TermFault.TheVariants.{TooDeep, Memory}
 use Rattle.cg_resolve.specs.Answers.{IsTooDeep, MaybeBodySays, FunctionSays, KernelSays}
 
 deepest-append : (fs gs : List Function) → deepest_body (fs ++ gs) ≡ max (deepest_body fs) (deepest_body gs)

@@ -5,16 +5,16 @@ use Rattle.std.proofs.lemmas.Option.{same_Some}
 use Rattle.cg_base.specs.declared.limit.Limit as code
 use Rattle.cg_base.specs.declared.limit.Limit.TheVariants as limits
 use Rattle.cg_base.specs.declared.place.Place.{Place}
-use Rattle.cg_circles.specs.Circles.{NoCircle}
+use Rattle.cg_graphs.specs.Circles.{NoCircle}
 use Rattle.cg_core.specs.declared.kernel.Kernel.{Kernel}
 use Rattle.cg_core.specs.Kernels.{kernel_of}
 use Rattle.cg_surface.specs.Programs.{Entry}
-use Rattle.cg_desugar.specs.Desugar.{functions_of, NamesStand, WithinLimits, entry_at, TooMany, TooWide, TooLarge, TooDeep}
-use Rattle.cg_desugar.specs.Faults.{NameFault, unknown, twice, arguments, program_faults}
-use Rattle.cg_desugar.specs.Mentions.{mentions}
-use Rattle.cg_desugar.specs.Takes.{missing_fields}
-use Rattle.cg_names.specs.Says.{IsFirst}
-use Rattle.cg_takes.specs.Says as takes
+use Rattle.cg_resolve_def.specs.Desugar.{functions_of, NamesStand, WithinLimits, entry_at, TooMany, TooWide, TooLarge, TooDeep}
+use Rattle.cg_resolve_def.specs.Faults.{NameFault, unknown, twice, arguments, program_faults}
+use Rattle.cg_resolve_def.specs.Mentions.{mentions}
+use Rattle.cg_resolve_def.specs.Takes.{missing_fields}
+use Rattle.cg_resolve_names.specs.Says.{IsFirst}
+use Rattle.cg_resolve_takes.specs.Says as takes
 use Rattle.cg_resolve.specs.Answers.{Answers, IsCircleAt, Passes}
 use Rattle.cg_resolve.specs.Laws.{Same, OneAnswer}
 use Rattle.cg_resolve.specs.declared.fault.Fault.{Fault}

@@ -4,7 +4,7 @@ use Rattle.std.proofs.lemmas.Option.{slice_get-map, slice_get_read}
 use Rattle.std.specs.Option.{option_map}
 use Rattle.cg_surface.specs.declared.program.Item.{Item}
 use Rattle.cg_surface.specs.Programs.{entry_of}
-use Rattle.cg_desugar.specs.Desugar.{entry_at}
+use Rattle.cg_resolve_def.specs.Desugar.{entry_at}
 use Rattle.cg_resolve.specs.Answers.{IsPlaceAt}
 
 -- an item, read from a list, that is this one

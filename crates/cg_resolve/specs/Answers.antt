@@ -4,22 +4,22 @@ use Rattle.std.specs.Global.{Vec}
 use Rattle.cg_base.specs.declared.limit.Limit as code
 use Rattle.cg_base.specs.declared.limit.Limit.TheVariants as limits
 use Rattle.cg_base.specs.declared.place.Place.{Place}
-use Rattle.cg_circles.specs.Circles.{IsOrder, IsFirstCircle, NoCircle}
+use Rattle.cg_graphs.specs.Circles.{IsOrder, IsFirstCircle, NoCircle}
 use Rattle.cg_core.specs.declared.kernel.KBody.{KBody}
 use Rattle.cg_core.specs.declared.kernel.KFun.{KFun}
 use Rattle.cg_core.specs.declared.kernel.Kernel.{Kernel}
 use Rattle.cg_core.specs.Kernels.{Function, Body, function_of, maybe_body_of, kernel_of}
 use Rattle.cg_surface.specs.Programs.{Entry}
-use Rattle.cg_desugar.specs.Desugar.{functions_of, functions_limit, parts_limit, term_limit, body_depth, deepest_body, NamesStand, entry_at, TooMany, TooWide, TooLarge, TooDeep, WithinLimits}
-use Rattle.cg_desugar.specs.Faults.{unknown, twice, arguments, program_faults}
-use Rattle.cg_desugar.specs.Mentions.{mentions}
-use Rattle.cg_desugar.specs.Takes.{missing_fields, widest_part}
-use Rattle.cg_names.specs.Says.{IsFirst}
-use Rattle.cg_takes.specs.Says as takes
+use Rattle.cg_resolve_def.specs.Desugar.{functions_of, functions_limit, parts_limit, term_limit, body_depth, deepest_body, NamesStand, entry_at, TooMany, TooWide, TooLarge, TooDeep, WithinLimits}
+use Rattle.cg_resolve_def.specs.Faults.{unknown, twice, arguments, program_faults}
+use Rattle.cg_resolve_def.specs.Mentions.{mentions}
+use Rattle.cg_resolve_def.specs.Takes.{missing_fields, widest_part}
+use Rattle.cg_resolve_names.specs.Says.{IsFirst}
+use Rattle.cg_resolve_takes.specs.Says as takes
 use Rattle.cg_resolve.specs.declared.fault.Fault.{Fault}
 use Rattle.cg_resolve.specs.declared.fault.Fault.TheVariants.{N1, N2, N3, N4, N5, Limit, Memory}
-use Rattle.cg_terms.specs.declared.fault.TermFault.{TermFault}
-use Rattle.cg_terms.specs.declared.fault.TermFault.TheVariants as terms
+use Rattle.cg_resolve_terms.specs.declared.fault.TermFault.{TermFault}
+use Rattle.cg_resolve_terms.specs.declared.fault.TermFault.TheVariants as terms
 
 -- the name of the item at this position stands at this place
 abbrev pub IsPlaceAt : List Entry → ℕ → Place → Type 0

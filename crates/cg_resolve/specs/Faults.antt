@@ -1,15 +1,15 @@
 -- The faults of the parts, as faults of the whole.
 use Rattle.cg_base.specs.declared.limit.Limit.TheVariants.{Ty, Depth}
-use Rattle.cg_names.specs.declared.fault.NamingFault.{NamingFault}
-use Rattle.cg_names.specs.declared.fault.NamingFault.TheVariants as naming
+use Rattle.cg_resolve_names.specs.declared.fault.NamingFault.{NamingFault}
+use Rattle.cg_resolve_names.specs.declared.fault.NamingFault.TheVariants as naming
 use Rattle.cg_resolve.specs.declared.fault.Fault.{Fault}
 use Rattle.cg_resolve.specs.declared.fault.Fault.TheVariants.{N1, N2, N4, N5, Limit, Memory}
-use Rattle.cg_takes.specs.declared.fault.TakeFault.{TakeFault}
-use Rattle.cg_takes.specs.declared.fault.TakeFault.TheVariants as takes
-use Rattle.cg_terms.specs.declared.fault.TermFault.{TermFault}
-use Rattle.cg_terms.specs.declared.fault.TermFault.TheVariants as terms
-use Rattle.cg_written.specs.declared.oversize.Oversize.{Oversize}
-use Rattle.cg_written.specs.declared.oversize.Oversize.TheVariants as sizes
+use Rattle.cg_resolve_takes.specs.declared.fault.TakeFault.{TakeFault}
+use Rattle.cg_resolve_takes.specs.declared.fault.TakeFault.TheVariants as takes
+use Rattle.cg_resolve_terms.specs.declared.fault.TermFault.{TermFault}
+use Rattle.cg_resolve_terms.specs.declared.fault.TermFault.TheVariants as terms
+use Rattle.cg_resolve_written.specs.declared.oversize.Oversize.{Oversize}
+use Rattle.cg_resolve_written.specs.declared.oversize.Oversize.TheVariants as sizes
 
 abbrev pub of_naming : NamingFault → Fault
 of_naming (naming.N1 p) = N1 p

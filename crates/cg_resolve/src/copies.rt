@@ -1,7 +1,7 @@
 // Type variables, copied, and their names.
 ghost use Rattle.std.specs.Prelude.{◌≡◌, IfOk};
-ghost use Rattle.cg_declared.specs.Tables.{texts};
-ghost use Rattle.cg_desugar.specs.Faults.{var_names};
+ghost use Rattle.cg_resolve_declared.specs.Tables.{texts};
+ghost use Rattle.cg_resolve_def.specs.Faults.{var_names};
 
 use cg_base::{Bound, Items, Memory};
 use std::alloc::Global;

@@ -2,13 +2,13 @@
 ghost use Rattle.std.specs.Prelude.{◌≡◌, ◌≤◌, [], List, map, length};
 ghost use Rattle.std.specs.List.{cons_option};
 ghost use Rattle.cg_surface.specs.Programs.{Entry, entry_of};
-ghost use Rattle.cg_desugar.specs.Desugar.{functions_of, function_of_entry};
+ghost use Rattle.cg_resolve_def.specs.Desugar.{functions_of, function_of_entry};
 ghost use Rattle.cg_resolve.specs.Answers.{CountsSay};
 
 use crate::fault::Fault;
 use cg_base::Limit;
 use cg_surface::Item;
-use cg_written::is_too_wide;
+use cg_resolve_written::is_too_wide;
 
 // No program has more functions.
 const FUNCTIONS_LIMIT: usize = 4096;

@@ -4,10 +4,10 @@ ghost use Rattle.cg_resolve.specs.Faults.{of_naming, of_take, of_oversize, of_te
 ghost use Rattle.cg_resolve.specs.declared.fault.Fault.TheVariants.{Memory};
 
 use cg_base::{Limit, Place};
-use cg_names::NamingFault;
-use cg_takes::TakeFault;
-use cg_terms::TermFault;
-use cg_written::Oversize;
+use cg_resolve_names::NamingFault;
+use cg_resolve_takes::TakeFault;
+use cg_resolve_terms::TermFault;
+use cg_resolve_written::Oversize;
 use std::alloc::AllocFailed;
 
 /// The first fault of names (docs/LANGUAGE.md, "Names"): N1, a name that isn't defined where it stands; N2, the later of two; N3, the

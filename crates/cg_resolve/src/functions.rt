@@ -5,20 +5,20 @@ ghost use Rattle.std.specs.Prelude.{[]};
 ghost use Rattle.std.specs.List.{cons_option};
 ghost use Rattle.cg_surface.specs.Programs.{entry_of};
 ghost use Rattle.cg_surface.specs.Written.{written_of};
-ghost use Rattle.cg_declared.specs.Declarations.{entries_of, IsIndexed};
-ghost use Rattle.cg_declared.specs.Tables.{texts};
-ghost use Rattle.cg_desugar.specs.Declared.{definition_named};
-ghost use Rattle.cg_desugar.specs.Desugar.{functions_of, function_of_entry, body_of, function_of as signed};
-ghost use Rattle.cg_written.specs.Answers.{AreBodies};
+ghost use Rattle.cg_resolve_declared.specs.Declarations.{entries_of, IsIndexed};
+ghost use Rattle.cg_resolve_declared.specs.Tables.{texts};
+ghost use Rattle.cg_resolve_def.specs.Declared.{definition_named};
+ghost use Rattle.cg_resolve_def.specs.Desugar.{functions_of, function_of_entry, body_of, function_of as signed};
+ghost use Rattle.cg_resolve_written.specs.Answers.{AreBodies};
 ghost use Rattle.cg_resolve.specs.Answers.{KernelSays, FunctionsSay, FunctionSays, MaybeBodySays};
 
 use crate::copies::{copy_bounds, names_of};
 use cg_base::{Bound, Items, Memory};
 use cg_core::{At, KBody, KFun, Kernel, TyArg};
-use cg_declared::Declarations;
+use cg_resolve_declared::Declarations;
 use cg_surface::{Item, STy};
-use cg_terms::{TermFault, body};
-use cg_written::{Synonyms, written_type};
+use cg_resolve_terms::{TermFault, body};
+use cg_resolve_written::{Synonyms, written_type};
 use std::alloc::Global;
 
 /// The kernel of a program: the functions of its signatures, in order, each with the body of the first definition of its name

@@ -4,9 +4,9 @@
 
 ghost use Rattle.std.specs.Prelude.{IfOk};
 ghost use Rattle.cg_core.specs.Kernels.{kernel_of};
-ghost use Rattle.cg_lawful.specs.Lawful.{IsLawfulKernel};
+ghost use Rattle.cg_core_def.specs.Lawful.{IsLawfulKernel};
 ghost use Rattle.cg_surface.specs.Programs.{program_of};
-ghost use Rattle.cg_lawful_laws.specs.Shaped.{IsShaped};
+ghost use Rattle.cg_resolve_def.specs.Shaped.{IsShaped};
 ghost use Rattle.cg_resolve.specs.Answers.{Answers};
 
 mod copies;
@@ -17,11 +17,11 @@ mod law;
 mod order;
 
 use cg_core::Kernel;
-use cg_declared::Declarations;
-use cg_names::check_names;
+use cg_resolve_declared::Declarations;
+use cg_resolve_names::check_names;
 use cg_surface::Program;
-use cg_takes::check_takes;
-use cg_written::synonyms;
+use cg_resolve_takes::check_takes;
+use cg_resolve_written::synonyms;
 use counts::check_counts;
 pub use fault::Fault;
 use functions::kernel;

@@ -1,14 +1,14 @@
 // The order of a program's items.
 ghost use Rattle.std.specs.Prelude.{◌<◌, map, length};
 ghost use Rattle.cg_surface.specs.Programs.{entry_of};
-ghost use Rattle.cg_declared.specs.Declarations.{entries_of, IsIndexed};
+ghost use Rattle.cg_resolve_declared.specs.Declarations.{entries_of, IsIndexed};
 ghost use Rattle.cg_resolve.specs.Answers.{OrderSays, IsPlaceAt};
 
 use crate::fault::Fault;
 use cg_base::Place;
-use cg_circles::{NoOrder, order};
-use cg_declared::Declarations;
-use cg_mentions::mentions;
+use cg_graphs::{NoOrder, order};
+use cg_resolve_declared::Declarations;
+use cg_resolve_mentions::mentions;
 use cg_surface::Item;
 use std::alloc::Global;
 

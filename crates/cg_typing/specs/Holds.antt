@@ -5,7 +5,7 @@ use Rattle.cg_core.specs.declared.kernel.Kernel.{Kernel}
 use Rattle.cg_core.specs.declared.term.Term.{Term}
 use Rattle.cg_core.specs.declared.term.Typed.{Typed}
 use Rattle.cg_core.specs.Kernels.{kernel_of}
-use Rattle.cg_lawful.specs.Lawful.{IsLawfulKernel}
+use Rattle.cg_core_def.specs.Lawful.{IsLawfulKernel}
 use Rattle.cg_typing.specs.declared.checked.Checked.{Checked}
 use Rattle.cg_typing.specs.Kept.{AreKept, maybe_core, maybe_tree}
 

@@ -9,7 +9,7 @@ use Rattle.cg_base.specs.Types.{Tau, arrow}
 use Rattle.cg_core.specs.Derivations.{Derivation}
 use Rattle.cg_core.specs.Kernels.{Function}
 use Rattle.cg_core.specs.Terms.{Arg, Note, Tree, term, Shape, fun, op, app, lets, let_bang, if_else, con, case_of, esac, struct, member, take_field, put, cast, annot, Trees, none, more, Named, end, field}
-use Rattle.cg_lawful.specs.Lawful.{library_arity}
+use Rattle.cg_core_def.specs.Lawful.{library_arity}
 use Rattle.cg_kinds.specs.Kinds.{subst, width}
 use Rattle.cg_typing.specs.Functions.{are_good_arguments, arg_types, asked_by, fun_type}
 use Rattle.cg_typing.specs.Rules.{Derives}

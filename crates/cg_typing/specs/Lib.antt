@@ -11,3 +11,7 @@ pub mod Operators
 pub mod Parts
 pub mod Rules
 pub mod Trees
+pub mod Inserted
+pub mod Subst
+pub mod Wider
+pub mod Samples

@@ -8,7 +8,7 @@ use Rattle.cg_base.specs.Types as types
 use Rattle.cg_base.specs.Types.{Tau, Taus, Parts}
 use Rattle.cg_core.specs.Kernels.{Function, Body}
 use Rattle.cg_core.specs.Terms.{Tree, term, Shape, var, unit, bool, lit, fun, op, app, lets, let_bang, if_else, con, case_of, esac, struct, member, take_field, put, cast, annot, Trees, none, more, Named, end, field}
-use Rattle.cg_lawful.specs.Lawful.{AreApart, AreRising, AreSome, part_names, types_count, HasArguments, IsLawfulType, AreLawfulTypes, AreLawfulParts, Takes, IsLawfulTerm, IsLawfulShape, AreLawfulTerms, AreLawfulFields, IsLawfulBody, IsLawfulFunction, field_names, IsLawfulKernel}
+use Rattle.cg_core_def.specs.Lawful.{AreApart, AreRising, AreSome, part_names, types_count, HasArguments, IsLawfulType, AreLawfulTypes, AreLawfulParts, Takes, IsLawfulTerm, IsLawfulShape, AreLawfulTerms, AreLawfulFields, IsLawfulBody, IsLawfulFunction, field_names, IsLawfulKernel}
 
 apart_once : (names : List (List ℕ)) → IsProp (AreApart names)
 apart_once [] = hlevel props

@@ -2,7 +2,7 @@
 ghost use Rattle.std.specs.Prelude.{◌≡◌, map};
 ghost use Rattle.std.specs.Option.{option_copied};
 ghost use Rattle.cg_core.specs.Kernels.{kernel_of};
-ghost use Rattle.cg_lawful.specs.Lawful.{IsLawfulKernel};
+ghost use Rattle.cg_core_def.specs.Lawful.{IsLawfulKernel};
 ghost use Rattle.cg_typing.specs.Kept.{AreKept, maybe_core, maybe_tree};
 ghost use Rattle.cg_typing.specs.Once.{lawful_once};
 

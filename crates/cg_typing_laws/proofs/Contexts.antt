@@ -8,7 +8,7 @@ use Rattle.cg_core.specs.declared.term.Seen.{Seen as Observer}
 use Rattle.cg_kinds.specs.Kinds.{subst}
 use Rattle.cg_typing.specs.Contexts.{Context, look, mark_at, push, first_side, second_side, first, second, among, drops, Fits, Splits, Drops, DropsBut}
 use Rattle.cg_typing_laws.specs.Laws.{AreInstance}
-use Rattle.cg_typing_laws.specs.Subst.{subst_direction, subst_context}
+use Rattle.cg_typing.specs.Subst.{subst_direction, subst_context}
 use Rattle.cg_typing_laws.proofs.Types.{subst_bang, kinds_kept}
 
 module _ (given : List Tau) where

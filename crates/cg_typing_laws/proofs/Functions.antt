@@ -17,7 +17,7 @@ use Rattle.cg_typing.specs.Library.{given as argument, library_type, state, pair
 use Rattle.cg_typing.specs.Parts.{has_word_arrays, is_cell, all_taken}
 use Rattle.cg_check_laws.proofs.Basics.{and_both}
 use Rattle.cg_typing_laws.specs.Laws.{AreInstance}
-use Rattle.cg_typing_laws.specs.Subst.{subst_arg}
+use Rattle.cg_typing.specs.Subst.{subst_arg}
 use Rattle.cg_typing_laws.proofs.Named.{cell_kept, cell_taken}
 use Rattle.cg_typing_laws.proofs.Types.{and_kept, or_kept, subst_bang, subst_twice, word_kept, arrays_kept, kinds_kept}
 

@@ -7,7 +7,7 @@ use Rattle.cg_core.specs.declared.derivation.Mark.TheVariants.{Gone}
 use Rattle.cg_core.specs.declared.term.Seen.{Seen as Observer}
 use Rattle.cg_typing.specs.Contexts.{Context, look, mark_at, push, first_side, second_side, first, second, among, Fits, Splits, Drops, DropsBut}
 use Rattle.cg_check_laws.proofs.Basics.{length_first, length_second, length_push}
-use Rattle.cg_typing_laws.specs.Inserted.{inserted, raised, raise_observer}
+use Rattle.cg_typing.specs.Inserted.{inserted, raised, raise_observer}
 
 -- ---- positions
 

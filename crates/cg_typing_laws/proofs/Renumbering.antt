@@ -17,9 +17,9 @@ use Rattle.cg_typing.specs.Operators.{sort_of, takes, gives, along, operand}
 use Rattle.cg_typing.specs.Parts.{is_read_only, widens, field_in, alternative_in, held, is_left, is_there, may_be_put_over, with_part, is_last}
 use Rattle.cg_typing.specs.Rules.{second_branch, type_at, is_literal, is_literal_shape, parts_made, record_made, Derives, DerivesShape, DerivesFields}
 use Rattle.cg_typing.specs.Trees.{leaf, one, two, three, first_marks, marks_of}
-use Rattle.cg_typing_laws.specs.Inserted.{inserted, raise, raise_shape, raise_fields}
+use Rattle.cg_typing.specs.Inserted.{inserted, raise, raise_shape, raise_fields}
 use Rattle.cg_typing_laws.specs.Laws.{EntriesAreInserted}
-use Rattle.cg_typing_laws.specs.Wider.{IsWiderEntry, IsWider, IsDerived}
+use Rattle.cg_typing.specs.Wider.{IsWiderEntry, IsWider, IsDerived}
 use Rattle.cg_typing_laws.proofs.Positions.{look_old, push_inserted, splits_inserted, first_part, second_part, below_first, below_second, below_push, drops_inserted, drops_but_inserted}
 use Rattle.cg_typing_laws.proofs.Weakening.{AreDerived, weakening, same_wider}
 

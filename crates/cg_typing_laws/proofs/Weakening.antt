@@ -14,7 +14,7 @@ use Rattle.cg_typing.specs.Contexts.{Context, look, mark_at, push, first_side, s
 use Rattle.cg_typing.specs.Rules.{Derives, DerivesShape, DerivesFields}
 use Rattle.cg_typing.specs.Trees.{leaf, one, two, three, first_marks, marks_of}
 use Rattle.cg_typing_laws.specs.Laws.{DerivationsAreWeakened}
-use Rattle.cg_typing_laws.specs.Wider.{IsWiderEntry, IsWider, IsDerived}
+use Rattle.cg_typing.specs.Wider.{IsWiderEntry, IsWider, IsDerived}
 
 -- the mark of an entry that is new
 abbrev wider_mark : Mark → Option Tau → Option Tau → Mark

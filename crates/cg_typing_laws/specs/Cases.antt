@@ -12,12 +12,12 @@ use Rattle.cg_core.specs.declared.op.Op.TheVariants.{Add}
 use Rattle.cg_core.specs.Terms.{Tree, var, op, member, annot, none, more, Note}
 use Rattle.cg_kinds.specs.Kinds.{no_kinds, seen_kinds}
 use Rattle.cg_typing.specs.Contexts.{Context}
-use Rattle.cg_check_laws.specs.Cases.{core, named, written, u8, x, cell}
+use Rattle.cg_typing.specs.Samples.{core, named, written, u8, x, cell}
 use Rattle.cg_typing.specs.Library.{array, whole}
 use Rattle.cg_typing.specs.Rules.{Derives}
 use Rattle.cg_typing.specs.Trees.{leaf, one, two}
-use Rattle.cg_typing_laws.specs.Inserted.{raise}
-use Rattle.cg_typing_laws.specs.Subst.{subst_core}
+use Rattle.cg_typing.specs.Inserted.{raise}
+use Rattle.cg_typing.specs.Subst.{subst_core}
 
 -- ---- substitution
 

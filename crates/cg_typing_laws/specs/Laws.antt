@@ -13,9 +13,9 @@ use Rattle.cg_typing.specs.Accepted.{kinds_of_vars}
 use Rattle.cg_typing.specs.Functions.{arg_types, asked_by_user, are_good_arguments}
 use Rattle.cg_typing.specs.Parts.{has_word_arrays, field_in, alternative_in, with_part, is_last}
 use Rattle.cg_typing.specs.Rules.{Derives}
-use Rattle.cg_typing_laws.specs.Inserted.{inserted, raise}
-use Rattle.cg_typing_laws.specs.Subst.{subst_direction, subst_context, subst_core}
-use Rattle.cg_typing_laws.specs.Wider.{IsWiderEntry, IsWider, IsDerived}
+use Rattle.cg_typing.specs.Inserted.{inserted, raise}
+use Rattle.cg_typing.specs.Subst.{subst_direction, subst_context, subst_core}
+use Rattle.cg_typing.specs.Wider.{IsWiderEntry, IsWider, IsDerived}
 
 -- type arguments that may stand for type variables of these kinds: each has its variable's kinds, and is written with arrays of
 -- words alone. Positions need not be in range: a variable without an argument becomes unit, which has all kinds

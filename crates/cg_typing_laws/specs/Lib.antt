@@ -1,5 +1,2 @@
 pub mod Cases
-pub mod Inserted
 pub mod Laws
-pub mod Subst
-pub mod Wider

@@ -10,8 +10,8 @@ use Rattle.cg_core.specs.declared.op.Op.{Op}
 use Rattle.cg_core.specs.Terms.{Note, Tree, term, Shape, var, unit, bool, lit, fun, op, app, lets, let_bang, if_else, con, case_of, esac, struct, member, take_field, put, cast, annot, Trees, none, more, Named, end, field as named}
 use Rattle.cg_heap.specs.declared.cell.Scalar.{Scalar}
 use Rattle.cg_heap.specs.Reps.{first_number, tail}
-use Rattle.cg_operations.specs.Iterators.{is_iterator}
-use Rattle.cg_operations.specs.Positions.{position}
+use Rattle.cg_eval_operations.specs.Iterators.{is_iterator}
+use Rattle.cg_eval_operations.specs.Positions.{position}
 use Rattle.cg_typing.specs.Functions.{arg_types}
 use Rattle.cg_typing.specs.Instances.{Entry, Instance}
 use Rattle.cg_typing.specs.Parts.{given_by, taken_by}

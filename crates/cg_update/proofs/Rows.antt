@@ -21,8 +21,8 @@ use Rattle.cg_heap.specs.NoForeignHeap.{no_foreign_heap}
 use Rattle.cg_heap.specs.Reps.{slots}
 use Rattle.cg_heap.specs.Stored.{Stored, cell_at}
 use Rattle.cg_kinds.specs.Kinds.{bang}
-use Rattle.cg_operations.specs.Iterators.{counted, indices_from}
-use Rattle.cg_operations.specs.Positions.{position, position_among}
+use Rattle.cg_eval_operations.specs.Iterators.{counted, indices_from}
+use Rattle.cg_eval_operations.specs.Positions.{position, position_among}
 use Rattle.cg_typing.specs.Library.{library_type, turn_of_array}
 use Rattle.cg_value.specs.NoForeign.{no_foreign}
 use Rattle.cg_update.specs.Calls.{Program}

@@ -16,7 +16,7 @@ use Rattle.cg_heap.specs.Reps.{address_of, first_address, number_of}
 use Rattle.cg_heap.specs.Stored.{Stored, cell_at}
 use Rattle.cg_lib_heap.specs.Library.{library_heap, next_at, second}
 use Rattle.cg_lib_value.specs.Library.{first_type}
-use Rattle.cg_machine.specs.Foreigns.{is_known}
+use Rattle.cg_eval_def.specs.Foreigns.{is_known}
 use Rattle.cg_typing.specs.Instances.{Entry, Instance}
 use Rattle.cg_typing.specs.Parts.{taken_by}
 use Rattle.cg_value.specs.Fits.{most_elements}

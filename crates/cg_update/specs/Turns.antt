@@ -12,8 +12,8 @@ use Rattle.cg_heap.specs.Reps.{first_address, first_number}
 use Rattle.cg_heap.specs.Stored.{Stored, cell_at, changed, with_element}
 use Rattle.cg_lib_heap.specs.Library.{words_at}
 use Rattle.cg_lib_value.specs.Library.{first_type}
-use Rattle.cg_operations.specs.Iterators.{indices_from}
-use Rattle.cg_operations.specs.Positions.{position_among}
+use Rattle.cg_eval_operations.specs.Iterators.{indices_from}
+use Rattle.cg_eval_operations.specs.Positions.{position_among}
 use Rattle.cg_typing.specs.Parts.{given_by}
 use Rattle.cg_update.specs.Calls.{are_words}
 use Rattle.cg_update.specs.Machines.{only_at, part_at, type_of_part}

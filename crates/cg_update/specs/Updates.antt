@@ -19,9 +19,9 @@ use Rattle.cg_heap.specs.declared.cell.Scalar.TheVariants.{Word}
 use Rattle.cg_heap.specs.Reps.{first_address, first_number, tail}
 use Rattle.cg_heap.specs.Stored.{Stored, cell_at, changed}
 use Rattle.cg_inst.specs.Lists.{same_instance}
-use Rattle.cg_operations.specs.Iterators.{is_iterator}
-use Rattle.cg_operations.specs.Operators.{on_one, on_two, truth, width}
-use Rattle.cg_operations.specs.Positions.{position}
+use Rattle.cg_eval_operations.specs.Iterators.{is_iterator}
+use Rattle.cg_eval_operations.specs.Operators.{on_one, on_two, truth, width}
+use Rattle.cg_eval_operations.specs.Positions.{position}
 use Rattle.cg_typing.specs.Functions.{arg_types}
 use Rattle.cg_typing.specs.Instances.{Entry, Instance}
 use Rattle.cg_typing.specs.Parts.{given_by, taken_by}

@@ -1,10 +1,10 @@
 use Rattle.std.proofs.Common.{rules, ◌≡◌, map, Ok, sym, ap, ◌∙◌, subst}
-use Rattle.cg_declared.specs.Declarations.{entries_of}
-use Rattle.cg_lawful.specs.Lawful.{IsLawfulKernel}
-use Rattle.cg_lawful_laws.proofs.Kernel.{desugared_lawful}
-use Rattle.cg_lawful_laws.specs.Shaped.{IsShaped}
+use Rattle.cg_resolve_declared.specs.Declarations.{entries_of}
+use Rattle.cg_core_def.specs.Lawful.{IsLawfulKernel}
+use Rattle.cg_resolve_laws.proofs.Kernel.{desugared_lawful}
+use Rattle.cg_resolve_def.specs.Shaped.{IsShaped}
 use Rattle.cg_surface.specs.Programs.{program_of, entry_of}
-use Rattle.cg_desugar.specs.Desugar.{NamesStand}
+use Rattle.cg_resolve_def.specs.Desugar.{NamesStand}
 use Rattle.cg_resolve.specs.Answers.{Answers}
 use Rattle.cg_resolve.proofs.AnswerSteps.{handed_on, order_answers, take_answers, stand, count_answers, size_answers, depth_answers, kernel_answers}
 use Rattle.cg_resolve.proofs.resolve.Goals as goal

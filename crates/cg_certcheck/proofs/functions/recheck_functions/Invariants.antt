@@ -1,9 +1,9 @@
 use Rattle.std.proofs.Common.{◌≡◌, map, drop}
 use Rattle.cg_certcheck.proofs.BodySteps.{behind}
 use Rattle.cg_certcheck.specs.Bodies.{as_lists}
-use Rattle.cg_pieces.specs.Bodies.{lists_of}
+use Rattle.cg_check_pieces.specs.Bodies.{lists_of}
 use Rattle.cg_core.specs.Kernels.{function_of}
-use Rattle.cg_certcheck_laws.specs.Pass.{check_functions}
+use Rattle.cg_certcheck_def.specs.Pass.{check_functions}
 use Rattle.cg_certcheck.proofs.functions.recheck_functions.Given as goal
 
 abbrev pub invariant-loop-fun : goal.invariant-loop-fun

@@ -6,14 +6,14 @@ use Rattle.cg_cert.specs.declared.fault.CertFault.TheVariants.{Limit}
 use Rattle.cg_certcheck.proofs.FormSteps.{check_is, goes_on}
 use Rattle.cg_certcheck.proofs.PassSteps.{fields_last, fields_more, fields_none, one_operand, other_operands, size_more, size_one, size_two, sizes, two_operands}
 use Rattle.cg_certcheck.specs.Forms.{form_by}
-use Rattle.cg_pieces.specs.View.{bounds_of, shape_at, way_of}
-use Rattle.cg_certnodes.specs.Contexts.{context_of}
-use Rattle.cg_certnodes.specs.Gots.{fields_in, got_in}
-use Rattle.cg_certnodes.specs.View.{Agrees, cursor_of}
+use Rattle.cg_check_pieces.specs.View.{bounds_of, shape_at, way_of}
+use Rattle.cg_certcheck_nodes.specs.Contexts.{context_of}
+use Rattle.cg_certcheck_nodes.specs.Gots.{fields_in, got_in}
+use Rattle.cg_certcheck_nodes.specs.View.{Agrees, cursor_of}
 use Rattle.cg_core.specs.Kernels.{function_of, the_term}
 use Rattle.cg_core.specs.Terms.{to_trees}
 use Rattle.cg_faults.specs.Events.{part_directions}
-use Rattle.cg_certcheck_laws.specs.Pass.{Got, bind, check, test}
+use Rattle.cg_certcheck_def.specs.Pass.{Got, bind, check, test}
 use Rattle.cg_typing.specs.Parts.{is_small_enough}
 use Rattle.cg_typing.specs.Rules.{note_at}
 use Rattle.cg_certcheck.proofs.pass.+check.Goals as goal

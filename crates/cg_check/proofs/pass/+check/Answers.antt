@@ -1,19 +1,19 @@
 use Rattle.std.proofs.Common.{rules, ◌≡◌, true, false, arith, ap, length, map, sym, subst}
 use Rattle.std.specs.Option.{option_copied}
-use Rattle.cg_context.specs.View.{Agrees, entries_of, types_in}
-use Rattle.cg_pieces.specs.View.{bounds_of, way_of}
-use Rattle.cg_nodes.specs.Gots.{got_of}
+use Rattle.cg_check_context.specs.View.{Agrees, entries_of, types_in}
+use Rattle.cg_check_pieces.specs.View.{bounds_of, way_of}
+use Rattle.cg_check_nodes.specs.Gots.{got_of}
 use Rattle.cg_check.proofs.ArmSteps.{esac_arm, struct_arm, let_arm, let_bang_arm, if_arm, case_arm, member_arm, take_arm, put_arm}
 use Rattle.cg_check.proofs.FormSteps.{binary_is, by_left_else, by_right_then, esac_is, struct_is, unary_is, let_is, let_bang_is, if_is, case_is, member_is, take_is, put_is}
-use Rattle.cg_context.proofs.ObservedSteps.{seen_types}
-use Rattle.cg_check_laws.specs.Pass.{check, check_shape}
+use Rattle.cg_check_context.proofs.ObservedSteps.{seen_types}
+use Rattle.cg_check_def.specs.Pass.{check, check_shape}
 use Rattle.cg_core.specs.Kernels.{function_of, the_field, the_term}
 use Rattle.cg_core.specs.Terms.{to_named, to_trees, lets, let_bang, if_else, case_of, esac, struct, member, take_field, put}
 use Rattle.cg_check.specs.Operators.{is_by_right}
 use Rattle.cg_typing.specs.Operators.{sort_of}
 use Rattle.cg_typing.specs.Rules.{is_literal}
 use Rattle.cg_check.proofs.OperandSteps.{one_operand, other_operands, size_more, size_one, size_two, two_operands}
-use Rattle.cg_pieces.proofs.FieldSteps.{no_named, more_named}
+use Rattle.cg_check_pieces.proofs.FieldSteps.{no_named, more_named}
 use Rattle.cg_check.proofs.PassSteps.{sizes}
 use Rattle.cg_check.proofs.pass.+check.Goals as goal
 use Rattle.cg_check.proofs.pass.+check.Goals.{check_op-in_default-via-then-as_slice-lt1, check_op-in_default-via-else-as_slice-lt1+else-this-lt2+else-this-lt3}

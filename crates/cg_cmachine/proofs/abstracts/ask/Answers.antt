@@ -1,12 +1,12 @@
 use Rattle.std.proofs.Common.{List, ◌≡◌, ◌+◌, Err, arith, length, map, subst, sym}
 use Rattle.std.proofs.lemmas.Result.{err_from_is_err_and}
-use Rattle.cg_cbuiltins.specs.Called as called
-use Rattle.cg_cbuiltins.specs.Called.{state_of}
-use Rattle.cg_cresolve.specs.Resolutions.{next}
-use Rattle.cg_crun.specs.Operands.{Value}
-use Rattle.cg_crun.specs.Outcomes.{IsCalm, Outcome, done}
-use Rattle.cg_cvalues.specs.declared.value.CValue.{CValue}
-use Rattle.cg_cvalues.specs.Values.{value_of}
+use Rattle.cg_cmachine_builtins.specs.Called as called
+use Rattle.cg_cmachine_builtins.specs.Called.{state_of}
+use Rattle.cg_cmachine_resolve.specs.Resolutions.{next}
+use Rattle.cg_cmachine_def.specs.Operands.{Value}
+use Rattle.cg_cmachine_def.specs.Outcomes.{IsCalm, Outcome, done}
+use Rattle.cg_cmachine_values.specs.declared.value.CValue.{CValue}
+use Rattle.cg_cmachine_values.specs.Values.{value_of}
 use Rattle.cg_cmachine.specs.Machine.{Follows, abstract_call, block, function_at, landed}
 use Rattle.cg_cmachine.proofs.Asking as asking
 use Rattle.cg_cmachine.proofs.Entries.{value_whole}

@@ -1,6 +1,6 @@
 use Rattle.std.proofs.Common.{List, map}
 use Rattle.std.proofs.lemmas.Result.{err_from_is_err_and}
-use Rattle.cg_cvalues.specs.Values.{value_of}
+use Rattle.cg_cmachine_values.specs.Values.{value_of}
 use Rattle.cg_heap.specs.declared.cell.Scalar.{Scalar}
 use Rattle.cg_cmachine.proofs.Asking as asking
 use Rattle.cg_cmachine.proofs.abstracts.call_abstract.Goals as goal

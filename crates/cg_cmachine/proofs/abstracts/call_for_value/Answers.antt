@@ -1,7 +1,7 @@
 use Rattle.std.proofs.Common.{List, Err, ap, subst, ◌∙◌, sym}
 use Rattle.std.proofs.lemmas.Result.{err_from_is_err_and}
-use Rattle.cg_clayout.specs.Kinds.{layout_of}
-use Rattle.cg_cvalues.specs.Values.{Tries, value_of}
+use Rattle.cg_cmachine_layout.specs.Kinds.{layout_of}
+use Rattle.cg_cmachine_values.specs.Values.{Tries, value_of}
 use Rattle.cg_heap.specs.declared.cell.Scalar.{Scalar}
 use Rattle.cg_cmachine.specs.Abstracts.{read_whole}
 use Rattle.cg_cmachine.proofs.Asking as asking

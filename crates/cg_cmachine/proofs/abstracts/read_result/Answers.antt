@@ -1,8 +1,8 @@
 use Rattle.std.proofs.Common.{◌∙◌, subst, sym}
-use Rattle.cg_clayout.specs.Kinds.{layout_of}
-use Rattle.cg_crun.specs.Operands.{Value}
-use Rattle.cg_crun.specs.Outcomes.{Judged}
-use Rattle.cg_cvalues.specs.Values.{Tries, value_of}
+use Rattle.cg_cmachine_layout.specs.Kinds.{layout_of}
+use Rattle.cg_cmachine_def.specs.Operands.{Value}
+use Rattle.cg_cmachine_def.specs.Outcomes.{Judged}
+use Rattle.cg_cmachine_values.specs.Values.{Tries, value_of}
 use Rattle.cg_cmachine.proofs.Asking as asking
 use Rattle.cg_cmachine.proofs.abstracts.read_result.Goals as goal
 

@@ -1,5 +1,5 @@
 use Rattle.std.proofs.Common.{◌≡◌, ◌∙◌, ap, false, length, map, nat_eq, rules, sym, true}
-use Rattle.cg_clayout.specs.Kinds.{layout_of}
+use Rattle.cg_cmachine_layout.specs.Kinds.{layout_of}
 use Rattle.cg_cmachine.specs.Answering.{sum_sizes}
 use Rattle.cg_cmachine.proofs.Answering as answering
 use Rattle.cg_cmachine.proofs.answer.run_abstract.Goals as goal

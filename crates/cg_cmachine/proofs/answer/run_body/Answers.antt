@@ -1,7 +1,7 @@
 use Rattle.std.proofs.Common.{◌≡◌, ◌∙◌, false, length, map, refl, rules, subst, sym, true}
 use Rattle.std.specs.Prelude.{List}
-use Rattle.cg_clayout.specs.Kinds.{layout_of}
-use Rattle.cg_crun.specs.Outcomes.{IsCalm, Outcome}
+use Rattle.cg_cmachine_layout.specs.Kinds.{layout_of}
+use Rattle.cg_cmachine_def.specs.Outcomes.{IsCalm, Outcome}
 use Rattle.cg_heap.specs.declared.cell.Scalar.{Scalar}
 use Rattle.cg_cmachine.specs.Answering.{sum_sizes}
 use Rattle.cg_cmachine.specs.Answers.{Runs}

@@ -1,5 +1,5 @@
 use Rattle.cg_cmachine.specs.Answering.{none_asked}
-use Rattle.cg_crun.proofs.NeverAstray.{never_astray}
+use Rattle.cg_cmachine_laws.proofs.NeverAstray.{never_astray}
 use Rattle.cg_ctree.specs.Trees.{program_of}
 use Rattle.cg_cmachine.proofs.answer.run_c.Goals as goal
 

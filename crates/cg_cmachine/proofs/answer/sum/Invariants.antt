@@ -1,5 +1,5 @@
 use Rattle.std.proofs.Common.{◌≡◌, ◌+◌, drop, map}
-use Rattle.cg_clayout.specs.Kinds.{layout_of}
+use Rattle.cg_cmachine_layout.specs.Kinds.{layout_of}
 use Rattle.cg_cmachine.specs.Answering.{sum_sizes}
 use Rattle.cg_cmachine.proofs.answer.sum.Given as goal
 

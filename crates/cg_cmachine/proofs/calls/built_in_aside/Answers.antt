@@ -1,7 +1,7 @@
 use Rattle.std.proofs.Common.{arith, map}
 use Rattle.std.proofs.lemmas.Result.{err_from_is_err_and}
-use Rattle.cg_cbuiltins.specs.Called.{built_in_of, state_of}
-use Rattle.cg_cvalues.specs.Values.{value_of}
+use Rattle.cg_cmachine_builtins.specs.Called.{built_in_of, state_of}
+use Rattle.cg_cmachine_values.specs.Values.{value_of}
 use Rattle.cg_cmachine.proofs.Steps as steps
 use Rattle.cg_cmachine.proofs.Tops as tops
 use Rattle.cg_cmachine.proofs.calls.built_in_aside.Goals as goal

@@ -1,9 +1,9 @@
 use Rattle.std.proofs.Common.{List, ap, arith, map, sym, true}
 use Rattle.std.proofs.lemmas.Result.{err_from_is_err_and}
-use Rattle.cg_cbuiltins.specs.Called.{built_in_of, into_place, state_of}
-use Rattle.cg_crun.specs.BuiltIns.{called}
-use Rattle.cg_crun.specs.Outcomes.{Outcome, bind}
-use Rattle.cg_cvalues.specs.Values.{value_of}
+use Rattle.cg_cmachine_builtins.specs.Called.{built_in_of, into_place, state_of}
+use Rattle.cg_cmachine_def.specs.BuiltIns.{called}
+use Rattle.cg_cmachine_def.specs.Outcomes.{Outcome, bind}
+use Rattle.cg_cmachine_values.specs.Values.{value_of}
 use Rattle.cg_heap.specs.declared.cell.Scalar.{Scalar}
 use Rattle.cg_cmachine.proofs.Steps as steps
 use Rattle.cg_cmachine.proofs.Tops as tops

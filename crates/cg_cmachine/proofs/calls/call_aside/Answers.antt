@@ -1,7 +1,7 @@
 use Rattle.std.proofs.Common.{◌≡◌, ◌∙◌, ap, arith, map, subst, sym}
-use Rattle.cg_crun.specs.Outcomes.{Outcome, ok}
-use Rattle.cg_crun.specs.Runs.{Flow}
-use Rattle.cg_cvalues.specs.Values.{judged_all, value_of}
+use Rattle.cg_cmachine_def.specs.Outcomes.{Outcome, ok}
+use Rattle.cg_cmachine_def.specs.Runs.{Flow}
+use Rattle.cg_cmachine_values.specs.Values.{judged_all, value_of}
 use Rattle.cg_cmachine.specs.Machine.{Follows}
 use Rattle.cg_cmachine.specs.Statements.{called_aside}
 use Rattle.cg_cmachine.proofs.Callees as callees

@@ -1,7 +1,7 @@
 use Rattle.std.proofs.Common.{Global, Vec, rules, ◌≡◌, false, map, true}
 use Rattle.std.proofs.lemmas.Result.{err_from_is_err_and}
-use Rattle.cg_cbuiltins.specs.Called.{state_of}
-use Rattle.cg_cvalues.specs.Values.{value_of}
+use Rattle.cg_cmachine_builtins.specs.Called.{state_of}
+use Rattle.cg_cmachine_values.specs.Values.{value_of}
 use Rattle.cg_heap.specs.declared.cell.Scalar.{Scalar}
 use Rattle.cg_cmachine.proofs.Entries as entries
 use Rattle.cg_cmachine.proofs.calls.enter.Goals as goal

@@ -1,7 +1,7 @@
 use Rattle.std.proofs.Common.{◌∙◌, map, sym}
 use Rattle.std.proofs.lemmas.List.{length-map}
-use Rattle.cg_clayout.specs.Kinds.{layout_of}
-use Rattle.cg_cvalues.specs.Values.{value_of}
+use Rattle.cg_cmachine_layout.specs.Kinds.{layout_of}
+use Rattle.cg_cmachine_values.specs.Values.{value_of}
 use Rattle.cg_cmachine.proofs.Entries.{gathered_differs}
 use Rattle.cg_cmachine.proofs.calls.gather.Goals as goal
 

@@ -1,7 +1,7 @@
 use Rattle.std.proofs.Common.{◌≡◌, ◌++◌, drop, map}
-use Rattle.cg_clayout.specs.Kinds.{layout_of}
-use Rattle.cg_crun.specs.Outcomes.{ok, on}
-use Rattle.cg_cvalues.specs.Values.{value_of}
+use Rattle.cg_cmachine_layout.specs.Kinds.{layout_of}
+use Rattle.cg_cmachine_def.specs.Outcomes.{ok, on}
+use Rattle.cg_cmachine_values.specs.Values.{value_of}
 use Rattle.cg_cmachine.specs.Machine.{gathered}
 use Rattle.cg_cmachine.proofs.calls.gather.Given as goal
 

@@ -3,8 +3,8 @@ use Rattle.std.proofs.lemmas.List.Elements.{All-push}
 use Rattle.std.proofs.lemmas.Result.{err_from_is_err_and}
 use Rattle.std.specs.FinMap as finite
 use Rattle.std.specs.List.{All}
-use Rattle.cg_cbuiltins.specs.Called.{state_of}
-use Rattle.cg_cvalues.specs.Values.{value_of}
+use Rattle.cg_cmachine_builtins.specs.Called.{state_of}
+use Rattle.cg_cmachine_values.specs.Values.{value_of}
 use Rattle.cg_cmachine.specs.declared.machine.Kont.TheVariants.{Return}
 use Rattle.cg_cmachine.specs.Machine.{IsFrame, IsKont, entered}
 use Rattle.cg_cmachine.proofs.Entries as entries

@@ -1,11 +1,11 @@
 use Rattle.std.proofs.Common.{List, ap, arith, sym}
 use Rattle.std.proofs.lemmas.Result.{err_from_is_err_and}
-use Rattle.cg_cbuiltins.specs.Called.{into_place, state_of}
-use Rattle.cg_clayout.specs.Kinds.{shape_layout}
-use Rattle.cg_crun.specs.BuiltIns.{make_struct}
-use Rattle.cg_crun.specs.Layouts.{size}
-use Rattle.cg_crun.specs.Outcomes.{Outcome, bind}
-use Rattle.cg_cvalues.specs.Values.{value_of}
+use Rattle.cg_cmachine_builtins.specs.Called.{into_place, state_of}
+use Rattle.cg_cmachine_layout.specs.Kinds.{shape_layout}
+use Rattle.cg_cmachine_def.specs.BuiltIns.{make_struct}
+use Rattle.cg_cmachine_def.specs.Layouts.{size}
+use Rattle.cg_cmachine_def.specs.Outcomes.{Outcome, bind}
+use Rattle.cg_cmachine_values.specs.Values.{value_of}
 use Rattle.cg_heap.specs.declared.cell.Scalar.{Scalar}
 use Rattle.cg_cmachine.proofs.Steps as steps
 use Rattle.cg_cmachine.proofs.Tops as tops

@@ -1,6 +1,6 @@
 use Rattle.std.proofs.Common.{arith, subst}
-use Rattle.cg_crun.specs.Outcomes.{Outcome}
-use Rattle.cg_crun.specs.Runs.{Flow}
+use Rattle.cg_cmachine_def.specs.Outcomes.{Outcome}
+use Rattle.cg_cmachine_def.specs.Runs.{Flow}
 use Rattle.cg_cmachine.specs.Machine.{Follows}
 use Rattle.cg_cmachine.proofs.Callees as callees
 use Rattle.cg_cmachine.proofs.Forms as forms

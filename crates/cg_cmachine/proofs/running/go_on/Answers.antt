@@ -1,10 +1,10 @@
 use Rattle.std.proofs.Common.{[], ◌≡◌, ◌∙◌, ap, arith, rules, sym}
 use Rattle.std.proofs.lemmas.Result.{err_from_is_err_and}
-use Rattle.cg_cbuiltins.specs.Called.{state_of}
-use Rattle.cg_crun.specs.Operands.{scalars_of}
-use Rattle.cg_crun.specs.Outcomes.{Outcome, done}
-use Rattle.cg_crun.specs.Runs.{Flow, back}
-use Rattle.cg_cvalues.specs.Values.{value_of}
+use Rattle.cg_cmachine_builtins.specs.Called.{state_of}
+use Rattle.cg_cmachine_def.specs.Operands.{scalars_of}
+use Rattle.cg_cmachine_def.specs.Outcomes.{Outcome, done}
+use Rattle.cg_cmachine_def.specs.Runs.{Flow, back}
+use Rattle.cg_cmachine_values.specs.Values.{value_of}
 use Rattle.cg_cmachine.specs.declared.machine.Next.TheVariants.{Goes}
 use Rattle.cg_cmachine.specs.Machine.{on_kont, said, waits}
 use Rattle.cg_cmachine.proofs.Forms as forms

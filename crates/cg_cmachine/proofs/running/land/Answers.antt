@@ -1,9 +1,9 @@
 use Rattle.std.proofs.Common.{◌∙◌, ap, subst, sym}
-use Rattle.cg_cbuiltins.specs.Called.{state_of}
-use Rattle.cg_cresolve.specs.Resolutions.{next}
-use Rattle.cg_crun.specs.Outcomes.{Outcome}
-use Rattle.cg_crun.specs.Runs.{Flow, onward}
-use Rattle.cg_cvalues.specs.Values.{value_of}
+use Rattle.cg_cmachine_builtins.specs.Called.{state_of}
+use Rattle.cg_cmachine_resolve.specs.Resolutions.{next}
+use Rattle.cg_cmachine_def.specs.Outcomes.{Outcome}
+use Rattle.cg_cmachine_def.specs.Runs.{Flow, onward}
+use Rattle.cg_cmachine_values.specs.Values.{value_of}
 use Rattle.cg_cmachine.specs.Machine.{Follows, block, framed, waits}
 use Rattle.cg_cmachine.proofs.Landing as landing
 use Rattle.cg_cmachine.proofs.running.land.Goals as goal

@@ -1,5 +1,5 @@
 use Rattle.std.proofs.Common.{arith}
-use Rattle.cg_cvalues.specs.Values.{value_of}
+use Rattle.cg_cmachine_values.specs.Values.{value_of}
 use Rattle.cg_cmachine.proofs.Tops.{place_keeps}
 use Rattle.cg_cmachine.proofs.running.put.Goals as goal
 

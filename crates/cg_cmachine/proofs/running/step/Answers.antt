@@ -1,7 +1,7 @@
 use Rattle.std.proofs.Common.{◌≡◌, ◌∙◌, ◌-◌, ap, arith, subst, suc}
-use Rattle.cg_cbuiltins.specs.Called.{state_of}
-use Rattle.cg_crun.specs.Outcomes.{Outcome}
-use Rattle.cg_crun.specs.Runs.{Flow}
+use Rattle.cg_cmachine_builtins.specs.Called.{state_of}
+use Rattle.cg_cmachine_def.specs.Outcomes.{Outcome}
+use Rattle.cg_cmachine_def.specs.Runs.{Flow}
 use Rattle.cg_heap.specs.declared.cell.Scalar.{Scalar}
 use Rattle.std.specs.Prelude.{List}
 use Rattle.cg_cmachine.specs.Machine.{Went, block, framed, waits}

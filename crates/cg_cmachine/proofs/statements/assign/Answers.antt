@@ -1,4 +1,4 @@
-use Rattle.cg_cvalues.specs.Values.{value_of}
+use Rattle.cg_cmachine_values.specs.Values.{value_of}
 use Rattle.cg_cmachine.proofs.Tops.{place_keeps}
 use Rattle.cg_cmachine.proofs.statements.assign.Goals as goal
 

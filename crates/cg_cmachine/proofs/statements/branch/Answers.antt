@@ -1,8 +1,8 @@
 use Rattle.std.proofs.Common.{◌≡◌, subst}
 use Rattle.cg_cmachine.specs.Flat.{word_at}
 use Rattle.cg_cmachine.specs.Machine.{Follows, inner}
-use Rattle.cg_crun.specs.Outcomes.{Outcome, ok}
-use Rattle.cg_crun.specs.Runs.{Flow}
+use Rattle.cg_cmachine_def.specs.Outcomes.{Outcome, ok}
+use Rattle.cg_cmachine_def.specs.Runs.{Flow}
 use Rattle.cg_cmachine.proofs.Steps.{tested_none, tested_some}
 use Rattle.cg_cmachine.proofs.statements.branch.Goals as goal
 

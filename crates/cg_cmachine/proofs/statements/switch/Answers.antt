@@ -1,8 +1,8 @@
 use Rattle.std.proofs.Common.{◌≡◌, ◌∙◌, Some, sym, ap, subst}
 use Rattle.cg_cmachine.specs.Flat.{first_case, word_at}
 use Rattle.cg_cmachine.specs.Machine.{Follows, inner_case}
-use Rattle.cg_crun.specs.Outcomes.{Outcome, ok}
-use Rattle.cg_crun.specs.Runs.{Flow}
+use Rattle.cg_cmachine_def.specs.Outcomes.{Outcome, ok}
+use Rattle.cg_cmachine_def.specs.Runs.{Flow}
 use Rattle.cg_cmachine.proofs.Steps.{lift_ok}
 use Rattle.cg_cmachine.proofs.statements.switch.Goals as goal
 

@@ -1,10 +1,10 @@
 use Rattle.std.proofs.Common.{◌≡◌, subst}
 use Rattle.cg_cmachine.specs.Flat.{word_at}
 use Rattle.cg_cmachine.specs.Machine.{Comes, block, framed, inner}
-use Rattle.cg_cbuiltins.specs.Called.{state_of}
-use Rattle.cg_cresolve.specs.Resolutions.{next}
-use Rattle.cg_crun.specs.Outcomes.{Outcome, ok}
-use Rattle.cg_crun.specs.Runs.{Flow, onward}
+use Rattle.cg_cmachine_builtins.specs.Called.{state_of}
+use Rattle.cg_cmachine_resolve.specs.Resolutions.{next}
+use Rattle.cg_cmachine_def.specs.Outcomes.{Outcome, ok}
+use Rattle.cg_cmachine_def.specs.Runs.{Flow, onward}
 use Rattle.cg_cmachine.proofs.Steps.{tested_some}
 use Rattle.cg_cmachine.proofs.statements.turn.Goals as goal
 

@@ -1,5 +1,5 @@
 use Rattle.std.proofs.Common.{sym, ◌∙◌}
-use Rattle.cg_clexer.specs.Next.{lexeme}
+use Rattle.cg_cread_lexer.specs.Next.{lexeme}
 use Rattle.cg_cread.specs.Views.{state_of}
 use Rattle.cg_cread.proofs.Says.{keeps_going, unknown_kind, end_kind, token_kind, stands}
 use Rattle.cg_cread.proofs.read.read_c.Goals as goal

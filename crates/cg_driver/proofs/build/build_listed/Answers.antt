@@ -1,6 +1,6 @@
 use Rattle.std.proofs.Common.{◌∙◌, [], ◌∷◌, ap, Ok}
-use Rattle.cg_steps.specs.Steps.{judged_first}
-use Rattle.cg_steps.proofs.Following.{judged_follows, judged_ended, judged_halted}
+use Rattle.cg_driver_steps.specs.Steps.{judged_first}
+use Rattle.cg_driver_steps.proofs.Following.{judged_follows, judged_ended, judged_halted}
 use Rattle.cg_driver.specs.Commands.{Judges, built_line, certifiable, writes_both}
 use Rattle.cg_driver.proofs.Building.{KeepsBuilt, made_judged}
 use Rattle.cg_driver.proofs.build.build_listed.Goals as goal

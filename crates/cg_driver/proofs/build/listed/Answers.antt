@@ -1,4 +1,4 @@
-use Rattle.cg_steps.specs.declared.status.Status.TheVariants.{TooLarge}
+use Rattle.cg_driver_steps.specs.declared.status.Status.TheVariants.{TooLarge}
 use Rattle.cg_driver.specs.Built.{RefusesInstances}
 use Rattle.cg_driver.specs.Judged.{functions_in}
 use Rattle.cg_driver.specs.Lines.{limit_line}

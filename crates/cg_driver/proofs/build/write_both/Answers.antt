@@ -1,7 +1,7 @@
 use Rattle.std.proofs.Common.{◌≡◌, [], ◌∷◌, ◌∙◌, ap, Ok}
-use Rattle.cg_steps.specs.Steps.{writes}
-use Rattle.cg_steps.specs.World.{world}
-use Rattle.cg_steps.proofs.Following.{write_leads, follows, ended, halted}
+use Rattle.cg_driver_steps.specs.Steps.{writes}
+use Rattle.cg_driver_steps.specs.World.{world}
+use Rattle.cg_driver_steps.proofs.Following.{write_leads, follows, ended, halted}
 use Rattle.cg_driver.specs.Commands.{Judges, built_line, writes_certificate}
 use Rattle.cg_driver.specs.Found.{functions}
 use Rattle.cg_driver.specs.Instanced.{emitted}

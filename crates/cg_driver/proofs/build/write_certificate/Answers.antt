@@ -1,6 +1,6 @@
 use Rattle.std.proofs.Common.{◌≡◌, [], ◌∷◌, ◌∙◌, ap, Ok}
-use Rattle.cg_steps.specs.Steps.{writes}
-use Rattle.cg_steps.proofs.Following.{write_leads, follows, ended, halted, rules_conclude}
+use Rattle.cg_driver_steps.specs.Steps.{writes}
+use Rattle.cg_driver_steps.proofs.Following.{write_leads, follows, ended, halted, rules_conclude}
 use Rattle.cg_driver.specs.Commands.{Judges, built_line}
 use Rattle.cg_driver.specs.Found.{functions}
 use Rattle.cg_driver.specs.Instanced.{certified_text}

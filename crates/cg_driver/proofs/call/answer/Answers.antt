@@ -1,4 +1,4 @@
-use Rattle.cg_steps.proofs.Topping.{prints}
+use Rattle.cg_driver_steps.proofs.Topping.{prints}
 use Rattle.cg_driver.specs.Commands.{Judges}
 use Rattle.cg_driver.proofs.call.answer.Goals as goal
 

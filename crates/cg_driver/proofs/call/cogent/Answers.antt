@@ -1,5 +1,5 @@
-use Rattle.cg_steps.proofs.Topping.{answers_just, decided, leaves, leaves_unwritten, unread, unwrote, silent, finished, completes}
-use Rattle.cg_words.specs.Words.{texts, command_of}
+use Rattle.cg_driver_steps.proofs.Topping.{answers_just, decided, leaves, leaves_unwritten, unread, unwrote, silent, finished, completes}
+use Rattle.cg_driver_words.specs.Words.{texts, command_of}
 use Rattle.cg_driver.specs.Commands.{Judges, asked}
 use Rattle.cg_driver.proofs.Judging.{single, ruling, once}
 use Rattle.cg_driver.proofs.Wording.{usage_only, usage_for}

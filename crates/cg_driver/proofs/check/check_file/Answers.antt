@@ -1,7 +1,7 @@
 use Rattle.std.proofs.Common.{◌≡◌, [], ◌∷◌, ◌∙◌, ap, sym, Ok, Vec, ℕ, Global}
-use Rattle.cg_steps.specs.Steps.{judged_first}
-use Rattle.cg_steps.specs.World.{world}
-use Rattle.cg_steps.proofs.Following.{read_leads, follows, ended, halted, rules_conclude}
+use Rattle.cg_driver_steps.specs.Steps.{judged_first}
+use Rattle.cg_driver_steps.specs.World.{world}
+use Rattle.cg_driver_steps.proofs.Following.{read_leads, follows, ended, halted, rules_conclude}
 use Rattle.cg_driver.specs.Commands.{Judges, source_rules, reads_source, checked_line}
 use Rattle.cg_driver.specs.Found.{nothing, with_source, source_limit}
 use Rattle.cg_driver.proofs.check.check_file.Goals as goal

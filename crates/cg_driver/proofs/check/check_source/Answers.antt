@@ -1,5 +1,5 @@
 use Rattle.std.proofs.Common.{[], ◌∙◌, ap, Ok}
-use Rattle.cg_steps.proofs.Following.{rules_follow, rules_ended}
+use Rattle.cg_driver_steps.proofs.Following.{rules_follow, rules_ended}
 use Rattle.cg_driver.specs.Commands.{Judges, source_rules, checked_line}
 use Rattle.cg_driver.specs.Judged.{Keeps}
 use Rattle.cg_driver.proofs.Checking.{ok_rules}

@@ -1,5 +1,5 @@
-use Rattle.cg_source_laws.specs.Laws.{CopiesReachCells, copies_in}
-use Rattle.cg_steps.specs.declared.status.Status.TheVariants.{Refused}
+use Rattle.cg_driver_laws.specs.Laws.{CopiesReachCells, copies_in}
+use Rattle.cg_driver_steps.specs.declared.status.Status.TheVariants.{Refused}
 use Rattle.cg_driver.specs.Built.{RefusesPlace}
 use Rattle.cg_driver.specs.Entered.{cells}
 use Rattle.cg_driver.specs.Lines.{not_built_line}

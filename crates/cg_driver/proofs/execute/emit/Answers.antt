@@ -1,4 +1,4 @@
-use Rattle.cg_source_laws.specs.Laws.{copies_in}
+use Rattle.cg_driver_laws.specs.Laws.{copies_in}
 use Rattle.cg_driver.proofs.Executing.{emits, unreadable}
 use Rattle.cg_driver.proofs.execute.emit.Goals as goal
 

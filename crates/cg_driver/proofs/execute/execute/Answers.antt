@@ -1,14 +1,14 @@
 use Rattle.std.proofs.Common.{◌≢◌, [], subst, sym}
 use Rattle.cg_base.specs.declared.fun.Fun.TheVariants.{User}
-use Rattle.cg_machine.specs.Evaluation.{outcome, stuck}
-use Rattle.cg_machine.specs.Foreigns.{table_of}
-use Rattle.cg_steps.specs.declared.status.Status.TheVariants.{StepLimit}
+use Rattle.cg_eval_def.specs.Evaluation.{outcome, stuck}
+use Rattle.cg_eval_def.specs.Foreigns.{table_of}
+use Rattle.cg_driver_steps.specs.declared.status.Status.TheVariants.{StepLimit}
 use Rattle.cg_value.specs.NoForeign.{no_foreign}
 use Rattle.cg_value.specs.Values.{function}
 use Rattle.cg_driver.specs.Executed.{Executes}
 use Rattle.cg_driver.specs.Judged.{functions_in}
 use Rattle.cg_driver.specs.Lines.{step_limit_line}
-use Rattle.cg_source_laws.specs.Laws.{copies_in}
+use Rattle.cg_driver_laws.specs.Laws.{copies_in}
 use Rattle.cg_driver.proofs.Executing.{runs_out, word_value}
 use Rattle.cg_driver.proofs.Placing.{never_stuck}
 use Rattle.cg_driver.proofs.Saying.{line_told}

@@ -1,6 +1,6 @@
 use Rattle.std.proofs.Common.{subst, sym}
 use Rattle.cg_ctree.specs.Trees.{program_of}
-use Rattle.cg_source_laws.specs.Runs.{RunsTo}
+use Rattle.cg_cmachine_def.specs.WordRuns.{RunsTo}
 use Rattle.cg_value.specs.Values.{value_of}
 use Rattle.cg_driver.specs.Run.{budget}
 use Rattle.cg_driver.proofs.Executing.{machined, runs_alike}

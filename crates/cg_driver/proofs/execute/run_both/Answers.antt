@@ -1,11 +1,11 @@
 use Rattle.std.proofs.Common.{ℕ, []}
 use Rattle.cg_value.specs.Values.{number, value_of}
-use Rattle.cg_steps.specs.declared.status.Status.TheVariants.{Done}
+use Rattle.cg_driver_steps.specs.declared.status.Status.TheVariants.{Done}
 use Rattle.cg_driver.specs.Executed.{Gives, Executes}
 use Rattle.cg_driver.specs.Judged.{functions_in}
 use Rattle.cg_driver.specs.Lines.{report}
-use Rattle.cg_steps.specs.Parts.{IsLine, Reports}
-use Rattle.cg_source_laws.specs.Laws.{copies_in}
+use Rattle.cg_driver_steps.specs.Parts.{IsLine, Reports}
+use Rattle.cg_driver_laws.specs.Laws.{copies_in}
 use Rattle.cg_driver.proofs.Executing.{runs}
 use Rattle.cg_driver.proofs.Saying.{each}
 use Rattle.cg_driver.proofs.execute.run_both.Goals as goal

@@ -1,6 +1,6 @@
 use Rattle.std.proofs.Common.{refl}
 use Rattle.std.specs.Prelude.{codes}
-use Rattle.cg_steps.specs.declared.status.Status.TheVariants.{Refused, TooLarge}
+use Rattle.cg_driver_steps.specs.declared.status.Status.TheVariants.{Refused, TooLarge}
 use Rattle.cg_driver.specs.Commands.{unknown_byte, open_comment, unexpected, wrong_bar}
 use Rattle.cg_driver.specs.Judged.{RefusesReading}
 use Rattle.cg_driver.specs.Lines.{fault_line, limit_line}

@@ -1,8 +1,8 @@
 use Rattle.std.proofs.Common.{◌∙◌, ap, sym, Some}
 use Rattle.std.specs.Option.{option_map}
-use Rattle.cg_steps.proofs.Joining.{stops_before}
-use Rattle.cg_words.specs.Views.{command_view}
-use Rattle.cg_words.specs.Words.{check, build, recheck, run, texts, command_of}
+use Rattle.cg_driver_steps.proofs.Joining.{stops_before}
+use Rattle.cg_driver_words.specs.Views.{command_view}
+use Rattle.cg_driver_words.specs.Words.{check, build, recheck, run, texts, command_of}
 use Rattle.cg_driver.specs.Commands.{Judges, asked}
 use Rattle.cg_driver.proofs.Wording.{planned, usage_concludes}
 use Rattle.cg_driver.proofs.plan.plan.Goals as goal

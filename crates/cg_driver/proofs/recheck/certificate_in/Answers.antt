@@ -1,4 +1,4 @@
-use Rattle.cg_steps.specs.declared.status.Status.TheVariants.{CertRefused}
+use Rattle.cg_driver_steps.specs.declared.status.Status.TheVariants.{CertRefused}
 use Rattle.cg_driver.specs.Judged.{RefusesText}
 use Rattle.cg_driver.specs.Lines.{byte_line}
 use Rattle.cg_driver.proofs.Rechecking.{byte_refused}

@@ -1,5 +1,5 @@
 use Rattle.std.proofs.Common.{[], ◌∷◌, ◌∙◌, ap, Ok}
-use Rattle.cg_steps.proofs.Following.{rules_follow, rules_ended}
+use Rattle.cg_driver_steps.proofs.Following.{rules_follow, rules_ended}
 use Rattle.cg_driver.specs.Commands.{Judges, certified, text_rules, rechecked_line}
 use Rattle.cg_driver.specs.Found.{functions}
 use Rattle.cg_driver.proofs.Rechecking.{HasCert, text_judged}

@@ -1,6 +1,6 @@
 use Rattle.std.proofs.Common.{◌≡◌, [], ◌∷◌, ◌∙◌, ap, sym, Ok, Vec, ℕ, Global}
-use Rattle.cg_steps.specs.World.{world}
-use Rattle.cg_steps.proofs.Following.{read_leads, follows, ended, halted}
+use Rattle.cg_driver_steps.specs.World.{world}
+use Rattle.cg_driver_steps.proofs.Following.{read_leads, follows, ended, halted}
 use Rattle.cg_driver.specs.Commands.{Judges, recheck_steps, reads_source, rechecked_line}
 use Rattle.cg_driver.specs.Found.{nothing, with_source, source_limit}
 use Rattle.cg_driver.proofs.recheck.recheck_file.Goals as goal

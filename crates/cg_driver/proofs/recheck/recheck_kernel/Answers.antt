@@ -1,7 +1,7 @@
 use Rattle.std.proofs.Common.{◌≡◌, [], ◌∷◌, ◌∙◌, ap, sym, Ok, Vec, ℕ, Global}
-use Rattle.cg_steps.specs.Steps.{judged_first}
-use Rattle.cg_steps.specs.World.{world}
-use Rattle.cg_steps.proofs.Following.{read_leads, follows, ended, halted, rules_conclude}
+use Rattle.cg_driver_steps.specs.Steps.{judged_first}
+use Rattle.cg_driver_steps.specs.World.{world}
+use Rattle.cg_driver_steps.proofs.Following.{read_leads, follows, ended, halted, rules_conclude}
 use Rattle.cg_driver.specs.Commands.{Judges, certificate_rules, reads_certificate, rechecked_line}
 use Rattle.cg_driver.specs.Found.{with_certificate, functions, certificate_limit}
 use Rattle.cg_driver.proofs.recheck.recheck_kernel.Goals as goal

@@ -1,5 +1,5 @@
 use Rattle.std.proofs.Common.{◌∙◌, ap, Ok}
-use Rattle.cg_steps.proofs.Following.{judged_follows, judged_ended, judged_halted}
+use Rattle.cg_driver_steps.proofs.Following.{judged_follows, judged_ended, judged_halted}
 use Rattle.cg_driver.specs.Commands.{Judges, reading_rules, certificate_steps, recheck_steps, rechecked_line}
 use Rattle.cg_driver.specs.Judged.{KeepsKernel}
 use Rattle.cg_driver.proofs.Rechecking.{reading_judged}

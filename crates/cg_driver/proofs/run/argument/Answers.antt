@@ -1,4 +1,4 @@
-use Rattle.cg_steps.specs.declared.status.Status.TheVariants.{HeapRefused}
+use Rattle.cg_driver_steps.specs.declared.status.Status.TheVariants.{HeapRefused}
 use Rattle.cg_driver.specs.Judged.{RefusesBytes}
 use Rattle.cg_driver.specs.Lines.{no_heap_text_line, out_of_range_line}
 use Rattle.cg_driver.proofs.Saying.{line_says, no_text_refused, too_great_refused}

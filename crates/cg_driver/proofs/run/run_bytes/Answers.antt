@@ -1,5 +1,5 @@
 use Rattle.std.proofs.Common.{[], ◌∷◌, ◌∙◌, ap, Ok}
-use Rattle.cg_steps.proofs.Following.{rules_follow, rules_ended}
+use Rattle.cg_driver_steps.proofs.Following.{rules_follow, rules_ended}
 use Rattle.cg_driver.specs.Commands.{Judges, evaluated, heap_rules, ran_lines}
 use Rattle.cg_driver.specs.Found.{functions}
 use Rattle.cg_driver.proofs.Building.{kept_on}

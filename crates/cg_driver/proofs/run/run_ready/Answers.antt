@@ -1,7 +1,7 @@
 use Rattle.std.proofs.Common.{◌≡◌, [], ◌∷◌, ◌∙◌, ap, sym, Ok, Vec, ℕ, Global}
-use Rattle.cg_steps.specs.Steps.{judged_first}
-use Rattle.cg_steps.specs.World.{world}
-use Rattle.cg_steps.proofs.Following.{read_leads, follows, ended, halted, rules_conclude}
+use Rattle.cg_driver_steps.specs.Steps.{judged_first}
+use Rattle.cg_driver_steps.specs.World.{world}
+use Rattle.cg_driver_steps.proofs.Following.{read_leads, follows, ended, halted, rules_conclude}
 use Rattle.cg_driver.specs.Commands.{Judges, run_rules, reads_heap, ran_lines}
 use Rattle.cg_driver.specs.Found.{with_heap, functions, heap_limit}
 use Rattle.cg_driver.proofs.Building.{kept_on}

@@ -1,6 +1,6 @@
 use Rattle.std.proofs.Common.{◌∙◌, ◌++◌, ap, Ok}
-use Rattle.cg_steps.specs.Steps.{judged_first}
-use Rattle.cg_steps.proofs.Following.{judged_follows, judged_ended, judged_halted}
+use Rattle.cg_driver_steps.specs.Steps.{judged_first}
+use Rattle.cg_driver_steps.proofs.Following.{judged_follows, judged_ended, judged_halted}
 use Rattle.cg_driver.specs.Commands.{Judges, source_rules, entry_rules, heap_steps, place_rules, run_steps, ran_lines}
 use Rattle.cg_driver.specs.Judged.{Keeps}
 use Rattle.cg_driver.proofs.Saying.{source_judged}

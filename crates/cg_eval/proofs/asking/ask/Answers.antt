@@ -1,7 +1,7 @@
 use Rattle.std.proofs.Common.{slice_get, subst}
 use Rattle.cg_core.specs.Kernels.{function_of, kernel_of}
-use Rattle.cg_machine.specs.Foreigns.{table_of}
-use Rattle.cg_machine.specs.Machine.{context_of, rest, Went}
+use Rattle.cg_eval_def.specs.Foreigns.{table_of}
+use Rattle.cg_eval_machine.specs.Machine.{context_of, rest, Went}
 use Rattle.cg_typing.specs.Holds.{kernel_in}
 use Rattle.cg_value.specs.Values.{value_of}
 use Rattle.cg_eval.proofs.AskSteps.{known_is}

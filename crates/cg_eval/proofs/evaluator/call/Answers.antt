@@ -1,5 +1,5 @@
 use Rattle.std.proofs.Common.{◌≡◌, arith, Err, subst, sym, ◌∙◌}
-use Rattle.cg_machine.specs.Foreigns.{table_of}
+use Rattle.cg_eval_def.specs.Foreigns.{table_of}
 use Rattle.cg_eval.specs.Answers.{Exact}
 use Rattle.cg_value.specs.Values.{value_of}
 use Rattle.cg_eval.proofs.Ends as steps

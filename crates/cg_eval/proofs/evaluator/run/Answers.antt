@@ -1,6 +1,6 @@
 use Rattle.std.proofs.Common.{◌≡◌, arith, Err, subst, sym, ◌∙◌}
-use Rattle.cg_machine.specs.Foreigns.{table_of}
-use Rattle.cg_machine.specs.Machine.{context_of, on, rest, said, Gave}
+use Rattle.cg_eval_def.specs.Foreigns.{table_of}
+use Rattle.cg_eval_machine.specs.Machine.{context_of, on, rest, said, Gave}
 use Rattle.cg_value.specs.Values.{value_of}
 use Rattle.cg_eval.proofs.Ends as steps
 use Rattle.cg_eval.proofs.evaluator.run.Goals as goal

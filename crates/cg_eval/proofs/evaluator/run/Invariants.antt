@@ -1,6 +1,6 @@
 use Rattle.std.proofs.Common.{◌≡◌}
-use Rattle.cg_machine.specs.Foreigns.{table_of}
-use Rattle.cg_machine.specs.Machine.{said, weight}
+use Rattle.cg_eval_def.specs.Foreigns.{table_of}
+use Rattle.cg_eval_machine.specs.Machine.{said, weight}
 use Rattle.cg_eval.proofs.evaluator.run.Given as goal
 
 abbrev pub invariant-loop-focus : goal.invariant-loop-focus

@@ -1,5 +1,5 @@
 use Rattle.std.proofs.Common.{arith}
-use Rattle.cg_machine.specs.Machine.{rest, context_of}
+use Rattle.cg_eval_machine.specs.Machine.{rest, context_of}
 use Rattle.cg_eval.proofs.Begins as steps
 use Rattle.cg_eval.proofs.nodes.match_on.Goals as goal
 

@@ -1,5 +1,5 @@
 use Rattle.std.proofs.Common.{arith}
-use Rattle.cg_machine.specs.Machine.{rest, context_of}
+use Rattle.cg_eval_machine.specs.Machine.{rest, context_of}
 use Rattle.cg_eval.proofs.Begins as steps
 use Rattle.cg_eval.proofs.nodes.operate.Goals as goal
 use Rattle.cg_eval.proofs.nodes.operate.Goals.{in_default-via-then-operands-lt1, in_default-via-else-operands-lt1+else-operands-lt2+else-operands-lt3}

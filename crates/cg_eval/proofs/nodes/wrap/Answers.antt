@@ -1,6 +1,6 @@
 use Rattle.std.proofs.Common.{arith, ◌-◌}
 use Rattle.cg_core.specs.Kernels.{the_core}
-use Rattle.cg_machine.specs.Machine.{rest, context_of}
+use Rattle.cg_eval_machine.specs.Machine.{rest, context_of}
 use Rattle.cg_eval.proofs.Begins as steps
 use Rattle.cg_eval.proofs.nodes.wrap.Goals as goal
 

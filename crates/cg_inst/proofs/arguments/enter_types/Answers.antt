@@ -2,7 +2,7 @@ use Rattle.std.proofs.Common.{◌<◌, ◌≤◌, Some, arith, length, tests, ap
 use Rattle.cg_base.specs.Types.{type_of}
 use Rattle.cg_core.specs.declared.at.TyArg.{TyArg}
 use Rattle.cg_kinds.specs.Kinds.{subst}
-use Rattle.cg_shared.specs.Layers.{types_at}
+use Rattle.cg_inst_types.specs.Layers.{types_at}
 use Rattle.cg_inst.proofs.Standing.{argument_more, keeps_through, listing_on, within}
 use Rattle.cg_inst.proofs.arguments.enter_types.Goals as goal
 

@@ -1,9 +1,9 @@
 use Rattle.std.proofs.Common.{◌≡◌, Some, drop, map, slice_get}
 use Rattle.cg_core.specs.Terms.{arg_of}
 use Rattle.cg_kinds.specs.Kinds.{subst}
-use Rattle.cg_shared.specs.Layers.{types_at}
-use Rattle.cg_shared.specs.Listings.{listing}
-use Rattle.cg_shared.specs.Places.{Keeps}
+use Rattle.cg_inst_types.specs.Layers.{types_at}
+use Rattle.cg_inst_types.specs.Listings.{listing}
+use Rattle.cg_inst_types.specs.Places.{Keeps}
 use Rattle.cg_typing.specs.Functions.{arg_types}
 use Rattle.cg_inst.proofs.arguments.enter_types.Given as goal
 

@@ -1,8 +1,8 @@
 use Rattle.std.proofs.Common.{◌++◌, map, ap, ◌∙◌}
 use Rattle.cg_base.specs.Types.{type_of, part_of, to_parts, to_taus}
 use Rattle.cg_inst.specs.Measured.{own_nodes_all, own_nodes_parts, variables_in_all, variables_in_parts}
-use Rattle.cg_shared.specs.Layers.{capped}
-use Rattle.cg_inst.proofs.NodeSteps.{walked_all, walked_on}
+use Rattle.cg_inst_types.specs.Layers.{capped}
+use Rattle.cg_typing.proofs.NodeSteps.{walked_all, walked_on}
 use Rattle.cg_inst.proofs.WidthSteps.{first_part, first_part_variables, first_type, first_type_variables, no_part, no_part_variables, no_type, no_type_variables, sum_on, sum_whole, sum_within}
 use Rattle.cg_inst.proofs.widths.+widths.Goals as goal
 

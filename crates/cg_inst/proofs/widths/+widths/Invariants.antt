@@ -1,7 +1,7 @@
 use Rattle.std.proofs.Common.{◌≡◌, ◌+◌, ◌≤◌, ◌++◌, map, drop}
 use Rattle.cg_base.specs.Types.{type_of, part_of, to_taus, to_parts}
 use Rattle.cg_inst.specs.Measured.{own_nodes_all, own_nodes_parts, variables_in_all, variables_in_parts}
-use Rattle.cg_shared.specs.Layers.{capped}
+use Rattle.cg_inst_types.specs.Layers.{capped}
 use Rattle.cg_inst.proofs.widths.+widths.Given as goal
 
 abbrev pub invariant-push_types-loop-ty : goal.invariant-push_types-loop-ty

@@ -1,6 +1,6 @@
 use Rattle.std.proofs.Common.{arith, map}
 use Rattle.cg_inst.specs.Measured.{IsSmallBy, width_in}
-use Rattle.cg_shared.specs.Layers.{types_at}
+use Rattle.cg_inst_types.specs.Layers.{types_at}
 use Rattle.cg_inst.proofs.FoundSteps.{length_nodes, node_at}
 use Rattle.cg_inst.proofs.LimitSteps.{holds_of, of_all, until_more}
 use Rattle.cg_inst.proofs.WidthSteps.{few_by, many_by}

@@ -1,6 +1,6 @@
 use Rattle.std.proofs.Common.{map}
 use Rattle.cg_inst.specs.Measured.{IsSmallBy, width_in}
-use Rattle.cg_shared.specs.Layers.{types_at}
+use Rattle.cg_inst_types.specs.Layers.{types_at}
 use Rattle.cg_inst.proofs.LimitSteps.{Until}
 use Rattle.cg_inst.proofs.widths.are_small.Given as goal
 

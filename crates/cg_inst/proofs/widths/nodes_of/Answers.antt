@@ -1,4 +1,4 @@
-use Rattle.cg_shared.specs.Layers.{types_at}
+use Rattle.cg_inst_types.specs.Layers.{types_at}
 use Rattle.cg_inst.proofs.WidthSteps.{first_variable, no_variable, sum_on, sum_whole, sum_within}
 use Rattle.cg_inst.proofs.widths.nodes_of.Goals as goal
 

@@ -1,6 +1,6 @@
 use Rattle.std.proofs.Common.{◌≡◌, ◌+◌, ◌≤◌, drop}
 use Rattle.cg_inst.specs.Measured.{nodes_by, nodes_for, width_in}
-use Rattle.cg_shared.specs.Layers.{capped, types_at}
+use Rattle.cg_inst_types.specs.Layers.{capped, types_at}
 use Rattle.cg_inst.proofs.widths.nodes_of.Given as goal
 
 abbrev pub invariant-loop-variable : goal.invariant-loop-variable

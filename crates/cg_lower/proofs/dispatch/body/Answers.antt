@@ -1,5 +1,5 @@
 use Rattle.cg_base.specs.Types.{type_of}
-use Rattle.cg_lower_laws.specs.Structs.{numbered_in}
+use Rattle.cg_lower_def.specs.Structs.{numbered_in}
 use Rattle.cg_lower.proofs.DispatchSteps.{no_cases}
 use Rattle.cg_lower.proofs.dispatch.body.Goals as goal
 

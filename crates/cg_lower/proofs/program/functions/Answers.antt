@@ -1,9 +1,9 @@
 use Rattle.std.proofs.Common.{ap, get_or, length, map, refl, subst, ◌∙◌, ◌++◌, []}
-use Rattle.cg_cnodes.specs.Kept.{Kept, kept_of, whole_in}
-use Rattle.cg_collect.specs.Collected.{entries_of}
-use Rattle.cg_collect.specs.Copies.{copies_of}
+use Rattle.cg_lower_nodes.specs.Kept.{Kept, kept_of, whole_in}
+use Rattle.cg_lower.specs.Collected.{entries_of}
+use Rattle.cg_lower.specs.Copies.{copies_of}
 use Rattle.cg_ctree.specs.Trees.{function_of}
-use Rattle.cg_lower_laws.specs.Functions.{function_of_item, with_function}
+use Rattle.cg_lower_def.specs.Functions.{function_of_item, with_function}
 use Rattle.cg_lower.specs.Lowerings.{IsFewItem}
 use Rattle.cg_lower.specs.Programs.{item_of}
 use Rattle.cg_lower.proofs.ProgramSteps.{few_more, function_more}

@@ -1,10 +1,10 @@
 use Rattle.std.proofs.Common.{◌≡◌, length, map, take}
 use Rattle.std.specs.List.{AllByRecursion}
-use Rattle.cg_cnodes.specs.Kept.{kept_of, whole_of}
-use Rattle.cg_collect.specs.Collected.{entries_of}
-use Rattle.cg_collect.specs.Copies.{copies_of}
+use Rattle.cg_lower_nodes.specs.Kept.{kept_of, whole_of}
+use Rattle.cg_lower.specs.Collected.{entries_of}
+use Rattle.cg_lower.specs.Copies.{copies_of}
 use Rattle.cg_ctree.specs.Trees.{function_of}
-use Rattle.cg_lower_laws.specs.Functions.{function_of_item, functions_at}
+use Rattle.cg_lower_def.specs.Functions.{function_of_item, functions_at}
 use Rattle.cg_lower.specs.Lowerings.{IsFewItem}
 use Rattle.cg_lower.specs.Programs.{item_of}
 use Rattle.cg_lower.proofs.program.functions.Given as goal

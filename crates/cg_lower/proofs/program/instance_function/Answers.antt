@@ -1,5 +1,5 @@
 use Rattle.std.proofs.Common.{sym}
-use Rattle.cg_cnodes.specs.Kept.{whole_of}
+use Rattle.cg_lower_nodes.specs.Kept.{whole_of}
 use Rattle.cg_lower.proofs.ProgramSteps.{few_past, few_there, function_past, function_there, slice_at, slice_past}
 use Rattle.cg_lower.proofs.program.instance_function.Goals as goal
 

@@ -1,9 +1,9 @@
 use Rattle.std.proofs.Common.{ap, subst, sym, ◌∙◌}
-use Rattle.cg_circles.specs.Orders.{lists}
-use Rattle.cg_cnodes.specs.Kept.{Kept, kept_of}
-use Rattle.cg_collect.specs.Calls.{AreApart}
-use Rattle.cg_cplaces.specs.Found.{Known}
-use Rattle.cg_order.specs.Ranks.{in_order}
+use Rattle.cg_graphs.specs.Orders.{lists}
+use Rattle.cg_lower_nodes.specs.Kept.{Kept, kept_of}
+use Rattle.cg_lower.specs.Calls.{AreApart}
+use Rattle.cg_lower_tables.specs.Found.{Known}
+use Rattle.cg_graphs.specs.Ranks.{in_order}
 use Rattle.cg_lower.proofs.ProgramSteps.{program_is, program_prints, program_simulates}
 use Rattle.cg_lower.proofs.program.lower.Goals as goal
 

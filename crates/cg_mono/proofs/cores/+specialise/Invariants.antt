@@ -3,7 +3,7 @@ use Rattle.cg_core.specs.declared.term.Term.{size-Term}
 use Rattle.cg_core.specs.declared.term.Form.{size-Form}
 use Rattle.cg_core.specs.declared.term.FieldTerm.{size-FieldTerm}
 use Rattle.cg_mono.specs.Fields.{subst_field}
-use Rattle.cg_typing_laws.specs.Subst.{subst_core}
+use Rattle.cg_typing.specs.Subst.{subst_core}
 use Rattle.cg_base.specs.Types.{type_of}
 use Rattle.cg_core.specs.Kernels.{the_core, the_core_field}
 use Rattle.cg_core.specs.declared.term.Typed.{Typed}

@@ -1,7 +1,7 @@
 use Rattle.std.proofs.Common.{◌≡◌, map, take}
 use Rattle.cg_base.specs.Types.{type_of}
 use Rattle.cg_core.specs.Terms.{arg_of}
-use Rattle.cg_typing_laws.specs.Subst.{subst_arg}
+use Rattle.cg_typing.specs.Subst.{subst_arg}
 use Rattle.cg_mono.proofs.cores.in_args.Given as goal
 
 abbrev pub invariant-loop-arg : goal.invariant-loop-arg

@@ -1,6 +1,6 @@
 use Rattle.std.proofs.Common.{arith, map}
 use Rattle.cg_surface.specs.Programs.{entry_of}
-use Rattle.cg_desugar.specs.Desugar.{function_of_entry}
+use Rattle.cg_resolve_def.specs.Desugar.{function_of_entry}
 use Rattle.cg_resolve.proofs.FunctionSteps.{counted_more}
 use Rattle.cg_resolve.proofs.counts.signatures.Goals as goal
 

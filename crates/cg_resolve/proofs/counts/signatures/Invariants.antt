@@ -1,6 +1,6 @@
 use Rattle.std.proofs.Common.{◌≡◌, ◌≤◌, length, map}
 use Rattle.cg_surface.specs.Programs.{entry_of}
-use Rattle.cg_desugar.specs.Desugar.{function_of_entry}
+use Rattle.cg_resolve_def.specs.Desugar.{function_of_entry}
 use Rattle.cg_resolve.proofs.FunctionSteps.{functions_to}
 use Rattle.cg_resolve.proofs.counts.signatures.Given as goal
 

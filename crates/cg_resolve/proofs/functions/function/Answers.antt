@@ -1,12 +1,12 @@
 use Rattle.std.proofs.Common.{◌≡◌, ap, ◌∙◌, Ok, subst}
 use Rattle.cg_base.specs.Types.{type_of}
-use Rattle.cg_declared.specs.Declarations.{entries_of}
-use Rattle.cg_declared.specs.Tables.{texts}
-use Rattle.cg_desugar.specs.Declared.{definition_named}
-use Rattle.cg_desugar.specs.Desugar.{body_of}
-use Rattle.cg_desugar.specs.Expand.{expanded}
+use Rattle.cg_resolve_declared.specs.Declarations.{entries_of}
+use Rattle.cg_resolve_declared.specs.Tables.{texts}
+use Rattle.cg_resolve_def.specs.Declared.{definition_named}
+use Rattle.cg_resolve_def.specs.Desugar.{body_of}
+use Rattle.cg_resolve_def.specs.Expand.{expanded}
 use Rattle.cg_surface.specs.Written.{written_of}
-use Rattle.cg_written.specs.Known.{known_of}
+use Rattle.cg_resolve_written.specs.Known.{known_of}
 use Rattle.cg_resolve.specs.Answers.{MaybeBodySays}
 use Rattle.cg_resolve.proofs.FunctionSteps.{function_made}
 use Rattle.cg_resolve.proofs.functions.function.Goals as goal

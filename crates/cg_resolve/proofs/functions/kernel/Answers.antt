@@ -1,5 +1,5 @@
-use Rattle.cg_declared.specs.Declarations.{entries_of}
-use Rattle.cg_desugar.specs.Desugar.{functions_of, function_of_entry}
+use Rattle.cg_resolve_declared.specs.Declarations.{entries_of}
+use Rattle.cg_resolve_def.specs.Desugar.{functions_of, function_of_entry}
 use Rattle.cg_resolve.proofs.FunctionSteps.{kernel_error, made_more, made_over}
 use Rattle.cg_resolve.proofs.functions.kernel.Goals as goal
 

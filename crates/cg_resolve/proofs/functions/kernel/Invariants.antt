@@ -1,5 +1,5 @@
-use Rattle.cg_desugar.specs.Desugar.{function_of_entry}
-use Rattle.cg_declared.specs.Declarations.{entries_of}
+use Rattle.cg_resolve_def.specs.Desugar.{function_of_entry}
+use Rattle.cg_resolve_declared.specs.Declarations.{entries_of}
 use Rattle.cg_resolve.proofs.FunctionSteps.{AreMade}
 use Rattle.cg_resolve.proofs.functions.kernel.Given as goal
 

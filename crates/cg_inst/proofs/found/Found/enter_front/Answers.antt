@@ -3,8 +3,8 @@ use Rattle.cg_core.specs.Kernels.{function_of}
 use Rattle.cg_base.specs.declared.fun.Fun.TheVariants.{User}
 use Rattle.cg_inst.specs.Founds.{Comes, Keyed, found_in}
 use Rattle.cg_inst.specs.Lists.{front_from, with_instance}
-use Rattle.cg_shared.specs.Listings.{list_at, listing}
-use Rattle.cg_shared.specs.Places.{Each}
+use Rattle.cg_inst_types.specs.Listings.{list_at, listing}
+use Rattle.cg_inst_types.specs.Places.{Each}
 use Rattle.cg_inst.proofs.FoundSteps.{comes_as, err_on, length_end, length_nodes, node_at}
 use Rattle.cg_inst.proofs.FrontSteps.{IsBefore, front_done, front_longer, in_front, not_in_front}
 use Rattle.cg_inst.proofs.Standing.{is_listing, listed}

@@ -2,8 +2,8 @@ use Rattle.std.proofs.Common.{◌≡◌, Some, [], ◌++◌, drop, map, slice_ge
 use Rattle.cg_core.specs.Kernels.{function_of}
 use Rattle.cg_inst.specs.Founds.{found_in}
 use Rattle.cg_inst.specs.Lists.{front_from}
-use Rattle.cg_shared.specs.Listings.{listing}
-use Rattle.cg_shared.specs.Places.{Each}
+use Rattle.cg_inst_types.specs.Listings.{listing}
+use Rattle.cg_inst_types.specs.Places.{Each}
 use Rattle.cg_inst.proofs.FrontSteps.{IsBefore}
 use Rattle.cg_inst.proofs.found.Found.enter_front.Given as goal
 

@@ -2,7 +2,7 @@ use Rattle.std.proofs.Common.{◌≡◌, ◌∙◌, Err, arith, ap, map, sym, su
 use Rattle.cg_core.specs.Kernels.{the_core}
 use Rattle.cg_inst.specs.Founds.{Comes, found_in}
 use Rattle.cg_inst.specs.Lists.{with_instances}
-use Rattle.cg_shared.specs.Layers.{types_at}
+use Rattle.cg_inst_types.specs.Layers.{types_at}
 use Rattle.cg_typing.specs.Instances.{mentioned_at}
 use Rattle.cg_inst.proofs.FoundSteps.{all_gone, gone_on, length_end, length_nodes, node_at, stopped}
 use Rattle.cg_inst.proofs.Standing.{keeps_on}

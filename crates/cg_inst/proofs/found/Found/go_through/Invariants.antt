@@ -2,8 +2,8 @@ use Rattle.std.proofs.Common.{◌≡◌, drop, map}
 use Rattle.cg_core.specs.Kernels.{the_core}
 use Rattle.cg_inst.specs.Founds.{found_in}
 use Rattle.cg_inst.specs.Lists.{with_instances}
-use Rattle.cg_shared.specs.Layers.{types_at}
-use Rattle.cg_shared.specs.Places.{Keeps}
+use Rattle.cg_inst_types.specs.Layers.{types_at}
+use Rattle.cg_inst_types.specs.Places.{Keeps}
 use Rattle.cg_typing.specs.Instances.{mentioned_in}
 use Rattle.cg_inst.proofs.found.Found.go_through.Given as goal
 

@@ -3,7 +3,7 @@ use Rattle.cg_core.specs.Kernels.{the_core}
 use Rattle.cg_inst.specs.Founds.{IsEntryAt, found_in}
 use Rattle.cg_inst.specs.Judged.{core_in, functions_in}
 use Rattle.cg_inst.specs.Lists.{core_of, gone_through, with_instances}
-use Rattle.cg_shared.specs.Layers.{types_at}
+use Rattle.cg_inst_types.specs.Layers.{types_at}
 use Rattle.cg_typing.specs.Instances.{mentioned_in}
 use Rattle.cg_inst.proofs.FoundSteps.{comes_as}
 use Rattle.cg_inst.proofs.ListSteps.{mentions_are}

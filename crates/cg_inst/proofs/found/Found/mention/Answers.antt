@@ -3,8 +3,8 @@ use Rattle.cg_core.specs.Terms.{arg_of}
 use Rattle.cg_inst.specs.Founds.{Keyed, found_in}
 use Rattle.cg_inst.specs.Lists.{with_instances}
 use Rattle.cg_kinds.specs.Kinds.{subst as subst_of}
-use Rattle.cg_shared.specs.Layers.{types_at}
-use Rattle.cg_shared.specs.Listings.{listing}
+use Rattle.cg_inst_types.specs.Layers.{types_at}
+use Rattle.cg_inst_types.specs.Listings.{listing}
 use Rattle.cg_typing.specs.Functions.{arg_types}
 use Rattle.cg_inst.proofs.FoundSteps.{mention_comes}
 use Rattle.cg_inst.proofs.ListSteps.{with_none}

@@ -1,0 +1,4 @@
+pub mod Events
+pub mod Pass
+pub mod Reads
+pub mod Tests

@@ -1,0 +1,146 @@
+// What the fields of a record come to, and the record by them (`specs/Nodes.antt`).
+#![tactic(auto, using(cg_check_pieces::proofs::FieldSteps::field_steps))]
+
+ghost use Rattle.std.specs.Prelude.{◌≡◌, IfOk, map};
+ghost use Rattle.cg_base.specs.declared.kind.Sigil.TheVariants.{U};
+ghost use Rattle.cg_base.specs.Types.{fields as record_of, part_of, to_parts, type_of};
+ghost use Rattle.cg_certcheck_nodes.specs.Gots.{fields_in, got_in};
+ghost use Rattle.cg_check_pieces.specs.Fields.{cores_back, parts_back, trees_back};
+ghost use Rattle.cg_certcheck_nodes.specs.Nodes as forms;
+ghost use Rattle.cg_certcheck_nodes.specs.View.{cursor_of};
+ghost use Rattle.cg_core.specs.declared.derivation.Node.TheVariants as nodes;
+ghost use Rattle.cg_core.specs.Derivations.{derivation, derivation_of, to_derivations};
+ghost use Rattle.cg_core.specs.Kernels.{the_core_field};
+ghost use Rattle.cg_core.specs.Terms.{to_named};
+ghost use Rattle.cg_certcheck_def.specs.Pass.{in_front as in_front_of, no_fields as no_fields_at};
+
+use crate::got::{Got, copied_marks, made};
+use crate::source::{Cursor, Source};
+use cg_base::{Items, Memory, Name, Part, Place, Sigil, Ty};
+use cg_core::{Deriv, FieldTerm, Form, Mark, Node, Typed};
+use cg_check_pieces::{add_core, add_part, add_tree, turned};
+use std::alloc::Global;
+
+/// What the fields of a record come to, the last one first: their types by name, their cores, and their derivations; and where the pass
+/// stands behind the last of them.
+pub struct Fields {
+    pub parts: Items<Part>,
+    pub cores: Items<FieldTerm<Typed>>,
+    pub trees: Items<Deriv>,
+    pub at: Cursor,
+}
+
+impl Drop for Fields {
+    fn drop(self) {
+        let Fields {
+            parts,
+            cores,
+            trees,
+            at: _,
+        } = self;
+        drop(parts);
+        drop(cores);
+        drop(trees);
+    }
+}
+
+// Equal mark strings.
+fn copied_strings(alloc: Global, strings: &[Items<Mark>]) -> Result<Items<Items<Mark>>, Memory>
+    ensures { IfOk result (λ list. list ≡ strings.now) }
+{
+    let mut list = Items::new(alloc);
+    for string in strings {
+        list.push(copied_marks(alloc, string.as_slice())?)?;
+    }
+    Ok(list)
+}
+
+impl Fields {
+    // In the order of the fields: their types, their cores, and their derivations.
+    fn apart(self) -> (Items<Part>, Items<FieldTerm<Typed>>, Items<Deriv>)
+        ensures parts { to_parts (map part_of result.0) ≡ parts_back self.parts }
+        ensures cores { to_named (map the_core_field result.1) ≡ cores_back self.cores }
+        ensures trees { to_derivations (map derivation_of result.2) ≡ trees_back self.trees }
+    {
+        let Fields {
+            parts,
+            cores,
+            trees,
+            at: _,
+        } = self;
+        (turned(parts), turned(cores), turned(trees))
+    }
+}
+
+/// Puts a field in front of the later ones. Want of memory is its one refusal.
+pub fn put_in_front(
+    source: &Source,
+    name: &Name,
+    got: Got,
+    later: &mut Fields,
+) -> Result<(), Memory>
+    ensures { IfOk result (λ _. fields_in source.now.nodes.now later.new ≡ in_front_of name.now (got_in source.now.nodes.now got) (fields_in source.now.nodes.now later.old)) }
+{
+    add_part(source.alloc, name, got.ty(), &mut later.parts)?;
+    let (core, tree) = got.apart();
+    add_core(source.alloc, name, core, &mut later.cores)?;
+    add_tree(tree, &mut later.trees)?;
+    Ok(())
+}
+
+/// What no fields come to, where the pass stands here. It takes no memory.
+#[tactic(auto, using(cg_check_pieces::proofs::FieldSteps::none_steps))]
+pub fn no_fields(source: &Source, at: Cursor) -> Fields
+    ensures { fields_in source.now.nodes.now result ≡ no_fields_at (cursor_of source.now.nodes.now at) }
+{
+    Fields {
+        parts: Items::new(source.alloc),
+        cores: Items::new(source.alloc),
+        trees: Items::new(source.alloc),
+        at,
+    }
+}
+
+// A record's derivation.
+fn record_tree(alloc: Global, strings: &[Items<Mark>], parts: Items<Deriv>) -> Result<Deriv, Memory>
+    ensures { IfOk result (λ tree. derivation_of tree ≡ derivation nodes.Struct strings.now (to_derivations (map derivation_of parts))) }
+{
+    let marks = copied_strings(alloc, strings)?;
+    Ok(Deriv {
+        node: Node::Struct,
+        marks,
+        parts,
+    })
+}
+
+/// A record of this type, with the mark strings that the certificate lists between its fields. Want of memory is its one refusal.
+pub fn struct_node(
+    source: &Source,
+    strings: &[Items<Mark>],
+    place: Place,
+    ty: Ty,
+    fields: Fields,
+) -> Result<Got, Memory>
+    ensures { IfOk result (λ got. got_in source.now.nodes.now got ≡ forms.struct_node strings.now place (type_of ty) (fields_in source.now.nodes.now fields)) }
+{
+    let at = fields.at;
+    let (_, cores, trees) = fields.apart();
+    let tree = record_tree(source.alloc, strings, trees)?;
+    made(source, place, ty, Form::Struct(cores), tree, at)
+}
+
+/// The same of the type that its fields make. Want of memory is its one refusal.
+pub fn record_node(
+    source: &Source,
+    strings: &[Items<Mark>],
+    place: Place,
+    fields: Fields,
+) -> Result<Got, Memory>
+    ensures { IfOk result (λ got. got_in source.now.nodes.now got ≡ forms.struct_node strings.now place (record_of (fields_in source.now.nodes.now fields).parts U) (fields_in source.now.nodes.now fields)) }
+{
+    let at = fields.at;
+    let (parts, cores, trees) = fields.apart();
+    let tree = record_tree(source.alloc, strings, trees)?;
+    let ty = Ty::Fields(parts, Sigil::U);
+    made(source, place, ty, Form::Struct(cores), tree, at)
+}

@@ -1,0 +1,4 @@
+pub mod Pass
+pub mod NormalForm
+pub mod Kept
+pub mod Uses

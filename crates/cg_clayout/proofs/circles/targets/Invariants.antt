@@ -1,6 +1,0 @@
-use Rattle.std.proofs.Common.{◌≡◌, ◌++◌, drop}
-use Rattle.cg_clayout.specs.Tables.{targets}
-use Rattle.cg_clayout.proofs.circles.targets.Given as goal
-
-abbrev pub invariant-loop-member : goal.invariant-loop-member
-invariant-loop-member l = l.found.items ++ targets l.names (drop l.member-index l.members) ≡ targets l.names l.members

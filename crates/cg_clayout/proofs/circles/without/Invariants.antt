@@ -1,8 +1,0 @@
-use Rattle.std.proofs.Common.{◌≡◌, ◌++◌, drop}
-use Rattle.cg_circles.specs.Orders.{lists}
-use Rattle.cg_clayout.specs.Tables.{counted, slices}
-use Rattle.cg_clayout.proofs.circles.without.Given as goal
-
-abbrev pub invariant-loop-at : goal.invariant-loop-at
-invariant-loop-at l =
-    slices l.kept.items ++ counted (lists l.edges) l.at (slices (drop l.at l.structs)) ≡ counted (lists l.edges) 0 (slices l.structs)

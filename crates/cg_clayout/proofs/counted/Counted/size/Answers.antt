@@ -1,6 +1,0 @@
-use Rattle.std.proofs.Common.{◌∙◌}
-use Rattle.cg_clayout.proofs.Members.{kind_size}
-use Rattle.cg_clayout.proofs.counted.Counted.size.Goals as goal
-
-pub returns : goal.returns
-returns c = λ ss is. c.slots.ensures ∙ kind_size ss c.args.self is

@@ -1,6 +1,0 @@
-use Rattle.std.proofs.Common.{◌≡◌, ◌+◌, drop}
-use Rattle.cg_clayout.specs.Tables.{slots}
-use Rattle.cg_clayout.proofs.sizes.sum.Given as goal
-
-abbrev pub invariant-loop-member : goal.invariant-loop-member
-invariant-loop-member l = l.sum + slots l.names l.sizes (drop l.member-index l.members) ≡ slots l.names l.sizes l.members

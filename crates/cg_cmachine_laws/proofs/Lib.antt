@@ -1,0 +1,6 @@
+pub mod BuiltIns
+pub mod Depth
+pub mod LayoutLaws
+pub mod Names
+pub mod NeverAstray
+pub mod Rows

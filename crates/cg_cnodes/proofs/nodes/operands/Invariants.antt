@@ -1,7 +1,0 @@
-use Rattle.std.proofs.Common.{◌≡◌, map, take}
-use Rattle.cg_lower_laws.specs.Places.{operand}
-use Rattle.cg_cnodes.specs.Views.{place_of}
-use Rattle.cg_cnodes.proofs.nodes.operands.Given as goal
-
-abbrev pub invariant-loop-value : goal.invariant-loop-value
-invariant-loop-value l = l.operands ≡ map operand (map place_of (take l.value-index l.value-items))

@@ -1,4 +1,0 @@
-mod Apart
-pub mod CallSteps
-pub mod CollectSteps
-mod NodeSteps

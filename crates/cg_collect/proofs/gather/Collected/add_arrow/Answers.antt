@@ -1,6 +1,0 @@
-use Rattle.std.proofs.Common.{refl}
-use Rattle.cg_collect.proofs.CollectSteps.{grown_arrow}
-use Rattle.cg_collect.proofs.gather.Collected.add_arrow.Goals as goal
-
-pub returns : goal.returns
-returns c = grown_arrow _ _ _ _ _ refl c.in_ok-add_arrow.ensures.arrows c.in_ok-add_arrow.ensures.list

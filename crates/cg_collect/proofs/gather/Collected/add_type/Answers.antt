@@ -1,6 +1,0 @@
-use Rattle.std.proofs.Common.{refl}
-use Rattle.cg_collect.proofs.CollectSteps.{grown_type}
-use Rattle.cg_collect.proofs.gather.Collected.add_type.Goals as goal
-
-pub returns : goal.returns
-returns c = grown_type _ _ _ _ _ refl c.in_ok-add.ensures.covered c.in_ok-add.ensures.kept c.in_ok-add.ensures.table

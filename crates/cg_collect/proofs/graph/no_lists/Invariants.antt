@@ -1,6 +1,0 @@
-use Rattle.std.proofs.Common.{◌≡◌, [], replicate}
-use Rattle.cg_circles.specs.Orders.{lists}
-use Rattle.cg_collect.proofs.graph.no_lists.Given as goal
-
-abbrev pub invariant-loop-at : goal.invariant-loop-at
-invariant-loop-at l = lists l.vectors.items ≡ replicate l._at []

@@ -1,4 +1,0 @@
-pub mod Collected
-pub mod Copies
-pub mod Calls
-pub mod Results

@@ -1,9 +1,0 @@
-use Rattle.std.proofs.Common.{◌≡◌, ◌++◌, length, take, drop}
-use Rattle.cg_context.specs.Observed.{see}
-use Rattle.cg_context.specs.View.{entries_of}
-use Rattle.cg_context.proofs.observed.observe.Given as goal
-
-abbrev pub invariant-loop-i : goal.invariant-loop-i
-invariant-loop-i l =
-    (length l.context.items ≡ length l.initial.context.items)
-    × (entries_of l.context.items ≡ take l.i (see l.seen.items (entries_of l.initial.context.items)) ++ drop l.i (entries_of l.initial.context.items))

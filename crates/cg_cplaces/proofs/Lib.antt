@@ -1,4 +1,0 @@
-mod ArrowSteps
-mod HintSteps
-mod InstanceSteps
-mod KeySteps

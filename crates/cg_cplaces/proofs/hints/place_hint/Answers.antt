@@ -1,6 +1,0 @@
-use Rattle.std.proofs.Common.{◌∙◌}
-use Rattle.cg_cplaces.proofs.KeySteps.{lookup_same}
-use Rattle.cg_cplaces.proofs.hints.place_hint.Goals as goal
-
-pub returns : goal.returns
-returns c = c.copied.ensures ∙ c.get.ensures.value ∙ lookup_same c.args.key c.args.places.now.entries

@@ -1,4 +1,0 @@
-use Rattle.cg_cresolve.proofs.names.Named.callee.Goals as goal
-
-pub returns-in-Some-find : goal.returns-in-Some-find
-returns-in-Some-find c = c.own.ensures

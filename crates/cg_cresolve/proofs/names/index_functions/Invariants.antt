@@ -1,6 +1,0 @@
-use Rattle.std.proofs.Common.{map, take}
-use Rattle.cg_cresolve.specs.Indexes.{Indexes}
-use Rattle.cg_cresolve.proofs.names.index_functions.Given as goal
-
-abbrev pub invariant-loop-at : goal.invariant-loop-at
-invariant-loop-at l = Indexes (map (λ f. f.name) (take l.at l.functions)) l.names

@@ -1,4 +1,0 @@
-use Rattle.cg_cresolve.proofs.resolve.push_code.Goals as goal
-
-pub returns : goal.returns
-returns c = record { last = _; holds = c.in_ok-code.ensures; behind = c.in_ok-push.ensures.items }

@@ -1,5 +1,0 @@
-use Rattle.std.proofs.Common.{refl}
-use Rattle.cg_cresolve.proofs.resolve.push_line.Goals as goal
-
-pub returns-clause-line : goal.returns-clause-line
-returns-clause-line c = record { last = _; holds = record { same = refl; stands = c.in_ok-action.ensures.does }; behind = c.in_ok-push.ensures.items }

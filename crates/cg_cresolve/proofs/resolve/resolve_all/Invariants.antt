@@ -1,7 +1,0 @@
-use Rattle.std.proofs.Common.{take}
-use Rattle.std.specs.List.{AllZip}
-use Rattle.cg_cresolve.specs.Resolutions.{IsCode}
-use Rattle.cg_cresolve.proofs.resolve.resolve_all.Given as goal
-
-abbrev pub invariant-loop-function : goal.invariant-loop-function
-invariant-loop-function l = AllZip (IsCode l.named) (take l.function-index l.functions) l.codes.items

@@ -1,5 +1,0 @@
-use Rattle.cg_cresolve.specs.Variables.{scope_at}
-use Rattle.cg_cresolve.proofs.resolve.switch.Goals as goal
-
-pub returns-clause-does : goal.returns-clause-does
-returns-clause-does c = (c.operand.ensures, c.in_ok-cases.ensures.cases c.args.setting.now.whole (scope_at c.args.setting.now))

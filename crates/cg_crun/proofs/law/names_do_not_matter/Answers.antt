@@ -1,5 +1,0 @@
-use Rattle.cg_crun.proofs.Names.{names_do_not_matter}
-use Rattle.cg_crun.proofs.law.names_do_not_matter.Goals as goal
-
-pub returns : goal.returns
-returns c = names_do_not_matter

@@ -1,8 +1,0 @@
-pub mod Declared
-pub mod Growth
-pub mod Hosts
-pub mod Layers
-pub mod Numbers
-pub mod Plains
-pub mod Rows
-pub mod Visits

@@ -1,6 +1,0 @@
-use Rattle.std.proofs.Common.{◌≡◌, take}
-use Rattle.cg_lower_laws.specs.Structs.{structs_in}
-use Rattle.cg_cstructs.proofs.structs.Structs.declarations.Given as goal
-
-abbrev pub invariant-loop-number : goal.invariant-loop-number
-invariant-loop-number l = l.structs ≡ take l.number (structs_in l.self.table)

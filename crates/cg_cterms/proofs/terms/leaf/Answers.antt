@@ -1,5 +1,0 @@
-use Rattle.cg_cterms.proofs.GroupSteps.{no_leaf}
-use Rattle.cg_cterms.proofs.terms.leaf.Goals as goal
-
-pub unreachable-requires : goal.unreachable-requires
-unreachable-requires c = let d = c.in_default in let e = no_leaf c.args.term.now.form d.not-Var d.not-Unit d.not-Bool d.not-Lit d.not-Fun in absurd (cc)

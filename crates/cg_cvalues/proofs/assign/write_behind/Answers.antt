@@ -1,5 +1,0 @@
-use Rattle.cg_cvalues.specs.Values.{value_of}
-use Rattle.cg_cvalues.proofs.assign.write_behind.Goals as goal
-
-pub returns-in-None-clause-stuck : goal.returns-in-None-clause-stuck
-returns-in-None-clause-stuck g c = rw c.in-None.is (c.memberless.ensures (value_of c.args.value))

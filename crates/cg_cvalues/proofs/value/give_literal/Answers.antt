@@ -1,6 +1,0 @@
-use Rattle.std.proofs.Common.{sym}
-use Rattle.cg_cvalues.proofs.Giving.{size_word}
-use Rattle.cg_cvalues.proofs.value.give_literal.Goals as goal
-
-pub returns-in-Word-clause-many : goal.returns-in-Word-clause-many
-returns-in-Word-clause-many c = rw c.in-Word.is (sym (size_word c.in-Word.word))

@@ -1,0 +1,11 @@
+use Rattle.std.proofs.Common.{Bor, ◌≡◌, map, take}
+use Rattle.std.specs.List.{flat_map}
+use Rattle.cg_driver_cells.specs.Cells.{places_at}
+use Rattle.cg_core.specs.declared.term.Term.{Term}
+use Rattle.cg_core.specs.declared.term.Typed.{Typed}
+use Rattle.cg_core.specs.Kernels.{the_core}
+use Rattle.cg_driver_cells.proofs.reach.mentions_in.Given as goal
+
+abbrev pub invariant-loop-node : goal.invariant-loop-node
+invariant-loop-node l =
+    (l.targets.items ≡ flat_map (places_at l.fn.places.list) (map (λ (n : Bor (Term Typed)). the_core n.now) (take l.node-index l.node-items))) × (l.places ≡ l.fn.places)

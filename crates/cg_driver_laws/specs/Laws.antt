@@ -1,0 +1,97 @@
+-- The C of the instances of a source (docs/LANGUAGE.md, "The C of instances"): it can be printed, and without cells it runs to what evaluation
+-- gives. And what is known of an entry (docs/LANGUAGE.md, "Entries").
+use Rattle.std.specs.Prelude.{◌≡◌, ℕ, ◌+◌, ◌*◌, ◌^◌, ◌<◌, ◌≤◌, Bool, true, IsTrue, List, [], map, slice_get, Some}
+use Rattle.cg_base.specs.declared.fun.Fun.TheVariants.{User}
+use Rattle.cg_base.specs.declared.kind.Word.TheVariants.{U32}
+use Rattle.cg_base.specs.Types.{Tau, arrow, word}
+use Rattle.cg_driver_cells.specs.Cells.{ReachesCells}
+use Rattle.cg_lower.specs.Collected.{Copy, list_of}
+use Rattle.cg_core.specs.Kernels.{Function}
+use Rattle.cg_ctree.specs.Spells.{IsPrintable}
+use Rattle.cg_ctree.specs.Trees.{Program as CText}
+use Rattle.cg_resolve_def.specs.Desugar.{deepest_body}
+use Rattle.cg_driver_entry.specs.Entries.{ReachesAbstract}
+use Rattle.cg_heap.specs.NoForeignHeap.{no_foreign_heap}
+use Rattle.cg_inst.specs.Judged.{core_in, functions_in}
+use Rattle.cg_inst.specs.Lists.{Cores, IsList}
+use Rattle.cg_inst_laws.specs.Laws.{entry_of}
+use Rattle.cg_lower_def.specs.Lowered.{function_name}
+use Rattle.cg_lower.specs.Promises.{CanBePrinted, IsProgramOf, IsSimulated}
+use Rattle.cg_eval_def.specs.Evaluation.{evaluation, outcome, stuck}
+use Rattle.cg_eval_def.specs.Foreigns.{table_of}
+use Rattle.cg_typing.specs.declared.checked.Checked.{Checked}
+use Rattle.cg_typing.specs.Instances.{Instance, IsIn}
+use Rattle.cg_update.specs.Calls.{Program}
+use Rattle.cg_value.specs.Fits.{fits}
+use Rattle.cg_value.specs.Foreign.{first_order}
+use Rattle.cg_value.specs.NoForeign.{no_foreign}
+use Rattle.cg_value.specs.Values.{Val, function, number}
+use Rattle.cg_driver_cells.specs.WithoutCells.{IsWithoutCells}
+use Rattle.cg_cmachine_def.specs.WordRuns.{RunsTo}
+
+-- the copies of a list of instances
+abbrev pub copies_over : List Function → Cores → List Instance → List Copy
+copies_over functions cores list = map (λ x. (x, entry_of functions cores x)) list
+
+abbrev pub copies_in : Checked → List Instance → List Copy
+copies_in checked list = copies_over (functions_in checked) (core_in checked) list
+
+-- the program of the update semantics that the instances of a source make, over no table
+abbrev pub program_over : List Function → Cores → List Instance → Program
+program_over functions cores list = record { functions = functions; list = list; entries = map (entry_of functions cores) list; foreign = no_foreign; on_heaps = no_foreign_heap }
+
+-- What a C function gives on a word, where evaluation gives this value at this cost: the same word within 32k + 32 steps, and no cell is
+-- made or freed.
+abbrev pub RunsAlike : CText → List ℕ → ℕ → Val → ℕ → Type 0
+RunsAlike program name arg value cost = (r : ℕ) × (value ≡ number r) × (r < 2 ^ 32) × (left : ℕ) × RunsTo program name arg (32 * cost + 32) r left
+
+-- A function without type variables has an instance in the list of a source.
+abbrev pub FunctionsStand : Type 0
+FunctionsStand =
+    (checked : Checked) (list : List Instance) → IsList (functions_in checked) (core_in checked) list
+    → (i : ℕ) (f : Function) → slice_get (functions_in checked) i ≡ Some f → f.vars ≡ [] → IsIn list (record { fun = User i; types = [] })
+
+-- The C program of the instances of a source can be printed, where no body is deeper than 2,048.
+abbrev pub SourcesPrint : Type 0
+SourcesPrint =
+    (checked : Checked) (list : List Instance) (program : CText) → IsList (functions_in checked) (core_in checked) list → deepest_body (functions_in checked) ≤ 2048
+    → CanBePrinted (copies_in checked list) program → IsPrintable program
+
+-- The instances of a source make such a program, without links.
+abbrev pub SourcesArePrograms : Type 0
+SourcesArePrograms =
+    (checked : Checked) (list : List Instance) → IsList (functions_in checked) (core_in checked) list
+    → ∥ IsProgramOf (program_over (functions_in checked) (core_in checked) list) [] (copies_in checked list) ∥₁
+
+-- Where evaluation of a function from words to words gives a value on a word, and its instance stands among bodies without cells, the C function
+-- of this instance gives the same.
+abbrev pub UnboxedRun : Type 0
+UnboxedRun =
+    (checked : Checked) (list : List Instance) (program : CText) → IsList (functions_in checked) (core_in checked) list → IsSimulated (copies_in checked list) program
+    → (among : ℕ → Bool) → IsWithoutCells list among (copies_in checked list)
+    → (at i n k x : ℕ) (v : Val) → slice_get list at ≡ Some (record { fun = User i; types = [] }) → among at ≡ true
+    → (entry_of (functions_in checked) (core_in checked) (record { fun = User i; types = [] })).ty ≡ arrow (word U32) (word U32) → x < 2 ^ 32
+    → evaluation (table_of no_foreign checked) n (function (User i) []) (number x) ≡ Some (v, k)
+    → RunsAlike program (function_name at) x v k
+
+-- an instance whose body needs cells is the one at a place, or is reached from it by mentions in bodies
+abbrev pub CopiesReachCells : List Copy → ℕ → Type 0
+CopiesReachCells copies at = ReachesCells (list_of copies) (map (λ (c : Copy). c.1.body) copies) at
+
+-- Evaluation of a function without type variables that reaches no abstract function is never stuck, on a value that fits what it takes and
+-- has in it neither functions nor users' abstract values.
+abbrev pub EntriesAreSound : Type 0
+EntriesAreSound =
+    (checked : Checked) (i n : ℕ) (f : Function) (a b : Tau) (v : Val) → slice_get (functions_in checked) i ≡ Some f → f.vars ≡ [] → f.ty.ty ≡ arrow a b
+    → (ReachesAbstract (functions_in checked) i → ⊥) → IsTrue (fits (first_order no_foreign) a v)
+    → outcome (table_of no_foreign checked) n (function (User i) []) v ≡ stuck → ⊥
+
+-- Where evaluation of a function from words to words that reaches no abstract function gives a value on a word, and its instance reaches no
+-- body that needs cells, the C function of this instance gives the same.
+abbrev pub EntriesRun : Type 0
+EntriesRun =
+    (checked : Checked) (list : List Instance) (program : CText) → IsList (functions_in checked) (core_in checked) list → IsSimulated (copies_in checked list) program
+    → (at i n k x : ℕ) (f : Function) (v : Val) → slice_get list at ≡ Some (record { fun = User i; types = [] }) → slice_get (functions_in checked) i ≡ Some f
+    → f.ty.ty ≡ arrow (word U32) (word U32) → (ReachesAbstract (functions_in checked) i → ⊥) → (CopiesReachCells (copies_in checked list) at → ⊥)
+    → x < 2 ^ 32 → evaluation (table_of no_foreign checked) n (function (User i) []) (number x) ≡ Some (v, k)
+    → RunsAlike program (function_name at) x v k

@@ -1,0 +1,35 @@
+// The laws of the C of sources, and of their entries.
+ghost use Rattle.cg_driver_laws.specs.Laws.{EntriesAreSound, EntriesRun, FunctionsStand, SourcesArePrograms, SourcesPrint, UnboxedRun};
+
+/// A function without type variables has an instance in the list of a source.
+pub fn functions_stand()
+    ensures { FunctionsStand }
+{}
+
+/// The C program of the instances of a source can be printed, where no body is deeper than 2,048.
+pub fn sources_print()
+    ensures { SourcesPrint }
+{}
+
+/// The instances of a source make a program of the update semantics over no table, whose links may be none.
+pub fn sources_are_programs()
+    ensures { SourcesArePrograms }
+{}
+
+/// Where evaluation of a function from words to words gives a value on a word at cost k, and its instance stands among bodies without cells,
+/// the C function of this instance gives the same word within 32k + 32 steps, and makes and frees no cell.
+pub fn unboxed_run()
+    ensures { UnboxedRun }
+{}
+
+/// Evaluation of a function without type variables that reaches no abstract function is never stuck, on an argument that fits and has in it
+/// neither functions nor users' abstract values.
+pub fn entries_are_sound()
+    ensures { EntriesAreSound }
+{}
+
+/// Where evaluation of a function from words to words that reaches no abstract function gives a value on a word at cost k, and its instance
+/// reaches no body that needs cells, the C function of this instance gives the same word within 32k + 32 steps, and makes and frees no cell.
+pub fn entries_run()
+    ensures { EntriesRun }
+{}

@@ -1,0 +1,10 @@
+use Rattle.std.proofs.Common.{arith}
+use Rattle.cg_eval_machine.specs.Machine.{rest, context_of}
+use Rattle.cg_value.specs.Values.{value_of}
+use Rattle.cg_eval_machine.proofs.Steps as steps
+use Rattle.cg_eval_machine.proofs.calls.open.Goals as goal
+
+pub returns-clause-gives : goal.returns-clause-gives
+returns-clause-gives c = λ table.
+    let e = steps.on_open table c.args.at c.args.body (value_of c.args.value) (rest table c.args.m.now.frames.items) (context_of c.args.m.now) c.args.m.now.left in
+    grind (arith, c.with_two.ensures.gives table)

@@ -1,0 +1,12 @@
+pub mod Laws
+pub mod NumberSteps
+pub mod Places
+pub mod ReachSteps
+pub mod WalkSteps
+mod Found
+pub mod Marked
+mod Before
+mod BucketSteps
+mod Chains
+pub mod OrderSteps
+pub mod Standing

@@ -1,0 +1,10 @@
+pub mod Circles
+pub mod Numbers
+pub mod Orders
+pub mod Reached
+pub mod Walks
+pub mod CircleLaws
+pub mod ReachLaws
+pub mod Reach
+pub mod RankLaws
+pub mod Ranks

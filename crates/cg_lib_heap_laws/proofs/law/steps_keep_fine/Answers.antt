@@ -1,5 +1,0 @@
-use Rattle.cg_lib_heap_laws.proofs.Changes.{step_fine}
-use Rattle.cg_lib_heap_laws.proofs.law.steps_keep_fine.Goals as goal
-
-pub returns : goal.returns
-returns c = step_fine

@@ -1,0 +1,7 @@
+use Rattle.std.proofs.Common.{arith, refl}
+use Rattle.cg_core.specs.declared.term.Form.{the_lemmas}
+use Rattle.cg_lower.proofs.CollectSteps.{core_is, grown_empty}
+use Rattle.cg_lower.proofs.gather.Collected.add_call.Goals as goal
+
+pub returns-in-Fun : goal.returns-in-Fun
+returns-in-Fun c = grown_empty _ _ _ _ refl (grind (arith, core_is, the_lemmas, c.in-Fun.is))

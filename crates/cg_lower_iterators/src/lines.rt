@@ -1,0 +1,240 @@
+// Statements of iterators, as data and written.
+#![tactic(auto, using(crate::proofs::Written::written_steps))]
+
+ghost use Rattle.std.specs.Prelude.{◌≡◌, ◌++◌, [], ◌∷◌, IfOk, OnOk, map};
+ghost use Rattle.cg_cgen.specs.Code.{inner as inner_of};
+ghost use Rattle.cg_cmachine_def.specs.BuiltIns.{array_call, width_text};
+ghost use Rattle.cg_ctree.specs.declared.tree.CRhs.TheVariants.{Binary, Opnd};
+ghost use Rattle.cg_ctree.specs.Trees.{assign, block_of, branch, stmt_of, while};
+ghost use Rattle.cg_lower_def.specs.Lowered.{dispatch_name};
+ghost use Rattle.cg_lower_iterators.specs.declared.lines.Line.TheVariants.{Put, Where};
+ghost use Rattle.cg_lower_iterators.specs.declared.spots.Spot.TheVariants.{Given, Local};
+ghost use Rattle.cg_lower_iterators.specs.Lines.{calling, line_of, operand_at, right_of, target_at};
+
+use crate::spots::{Spot, operand, operands, target};
+use cg_base::{Items, Memory, Name, Word};
+use cg_lower_nodes::numbered;
+use cg_ctree::{COp, COpnd, CRhs, CStmt};
+use std::alloc::Global;
+
+// What is assigned: what is at a spot, an operation in a word (the first is that of its result), the length of the array, an element of it,
+// or what the function of an arrow type gives of an item.
+#[derive(Clone, Copy)]
+pub(crate) enum Right {
+    At(Spot),
+    Binary(COp, Word, Word, Spot, Spot),
+    Length(Word),
+    Get(Word, Spot),
+    Turn(usize, Spot),
+}
+
+// A statement: it assigns, puts an element at an index, or assigns where a flag says so.
+#[derive(Clone, Copy)]
+pub(crate) enum Line {
+    Set(Spot, Right),
+    Put(Word, Spot, Spot),
+    Where(Spot, Spot, Right),
+}
+
+// The word that operations on a word are computed in.
+fn inner(word: Word) -> Word
+    ensures { result ≡ inner_of word }
+{
+    match word {
+        Word::U8 => Word::U32,
+        Word::U16 => Word::U32,
+        Word::U32 => Word::U32,
+        Word::U64 => Word::U64,
+    }
+}
+
+// How wide a word is, in decimal.
+fn width(word: Word) -> &'static [u8]
+    ensures { result.now ≡ width_text word }
+{
+    match word {
+        Word::U8 => b"8".as_slice(),
+        Word::U16 => b"16".as_slice(),
+        Word::U32 => b"32".as_slice(),
+        Word::U64 => b"64".as_slice(),
+    }
+}
+
+// The name of a built-in on arrays of a word.
+fn array_name(alloc: Global, word: Word, action: &[u8]) -> Result<Name, Memory>
+    ensures { IfOk result (λ x. x ≡ array_call word action.now) }
+{
+    let mut bytes = Vec::new(alloc);
+    bytes.extend_from_slice(b"cg_w")?;
+    bytes.extend_from_slice(width(word))?;
+    bytes.push(b'_')?;
+    bytes.extend_from_slice(action)?;
+    Name::new(alloc, bytes.as_slice())
+}
+
+// What is at a spot.
+fn read(alloc: Global, from: Spot) -> Result<CRhs, Memory>
+    ensures { IfOk result (λ r. r ≡ Opnd (operand_at from)) }
+{
+    Ok(CRhs::Opnd(operand(alloc, from)?))
+}
+
+// What an operation gives.
+fn computed(
+    alloc: Global,
+    op: COp,
+    outer: Word,
+    word: Word,
+    left: Spot,
+    right: Spot,
+) -> Result<CRhs, Memory>
+    ensures { IfOk result (λ r. r ≡ Binary outer (inner_of word) op (operand_at left) (operand_at right)) }
+{
+    let left = operand(alloc, left)?;
+    let right = operand(alloc, right)?;
+    Ok(CRhs::Binary(outer, inner(word), op, left, right))
+}
+
+// What a function gives.
+fn called(alloc: Global, name: Name, spots: &[Spot]) -> Result<CRhs, Memory>
+    ensures { IfOk result (λ r. r ≡ calling name spots.now) }
+{
+    let operands = operands(alloc, spots)?;
+    Ok(CRhs::Call(name, operands))
+}
+
+// What a built-in on arrays gives.
+fn called_on_array(alloc: Global, word: Word, action: &[u8], spots: &[Spot]) -> Result<CRhs, Memory>
+    ensures { IfOk result (λ r. r ≡ calling (array_call word action.now) spots.now) }
+{
+    let name = array_name(alloc, word, action)?;
+    called(alloc, name, spots)
+}
+
+// What the function of an arrow type gives.
+fn turned(alloc: Global, number: usize, item: Spot) -> Result<CRhs, Memory>
+    ensures { IfOk result (λ r. r ≡ calling (dispatch_name number) (Given 3 ∷ item ∷ [])) }
+{
+    let name = numbered(alloc, b'd', number)?;
+    called(alloc, name, &[Spot::Given(3), item])
+}
+
+// What is assigned, by its kind.
+fn right_side(alloc: Global, right: Right) -> Result<CRhs, Memory>
+    ensures { IfOk result (λ r. r ≡ right_of right) }
+{
+    match right {
+        Right::At(from) => read(alloc, from),
+        Right::Binary(op, outer, word, left, right) => {
+            computed(alloc, op, outer, word, left, right)
+        }
+        Right::Length(word) => called_on_array(alloc, word, b"length", &[Spot::Given(0)]),
+        Right::Get(word, at) => called_on_array(alloc, word, b"get", &[Spot::Given(0), at]),
+        Right::Turn(number, item) => turned(alloc, number, item),
+    }
+}
+
+// The statement that assigns.
+fn assigned(alloc: Global, to: Spot, right: Right) -> Result<CStmt, Memory>
+    ensures { IfOk result (λ s. stmt_of s ≡ assign (target_at to) (right_of right)) }
+{
+    let to = target(alloc, to)?;
+    let right = right_side(alloc, right)?;
+    Ok(CStmt::Assign(to, right))
+}
+
+// The statement that puts an element.
+fn put(alloc: Global, word: Word, at: Spot, from: Spot) -> Result<CStmt, Memory>
+    ensures { IfOk result (λ s. stmt_of s ≡ line_of (Put word at from)) }
+{
+    let name = array_name(alloc, word, b"put")?;
+    let operands = operands(alloc, &[Spot::Given(0), at, from])?;
+    Ok(CStmt::Call(name, operands))
+}
+
+// The statement that assigns where a flag says so.
+fn assigned_where(alloc: Global, flag: Spot, to: Spot, right: Right) -> Result<CStmt, Memory>
+    ensures { IfOk result (λ s. stmt_of s ≡ line_of (Where flag to right)) }
+{
+    let flag = operand(alloc, flag)?;
+    let mut yes = Items::new(alloc);
+    yes.push(assigned(alloc, to, right)?)?;
+    Ok(CStmt::If(flag, yes, Items::new(alloc)))
+}
+
+// The statement of a line.
+fn statement(alloc: Global, line: Line) -> Result<CStmt, Memory>
+    ensures { IfOk result (λ s. stmt_of s ≡ line_of line) }
+{
+    match line {
+        Line::Set(to, right) => assigned(alloc, to, right),
+        Line::Put(word, at, from) => put(alloc, word, at, from),
+        Line::Where(flag, to, right) => assigned_where(alloc, flag, to, right),
+    }
+}
+
+// Writes the statements of lines behind others.
+fn write(alloc: Global, stmts: &mut Items<CStmt>, lines: &[Line]) -> Result<(), Memory>
+    ensures { OnOk result (map stmt_of stmts.new ≡ map stmt_of stmts.old ++ map line_of lines.now) }
+{
+    for line in lines {
+        stmts.push(statement(alloc, *line)?)?;
+    }
+    Ok(())
+}
+
+// The statements of lines, and of those that come behind them.
+pub(crate) fn written(alloc: Global, lines: &[Line], more: &[Line]) -> Result<Items<CStmt>, Memory>
+    ensures { IfOk result (λ ss. map stmt_of ss ≡ map line_of lines.now ++ map line_of more.now) }
+{
+    let mut stmts = Items::new(alloc);
+    write(alloc, &mut stmts, lines)?;
+    write(alloc, &mut stmts, more)?;
+    Ok(stmts)
+}
+
+// The statements of lines, with a loop behind them that goes on as long as x2 says so.
+pub(crate) fn repeated(
+    alloc: Global,
+    lines: &[Line],
+    more: &[Line],
+    turn: Items<CStmt>,
+) -> Result<Items<CStmt>, Memory>
+    ensures { IfOk result (λ ss. map stmt_of ss ≡ (map line_of lines.now ++ map line_of more.now) ++ while (operand_at (Local 2)) (block_of turn) ∷ []) }
+{
+    let flag = operand(alloc, Spot::Local(2))?;
+    let mut stmts = written(alloc, lines, more)?;
+    stmts.push(CStmt::While(flag, turn))?;
+    Ok(stmts)
+}
+
+// The same, with lines behind the loop.
+pub(crate) fn repeated_before(
+    alloc: Global,
+    lines: &[Line],
+    more: &[Line],
+    turn: Items<CStmt>,
+    ends: &[Line],
+) -> Result<Items<CStmt>, Memory>
+    ensures { IfOk result (λ ss. map stmt_of ss ≡ ((map line_of lines.now ++ map line_of more.now) ++ while (operand_at (Local 2)) (block_of turn) ∷ []) ++ map line_of ends.now) }
+{
+    let mut stmts = repeated(alloc, lines, more, turn)?;
+    write(alloc, &mut stmts, ends)?;
+    Ok(stmts)
+}
+
+// The statements of lines, with a choice behind them.
+pub(crate) fn chosen(
+    alloc: Global,
+    lines: &[Line],
+    flag: Spot,
+    yes: Items<CStmt>,
+    no: Items<CStmt>,
+) -> Result<Items<CStmt>, Memory>
+    ensures { IfOk result (λ ss. map stmt_of ss ≡ map line_of lines.now ++ branch (operand_at flag) (block_of yes) (block_of no) ∷ []) }
+{
+    let flag = operand(alloc, flag)?;
+    let mut stmts = written(alloc, lines, &[])?;
+    stmts.push(CStmt::If(flag, yes, no))?;
+    Ok(stmts)
+}

@@ -1,0 +1,5 @@
+pub mod Added
+pub mod Plain
+pub mod Tables
+pub mod Found
+pub mod Hints

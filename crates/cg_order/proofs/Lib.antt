@@ -1,5 +1,0 @@
-mod Before
-mod BucketSteps
-mod Chains
-pub mod OrderSteps
-pub mod Standing

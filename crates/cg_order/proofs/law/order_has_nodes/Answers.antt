@@ -1,5 +1,0 @@
-use Rattle.cg_order.proofs.Standing.{has_nodes}
-use Rattle.cg_order.proofs.law.order_has_nodes.Goals as goal
-
-pub returns : goal.returns
-returns c = λ edges. has_nodes edges

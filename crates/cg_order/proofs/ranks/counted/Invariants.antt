@@ -1,7 +1,0 @@
-use Rattle.std.proofs.Common.{◌≡◌}
-use Rattle.cg_circles.specs.Orders.{lists}
-use Rattle.cg_order.specs.Ranks.{ranks_at}
-use Rattle.cg_order.proofs.ranks.counted.Given as goal
-
-abbrev pub invariant-loop-pass : goal.invariant-loop-pass
-invariant-loop-pass l = l.ranks.items ≡ ranks_at (lists l.edges) l._pass

@@ -1,7 +1,0 @@
-use Rattle.std.proofs.Common.{◌≡◌, take}
-use Rattle.cg_circles.specs.Orders.{lists}
-use Rattle.cg_order.specs.Ranks.{raised}
-use Rattle.cg_order.proofs.ranks.raise.Given as goal
-
-abbrev pub invariant-loop-targets : goal.invariant-loop-targets
-invariant-loop-targets l = l.next.items ≡ raised (lists (take l.targets-index l.edges)) l.ranks.items

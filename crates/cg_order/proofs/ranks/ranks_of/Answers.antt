@@ -1,7 +1,0 @@
-use Rattle.cg_circles.specs.Orders.{lists}
-use Rattle.cg_order.proofs.OrderSteps.{settled_by}
-use Rattle.cg_order.proofs.ranks.ranks_of.Goals as goal
-
-pub returns-then-branch : goal.returns-then-branch
-returns-then-branch c =
-    settled_by (lists c.args.edges.now) _ c.in_ok-ranks.ranks.items c.in_ok-are_settled.field-0 c.if-branch.true c.in_ok-are_settled.ensures

@@ -1,8 +1,0 @@
-use Rattle.cg_symbols.proofs.Exact.{is_exact}
-use Rattle.cg_parse_patterns.specs.Grammar.{SpellsPattern}
-use Rattle.cg_parse_patterns.specs.Plain.{plain_reader}
-use Rattle.cg_parse_patterns.proofs.Laws.{laws}
-use Rattle.cg_parse_patterns.proofs.law.whole_patterns_are_read_exactly.Goals as goal
-
-pub returns : goal.returns
-returns c = is_exact plain_reader SpellsPattern laws

@@ -1,4 +1,0 @@
-use Rattle.cg_parts.proofs.library.given_array.Goals as goal
-
-pub returns : goal.returns
-returns c = c.array.ensures _ c.given.ensures

@@ -1,4 +1,0 @@
-use Rattle.cg_parts.proofs.library.seq_break_type.Goals as goal
-
-pub returns : goal.returns
-returns c = c.looped.ensures _ c.broken-end.ensures c.broken.ensures

@@ -1,7 +1,0 @@
-use Rattle.cg_base.specs.declared.ty.Ty.{the_lemmas}
-use Rattle.cg_base.specs.Types.{to_parts, unit}
-use Rattle.cg_parts.proofs.library.stopped.Goals as goal
-
-pub returns : goal.returns
-unfolding to_parts
-returns c = λ t h. c.variant.ensures _ (c.add.ensures _ unit (c.one.ensures t h) (search the_lemmas))

@@ -1,5 +1,0 @@
-use Rattle.cg_reach.proofs.Marked.{marks_are_there}
-use Rattle.cg_reach.proofs.law.marks_are_there.Goals as goal
-
-pub returns : goal.returns
-returns c = marks_are_there

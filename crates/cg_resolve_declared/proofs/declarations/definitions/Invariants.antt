@@ -1,0 +1,6 @@
+use Rattle.std.proofs.Common.{take}
+use Rattle.cg_resolve_declared.specs.Views.{entries_in, AreDefinitions}
+use Rattle.cg_resolve_declared.proofs.declarations.definitions.Given as goal
+
+abbrev pub invariant-loop-item : goal.invariant-loop-item
+invariant-loop-item l = AreDefinitions (entries_in (take l.item-index l.items)) l.table

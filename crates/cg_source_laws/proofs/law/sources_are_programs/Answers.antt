@@ -1,5 +1,0 @@
-use Rattle.cg_source_laws.proofs.Whole.{sources_are_programs}
-use Rattle.cg_source_laws.proofs.law.sources_are_programs.Goals as goal
-
-pub returns : goal.returns
-returns c = sources_are_programs

@@ -1,7 +1,0 @@
-use Rattle.std.proofs.Common.{rules}
-use Rattle.cg_declared.specs.Tables.{has}
-use Rattle.cg_takes.proofs.head.Fields.has.Goals as goal
-
-pub returns-in-Written : goal.returns-in-Written
-unfolding has
-returns-in-Written c = search rules

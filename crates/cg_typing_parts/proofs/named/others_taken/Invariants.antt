@@ -1,0 +1,8 @@
+use Rattle.std.proofs.Common.{◌≡◌, map, drop}
+use Rattle.cg_base.specs.Types.{part_of, to_parts}
+use Rattle.cg_typing.specs.Parts.{are_others_taken}
+use Rattle.cg_typing_parts.proofs.named.others_taken.Given as goal
+
+abbrev pub invariant-loop-part : goal.invariant-loop-part
+invariant-loop-part l =
+    are_others_taken l.name (to_parts (map part_of (drop l.part-index l.part-items))) ≡ are_others_taken l.name (to_parts (map part_of l.part-items))

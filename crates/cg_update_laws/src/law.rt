@@ -1,0 +1,13 @@
+// Evaluation and the update semantics without cells.
+ghost use Rattle.cg_update_laws.specs.Laws.{UnboxedIsUpdated, WordsAreUpdated};
+
+/// Where evaluation over the copies of a list of instances gives a value without cells, the update semantics gives scalars that represent
+/// it, at the same cost, and leaves the heap as it was.
+pub fn unboxed_is_updated()
+    ensures { UnboxedIsUpdated }
+{}
+
+/// So an instance from words to words gives the same number.
+pub fn words_are_updated()
+    ensures { WordsAreUpdated }
+{}

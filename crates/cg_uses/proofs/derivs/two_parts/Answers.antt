@@ -1,4 +1,0 @@
-use Rattle.cg_uses.proofs.derivs.two_parts.Goals as goal
-
-pub returns : goal.returns
-returns c = c.with_part-2.ensures _ (c.with_part.ensures _ c.marked.ensures)
