@@ -11,7 +11,7 @@ number_from-grows n (b ∷ digits) = omega (arith, number_from-grows (n * 10 + (
 number_from-drop : (digits : List ℕ) (i n : ℕ) → i < length digits → number_from n (drop i digits) ≡ number_from (n * 10 + (get_or digits i 0 - 48)) (drop (i + 1) digits)
 number_from-drop digits i n h = rw (add-one) (ap (number_from n) (drop-cons digits i 0 h))
 
-no_word : (n : ℕ) → word64 n ≡ None → 2 ^ 64 ≤ n
+pub no_word : (n : ℕ) → word64 n ≡ None → 2 ^ 64 ≤ n
 no_word n e = grind (arith, nat_tests)
 
 -- where a front is too large already, so is the whole

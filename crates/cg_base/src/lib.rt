@@ -1,4 +1,7 @@
-//! What every other crate names: want of memory, kinds of bytes, numbers, places, names, lists, types, functions and limits.
+//! Stage: ground. Want of memory, kinds of bytes, numbers, places, names, lists, types, functions and limits.
+//! Role: public.
+//! Promises: `is_white`, `is_digit`, `literal`, `Place`, `Name`, `Items`, `Ty`, `copy_types`; the theorem on readers, `specs/Exact.antt`.
+//! May cite: anything of its stage and of those below; no crate above.
 //! docs/LANGUAGE.md, "Types", says what the types stand for.
 #![tactic(auto)]
 

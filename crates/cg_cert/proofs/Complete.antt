@@ -16,6 +16,7 @@ use Rattle.cg_core.specs.declared.derivation.Node.{Node}
 use Rattle.cg_core.specs.declared.derivation.Node.TheVariants.{Fun}
 use Rattle.cg_lexer.specs.Bytes.{small, part_of_name}
 use Rattle.cg_cert.proofs.Table.{run, at_word, spelt, told}
+use Rattle.cg_base.proofs.Sequences.{one_more as apart}
 
 -- at a line, before all functions and in a function
 abbrev outer : State
@@ -91,10 +92,6 @@ module _ (n : Node) (fs : List CertFun) (x : List ℕ) (ns : List CertNode) wher
       ∙ ap (run (inside [] (m ∷ []))) (append_assoc (map mark_sign ms) (strings_text more) (codes "\n" ++ rest))
       ∙ marks_read ms [] (m ∷ []) (strings_text more ++ (codes "\n" ++ rest))
       ∙ strings_read more [] (m ∷ ms) rest h
-
--- texts, one behind the other
-apart : (a b c d : List ℕ) → (a ++ (b ++ c)) ++ d ≡ a ++ (b ++ (c ++ d))
-apart a b c d = simp append_assoc
 
 nodes_read : (more : List CertNode) (fs : List CertFun) (x : List ℕ) (ns : List CertNode) (rest : List ℕ) → AreNodes more → run (inner fs x ns) (node_lines more ++ rest) ≡ run (inner fs x (ns ++ more)) rest
 nodes_read [] fs x ns rest h = ap (λ z. run (inner fs x z) rest) (sym (append-nil ns))

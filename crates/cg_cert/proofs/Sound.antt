@@ -2,7 +2,6 @@
 use Rattle.std.proofs.Common.{◌≡◌, ℕ, Bool, true, false, cond, nat_eq, List, [], ◌∷◌, ◌++◌, map, codes, Option, Some, None, refl, sym, ap, ◌∙◌, subst, append_assoc}
 use Rattle.std.specs.Prelude.{⊤}
 use Rattle.std.specs.Str.{bytes_eq}
-use Rattle.std.proofs.lemmas.Bool.Decides.{Decides-eqb}
 use Rattle.std.proofs.lemmas.List.{append-nil, map-append}
 use Rattle.std.proofs.lemmas.Slice.Eq.{bytes_eq-Decides}
 use Rattle.cg_base.proofs.Spans.{either_way}
@@ -25,6 +24,7 @@ use Rattle.cg_core.specs.declared.derivation.Node.TheVariants.{Fun}
 use Rattle.cg_lexer.specs.Bytes.{small, part_of_name}
 use Rattle.cg_cert.proofs.Lines.{strings_more, lines_more, node_more, marked_more, mark_more, function_more, node_stands, name_begins, name_more}
 use Rattle.cg_cert.proofs.Table.{run}
+use Rattle.cg_graphs.proofs.Standing.{are_equal as is_byte}
 
 abbrev pub head : List ℕ
 head = codes "cogent certificate 1\n"
@@ -61,9 +61,6 @@ Spelled Stuck ts s = ⊤
 
 abbrev pub Stands : List ℕ → State → Type 0
 Stands ts s = Spelled s.mode ts s
-
-is_byte : (b k : ℕ) → nat_eq b k ≡ true → b ≡ k
-is_byte b k h = (Decides-eqb b k).0 h
 
 -- ---- texts, one behind the other
 

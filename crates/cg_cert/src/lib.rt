@@ -1,7 +1,8 @@
-//! Certificates: [`read_cert`] reads the text of one, and refuses all other bytes at the first byte that no text goes on with;
-//! [`print_cert`] prints that of a checked source. What a text is stands in docs/LANGUAGE.md, "Certificates". Bytes are the text of one
-//! certificate at most, by [`one_certificate`], and are refused at one byte, by [`one_byte`]; what is printed is read, by [`printed_is_read`], and of a checked source by
-//! [`checked_is_read`], since the mark strings that are kept of it can be written, by [`kept_is_marked`].
+//! Stage: certificates. Certificate texts, read and printed.
+//! Role: public.
+//! Promises: `read_cert`, `print_cert`; laws: `one_certificate`, `one_byte`, `printed_is_read`, `kept_is_marked`, `checked_is_read`.
+//! May cite: anything of its stage and of those below; no crate above.
+//! docs/LANGUAGE.md, "Certificates", says what a text is.
 #![tactic(auto)]
 
 mod cert;

@@ -1,5 +1,5 @@
 -- What is kept of functions, one after another, beside those of a certificate.
-use Rattle.std.proofs.Common.{◌≡◌, ◌<◌, ◌≤◌, ◌+◌, ℕ, zero, suc, Bool, true, false, ◌&&◌, nat_eq, eqb-true, eq-eqb, Option, Some, None, Ok, Err, List, [], ◌∷◌, length, map, drop, get_or, refl, sym, subst, ap, ◌∙◌, arith, ⊎_elim}
+use Rattle.std.proofs.Common.{◌≡◌, ◌<◌, ◌≤◌, ◌+◌, ℕ, zero, suc, Bool, true, false, ◌&&◌, Option, Some, None, Ok, Err, List, [], ◌∷◌, length, map, drop, get_or, refl, sym, subst, ap, ◌∙◌, arith, ⊎_elim}
 use Rattle.std.proofs.lemmas.List.{at_drop_more, at_drop_all}
 use Rattle.cg_cert.specs.declared.cert.CertFun.{CertFun}
 use Rattle.cg_cert.specs.declared.fault.CertFault.{CertFault}
@@ -8,13 +8,14 @@ use Rattle.cg_certcheck.specs.Bodies.{Next, as_lists, nodes_by, body_by, maybe_b
 use Rattle.cg_check_pieces.proofs.BodySteps.{ahead, nothing_more}
 use Rattle.cg_check_pieces.specs.Bodies.{Both, Lists, joined, lists_in, no_lists, one_more}
 use Rattle.cg_certcheck_nodes.specs.View.{Agrees}
-use Rattle.cg_check_laws.proofs.Basics.{bool_is}
 use Rattle.cg_core.specs.declared.kernel.KFun.{KFun}
 use Rattle.cg_core.specs.Kernels.{Body, Function, function_of}
 use Rattle.cg_faults.specs.Same.{same_name}
 use Rattle.cg_certcheck_def.specs.Events.{is_over, is_named, nodes_next, funs_behind}
 use Rattle.cg_certcheck_def.specs.Pass.{Out, bind, row, stands, check_body, check_functions, from_body}
 use Rattle.cg_typing.specs.Parts.{is_arrow, has_word_arrays}
+use Rattle.cg_check_laws.proofs.SameTypes.{name_is, name_refl}
+use Rattle.cg_base.proofs.Truths.{either_bool as bool_is}
 
 -- the answer of the pass behind what it kept before
 abbrev pub behind : Lists → Out (List (Option Both)) → Out Lists
@@ -28,20 +29,6 @@ one_ahead : (before : Lists) (both : Option Both) (answer : Out (List (Option Bo
     → behind before (bind answer (λ kept. Ok (both ∷ kept))) ≡ behind (one_more before both) answer
 one_ahead before both (Ok kept) = ap Ok (ahead before both kept)
 one_ahead before both (Err fault) = refl
-
--- names
-and_both : (a b : Bool) → (a && b) ≡ true → (a ≡ true) × (b ≡ true)
-and_both true b e = (refl, e)
-and_both false b e = absurd (cc)
-
-name_is : (xs ys : List ℕ) → same_name xs ys ≡ true → xs ≡ ys
-name_is [] [] h = refl
-name_is (x ∷ xs) (y ∷ ys) h = let p = and_both (nat_eq x y) _ h in let q = eqb-true x y p.0 in let r = name_is xs ys p.1 in cc
-name_is _ _ h = absurd (cc)
-
-name_refl : (xs : List ℕ) → same_name xs xs ≡ true
-name_refl [] = refl
-name_refl (x ∷ xs) = ap (λ b. b && same_name xs xs) (eq-eqb x x refl) ∙ name_refl xs
 
 -- the next function of a certificate
 module _ (funs : List CertFun) (i n : ℕ) (d : CertFun) (name : List ℕ) where

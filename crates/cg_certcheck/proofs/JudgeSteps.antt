@@ -39,7 +39,7 @@ kept_lists : (o : Option CertFault) (all : List (Option Both)) (lists : Lists) �
 kept_lists None all lists h = cc
 kept_lists (Some other) all lists h = absurd (cc)
 
-all_hold : (xs : List Event) → first_failing xs ≡ None → AllHold xs
+pub all_hold : (xs : List Event) → first_failing xs ≡ None → AllHold xs
 all_hold [] h = tt
 all_hold (event fault true ∷ xs) h = (refl, all_hold xs h)
 all_hold (event fault false ∷ xs) h = absurd (cc)

@@ -11,10 +11,7 @@ use Rattle.cg_kinds.specs.Kinds.{kinds, is_word}
 use Rattle.cg_typing_parts.specs.Asked.{arguments_fault, asked_fault, failed_at, unmet}
 use Rattle.cg_typing.specs.Functions.{Asked, these, a_cell, an_element, nothing, are_good_arguments, has_kinds, later_asked, meets_asked, next_asked}
 use Rattle.cg_typing.specs.Parts.{has_word_arrays, is_cell}
-
-pub and_false : (b : Bool) → b && false ≡ false
-and_false true = refl
-and_false false = refl
+use Rattle.cg_base.proofs.Truths.{and_false}
 
 -- whether something failed
 abbrev fine : {A : Type 0} → Option A → Bool

@@ -17,6 +17,7 @@ use Rattle.cg_certcheck_def.specs.Pass.{Cursor, check_fields, no_fields}
 use Rattle.cg_check_pieces.proofs.FieldSteps.{more_named, no_named}
 use Rattle.cg_typing.specs.Contexts.{Context}
 use Rattle.cg_typing.specs.Trees.{first_marks, later_marks}
+use Rattle.cg_core.proofs.Operands.{one_operand, two_operands}
 
 -- the size of a term
 unfoldable mutual
@@ -51,21 +52,6 @@ unfoldable mutual
   pub size_fields : Named Place → ℕ
   size_fields end = 0
   size_fields (field name e fs) = size e + size_fields fs + 1
-
--- operands in their list: one, two, or neither
-pub one_operand : (ts : List (Term Place)) (x : Term Place) → 1 ≤ length ts → length ts < 2 → x ≡ get_or ts 0 x → to_trees (map the_term ts) ≡ more (the_term x) none
-unfolding to_trees
-one_operand [] x h w e = absurd (omega arith)
-one_operand (y ∷ []) x h w e = ap (λ t. more (the_term t) none) (sym e)
-one_operand (y ∷ z ∷ ts) x h w e = absurd (omega arith)
-
-pub two_operands : (ts : List (Term Place)) (a b : Term Place) → 2 ≤ length ts → length ts < 3 → a ≡ get_or ts 0 a → b ≡ get_or ts 1 b
-    → to_trees (map the_term ts) ≡ more (the_term a) (more (the_term b) none)
-unfolding to_trees
-two_operands [] a b h w e k = absurd (omega arith)
-two_operands (x ∷ []) a b h w e k = absurd (omega arith)
-two_operands (x ∷ y ∷ []) a b h w e k = ap (λ t. more (the_term t) (more (the_term y) none)) (sym e) ∙ ap (λ t. more (the_term a) (more (the_term t) none)) (sym k)
-two_operands (x ∷ y ∷ z ∷ ts) a b h w e k = absurd (omega arith)
 
 pub other_operands : (functions : List Function) (vars : List Kinds) (g : Context) (d : Option Tau) (at : Cursor) (place : Place) (o : Op) (ts : List (Term Place))
     → (length ts ≡ 1 → ⊥) → (length ts ≡ 2 → ⊥) → form_by functions vars g d at place (op o (to_trees (map the_term ts))) ≡ Err (C2 at.next)

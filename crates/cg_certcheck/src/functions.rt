@@ -19,10 +19,10 @@ use crate::pass::check_term;
 use cg_base::{Items, Memory, Name, Place, Ty};
 use cg_cert::{Cert, CertFault, CertFun, CertNode};
 use cg_certcheck_nodes::{Cursor, Got, Source, present};
-use cg_core::{KFun, Kernel, Term};
-use cg_typing_parts::has_word_arrays;
 use cg_check_pieces::{KeptBodies, KeptBody};
+use cg_core::{KFun, Kernel, Term};
 use cg_typing::Checked;
+use cg_typing_parts::has_word_arrays;
 use std::alloc::Global;
 
 /// Judges a certificate against a lawful kernel (docs/LANGUAGE.md, "Certificates"). Ok exactly where it spells a derivation of the kernel,

@@ -21,9 +21,9 @@ use cg_cert::CertFault;
 use cg_certcheck_nodes::{
     Cursor, Entry, Got, Source, drops_all, ends_with, leaf_of, reach_leaf, test_leaf, type_at,
 };
+use cg_check_pieces::copied_arguments;
 use cg_core::{Form, Node, TyArg};
 use cg_typing_parts::{arguments_fault, in_range, is_small_enough, mentioned};
-use cg_check_pieces::copied_arguments;
 
 /// A variable.
 pub(crate) fn check_var(

@@ -33,12 +33,12 @@ use cg_certcheck_nodes::{
     put_in_front, put_type, reach_leaf, reach_observed, reach_record, reach_split, record_node,
     seconds, struct_node, take_node, taken_type,
 };
+use cg_check_pieces::{is_literal, later_wanted, next_wanted, other_way, parts_of};
 use cg_core::{At, FieldTerm, Form, Mark, Node, Op, Seen, Term, TyArg};
 use cg_kinds::kinds_of;
 use cg_typing_parts::{
     Sort, has_word_arrays, is_made_of, is_small_enough, is_word, sort_of, takes, widens, with_part,
 };
-use cg_check_pieces::{is_literal, later_wanted, next_wanted, other_way, parts_of};
 
 /// What a term comes to, in a context and a direction, from a place among the nodes: as the pass answers it.
 #[cycle(check)]

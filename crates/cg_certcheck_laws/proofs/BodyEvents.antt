@@ -1,5 +1,5 @@
 -- The events of a body, over all nodes of its function.
-use Rattle.std.proofs.Common.{◌≡◌, ℕ, ◌<◌, true, Some, List, [], ◌∷◌, ◌++◌, length, drop, refl, sym, ap, ◌∙◌, subst, arith, nat_eq, eqb-true, eq-eqb, append-nil}
+use Rattle.std.proofs.Common.{◌≡◌, ℕ, true, Some, List, [], ◌∷◌, ◌++◌, length, drop, refl, sym, ap, ◌∙◌, subst, append-nil}
 use Rattle.cg_base.specs.declared.kind.Kinds.{Kinds}
 use Rattle.cg_base.specs.declared.place.Place.{Place}
 use Rattle.cg_base.specs.Types.{Tau}
@@ -11,7 +11,6 @@ use Rattle.cg_core.specs.Terms.{Tree, Note}
 use Rattle.cg_faults.specs.Events as faults
 use Rattle.cg_faults.specs.Events.{LimitsHold, nowhere}
 use Rattle.cg_faults.specs.Plain.{plain_at}
-use Rattle.cg_faults.specs.Same.{same_name}
 use Rattle.cg_check_def.specs.NormalForm.{core}
 use Rattle.cg_certcheck_def.specs.Reads.{tree_at}
 use Rattle.cg_certcheck_def.specs.Events.{AllHold, events, body_events, is_over, size}
@@ -25,26 +24,13 @@ use Rattle.cg_check_laws.proofs.Clean.{Of, Within}
 use Rattle.cg_check_laws.proofs.Complete as laws
 use Rattle.cg_check_laws.proofs.ErasedCore.{erased_core}
 use Rattle.cg_certcheck_laws.proofs.Complete.{complete}
-use Rattle.cg_certcheck_laws.proofs.MarkTests.{and_both, both_and}
 use Rattle.cg_certcheck_laws.proofs.Rows.{hold_append, hold_left, hold_right}
 use Rattle.cg_certcheck_laws.proofs.Sound.{sound}
-
--- names
-pub name_is : (xs ys : List ℕ) → same_name xs ys ≡ true → xs ≡ ys
-name_is [] [] h = refl
-name_is (x ∷ xs) (y ∷ ys) h = let p = and_both (nat_eq x y) _ h in let q = eqb-true x y p.0 in let r = name_is xs ys p.1 in cc
-name_is _ _ h = absurd (cc)
-
-pub name_same : (xs : List ℕ) → same_name xs xs ≡ true
-name_same [] = refl
-name_same (x ∷ xs) = both_and (nat_eq x x) _ (eq-eqb x x refl) (name_same xs)
+use Rattle.cg_check_laws.proofs.Main.{zero_is}
 
 pub over_is : {A : Type 0} (xs : List A) → is_over xs ≡ true → xs ≡ []
 over_is [] h = refl
 over_is (x ∷ xs) h = absurd (cc)
-
-zero_is : (i : ℕ) → i < 1 → 0 ≡ i
-zero_is i lt = omega arith
 
 -- the context of an argument alone
 alone : (t : Tau) → Within (Some t ∷ []) (t ∷ [])

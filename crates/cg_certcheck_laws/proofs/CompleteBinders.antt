@@ -21,9 +21,11 @@ use Rattle.cg_typing.specs.Trees.{sub, marks_of}
 use Rattle.cg_check_laws.proofs.Clean.{within_first, within_second, within_split, within_push}
 use Rattle.cg_certcheck_laws.proofs.CompleteLeaves.{Complete, FineShape, CompleteShape}
 use Rattle.cg_certcheck_laws.proofs.Limits.{limits_left, limits_right}
-use Rattle.cg_certcheck_laws.proofs.MarkTests.{both_and, three_and, is_not, is_splits}
+use Rattle.cg_certcheck_laws.proofs.MarkTests.{three_and, is_splits}
 use Rattle.cg_certcheck_laws.proofs.Nodes.{given_part, given_last, given_node, left_of_two}
 use Rattle.cg_certcheck_laws.proofs.Rows.{hold_append, is_met}
+use Rattle.cg_check_laws.proofs.SameTypes.{and_refl as both_and}
+use Rattle.cg_check_laws.proofs.CompleteBinders.{false_not as is_not}
 
 -- a type that is an arrow
 arrow_holds : (t a b : Tau) → t ≡ arrow a b → is_arrow t ≡ true

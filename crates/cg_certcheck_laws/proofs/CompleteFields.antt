@@ -12,7 +12,7 @@ use Rattle.cg_core.specs.Derivations.{Derivations}
 use Rattle.cg_core.specs.Kernels.{Function}
 use Rattle.cg_core.specs.Terms.{Tree, term, struct, Named, end, field}
 use Rattle.cg_faults.specs.Events as faults
-use Rattle.cg_faults.specs.Events.{Before, LimitsHold, after, field_directions, next_direction, later_directions}
+use Rattle.cg_faults.specs.Events.{Before, LimitsHold, after, field_directions, next_direction}
 use Rattle.cg_faults.specs.Plain.{are_fields}
 use Rattle.cg_check_def.specs.NormalForm.{core, core_fields}
 use Rattle.cg_certcheck_def.specs.Events.{Event, AllHold, events, field_events, field_strings, size, field_sizes}
@@ -21,13 +21,14 @@ use Rattle.cg_typing.specs.Contexts.{Context, first, second}
 use Rattle.cg_typing.specs.Rules.{Derives, DerivesFields, parts_made, record_made}
 use Rattle.cg_typing.specs.Trees.{nth, later_parts, the_parts, strings_of, first_marks, later_marks}
 use Rattle.cg_check_laws.proofs.Clean.{Within, within_first, within_second}
-use Rattle.cg_check_laws.proofs.SoundFields.{ways, Follows, behind}
+use Rattle.cg_check_laws.proofs.SoundFields.{ways, Follows, behind, next_along, ways_on}
 use Rattle.cg_certcheck_laws.proofs.CompleteLeaves.{Complete, FineShape, CompleteShape}
-use Rattle.cg_certcheck_laws.proofs.FieldWays.{next_along, follows_on, ways_on, made_of}
+use Rattle.cg_certcheck_laws.proofs.FieldWays.{follows_on, made_of}
 use Rattle.cg_certcheck_laws.proofs.Limits.{limits_left, limits_right}
-use Rattle.cg_certcheck_laws.proofs.MarkTests.{both_and, is_splits}
+use Rattle.cg_certcheck_laws.proofs.MarkTests.{is_splits}
 use Rattle.cg_certcheck_laws.proofs.Nodes.{given_part, given_last, given_node, left_of_two}
 use Rattle.cg_certcheck_laws.proofs.Rows.{hold_append}
+use Rattle.cg_check_laws.proofs.SameTypes.{and_refl as both_and}
 
 module _ (functions : List Function) (vars : List Kinds) where
   abbrev E : Context → List Tau → Option Tau → List CertNode → ℕ → Tree Place → List Event

@@ -1,11 +1,11 @@
 -- Where nodes spell a derivation of the core of plain typing, and no type passes the limit, no event fails: what that says of a term,
 -- and the leaves.
-use Rattle.std.proofs.Common.{◌≡◌, ℕ, suc, ◌<◌, Bool, true, Option, Some, None, List, [], ◌++◌, length, drop, refl, sym, ap, subst, arith, lt-ltb}
+use Rattle.std.proofs.Common.{◌≡◌, ℕ, suc, ◌<◌, Bool, Option, Some, None, List, [], ◌++◌, length, drop, refl, sym, ap, subst, arith}
 use Rattle.cg_base.specs.declared.fun.Fun.{Fun}
 use Rattle.cg_base.specs.declared.kind.Kinds.{Kinds}
 use Rattle.cg_base.specs.declared.place.Place.{Place}
 use Rattle.cg_base.specs.Types as types
-use Rattle.cg_base.specs.Types.{Tau, word}
+use Rattle.cg_base.specs.Types.{Tau}
 use Rattle.cg_cert.specs.Certificates.{nodes_of}
 use Rattle.cg_cert.specs.declared.cert.CertNode.{CertNode}
 use Rattle.cg_core.specs.declared.derivation.Node.TheVariants as nodes
@@ -22,16 +22,14 @@ use Rattle.cg_certcheck_def.specs.Tests.{is_present, drops_all, drops_but}
 use Rattle.cg_typing.specs.Contexts.{Context, look}
 use Rattle.cg_typing.specs.Functions.{asked_by, are_good_arguments}
 use Rattle.cg_typing.specs.Parts.{in_range}
-use Rattle.cg_typing.specs.Rules.{Derives, InRange}
+use Rattle.cg_typing.specs.Rules.{Derives}
 use Rattle.cg_check_laws.proofs.Basics.{look_within}
 use Rattle.cg_check_laws.proofs.Clean.{Of, Within}
-use Rattle.cg_certcheck_laws.proofs.MarkTests.{both_and, three_and, are_drops, are_others}
+use Rattle.cg_certcheck_laws.proofs.MarkTests.{three_and, are_drops, are_others}
 use Rattle.cg_certcheck_laws.proofs.Nodes.{given_node}
 use Rattle.cg_certcheck_laws.proofs.Rows.{is_met}
-
-ranged_ok : (v : Option ℕ) (t : Tau) → InRange v t → in_range v t ≡ true
-ranged_ok (Some n) (word w) h = lt-ltb n _ h
-ranged_ok _ _ h = absurd h
+use Rattle.cg_check_laws.proofs.SameTypes.{and_refl as both_and}
+use Rattle.cg_check_laws.proofs.CompleteParts.{in_range_ok as ranged_ok}
 
 module _ (functions : List Function) (vars : List Kinds) where
   -- no event of a term fails, and behind its nodes these are left

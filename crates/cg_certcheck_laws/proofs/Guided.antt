@@ -11,8 +11,9 @@ use Rattle.cg_certcheck_def.specs.Tests.{drops_all}
 use Rattle.cg_typing.specs.Contexts.{Context}
 use Rattle.cg_typing.specs.Parts.{in_range}
 use Rattle.cg_typing.specs.Rules.{is_literal}
-use Rattle.cg_certcheck_laws.proofs.MarkTests.{and_both, both_and}
 use Rattle.cg_certcheck_laws.proofs.Operands.{IsGuided}
+use Rattle.cg_check_laws.proofs.SameTypes.{and_refl as both_and}
+use Rattle.cg_base.proofs.Truths.{both as and_both}
 
 module _ (functions : List Function) (vars : List Kinds) (g : Context) (p : List Tau) (ns : List CertNode) (n : ℕ) where
   pub guided : (l : Tree Place) → is_literal l ≡ true

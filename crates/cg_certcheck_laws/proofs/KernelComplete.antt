@@ -11,10 +11,10 @@ use Rattle.cg_certcheck_def.specs.Events.{AllHold, function_events, maybe_body_e
 use Rattle.cg_typing.specs.Accepted.{kinds_of_vars}
 use Rattle.cg_typing.specs.Kept.{IsKeptMaybe, IsKept, AreKept}
 use Rattle.cg_typing.specs.Parts.{is_arrow, taken_by, given_by, has_word_arrays}
-use Rattle.cg_certcheck_laws.proofs.BodyEvents.{name_same, body_complete}
+use Rattle.cg_certcheck_laws.proofs.BodyEvents.{body_complete}
 use Rattle.cg_certcheck_laws.proofs.Limits.{limits_left, limits_right}
-use Rattle.cg_certcheck_laws.proofs.MarkTests.{both_and}
 use Rattle.cg_certcheck_laws.proofs.Rows.{hold_append}
+use Rattle.cg_check_laws.proofs.SameTypes.{and_refl as both_and, name_refl as name_same}
 
 module _ (functions : List Function) where
   -- what is kept of a function, by its type

@@ -19,11 +19,12 @@ use Rattle.cg_certcheck_def.specs.Reads.{tree_at}
 use Rattle.cg_typing.specs.Accepted.{kinds_of_vars}
 use Rattle.cg_typing.specs.Kept.{IsKeptMaybe, AreKept}
 use Rattle.cg_typing.specs.Parts.{is_arrow, taken_by, given_by, has_word_arrays}
-use Rattle.cg_certcheck_laws.proofs.BodyEvents.{name_is, over_is, body_sound}
+use Rattle.cg_certcheck_laws.proofs.BodyEvents.{over_is, body_sound}
 use Rattle.cg_certcheck_laws.proofs.Limits.{limits_append, scope_limits}
-use Rattle.cg_certcheck_laws.proofs.MarkTests.{and_both}
 use Rattle.cg_certcheck_laws.proofs.Rows.{hold_left, hold_right}
-use Rattle.cg_certcheck_laws.proofs.SoundBinders.{arrow_is}
+use Rattle.cg_check_laws.proofs.SoundBinders.{arrow_is}
+use Rattle.cg_check_laws.proofs.SameTypes.{name_is}
+use Rattle.cg_base.proofs.Truths.{both as and_both}
 
 abbrev pub cert_fun : List ℕ → List CertNode → CertFun
 cert_fun name ns = record { name = name; nodes = ns }

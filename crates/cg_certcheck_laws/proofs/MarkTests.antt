@@ -1,5 +1,5 @@
 -- Tests on nodes, marks and contexts say yes exactly where what they test holds.
-use Rattle.std.proofs.Common.{◌≡◌, ◌<◌, ℕ, zero, suc, Bool, true, false, ◌&&◌, not, Option, Some, None, List, [], ◌∷◌, length, get_or, refl, sym, ap, ◌∙◌, subst, arith, eqb-true, eq-eqb}
+use Rattle.std.proofs.Common.{◌≡◌, ◌<◌, ℕ, zero, suc, Bool, true, ◌&&◌, not, Option, Some, None, List, [], ◌∷◌, length, get_or, refl, sym, ap, ◌∙◌, subst, arith, eqb-true, eq-eqb}
 use Rattle.cg_base.specs.declared.kind.Kinds.{Kinds}
 use Rattle.cg_base.specs.Types.{Tau}
 use Rattle.cg_core.specs.declared.derivation.Mark.{Mark}
@@ -9,25 +9,12 @@ use Rattle.cg_core.specs.declared.derivation.Node.TheVariants as nodes
 use Rattle.cg_core.specs.declared.term.Seen.{Seen as Observer}
 use Rattle.cg_certcheck_def.specs.Tests.{number_of, same_node, entry_drops, drops_all, drops_but, fits, splits_where, splits}
 use Rattle.cg_typing.specs.Contexts.{Context, look, mark_at, among, Fits, Splits, Drops, DropsBut, drops, shares}
-
-pub and_both : (a b : Bool) → (a && b) ≡ true → (a ≡ true) × (b ≡ true)
-and_both true b e = (refl, e)
-and_both false b e = absurd (cc)
-
-pub both_and : (a b : Bool) → a ≡ true → b ≡ true → (a && b) ≡ true
-both_and true b h k = k
-both_and false b h k = h
+use Rattle.cg_check_laws.proofs.SameTypes.{and_refl as both_and}
+use Rattle.cg_check_laws.proofs.CompleteBinders.{false_not as is_not}
+use Rattle.cg_base.proofs.Truths.{both as and_both, not_true as not_is}
 
 pub three_and : (a b c : Bool) → a ≡ true → b ≡ true → c ≡ true → (a && (b && c)) ≡ true
 three_and a b c h k l = both_and a (b && c) h (both_and b c k l)
-
-pub not_is : (a : Bool) → not a ≡ true → a ≡ false
-not_is true e = absurd (cc)
-not_is false e = refl
-
-pub is_not : (a : Bool) → a ≡ false → not a ≡ true
-is_not true e = absurd (cc)
-is_not false e = refl
 
 -- ---- nodes
 

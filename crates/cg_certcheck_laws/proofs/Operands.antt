@@ -11,8 +11,9 @@ use Rattle.cg_check_def.specs.NormalForm.{operand_type}
 use Rattle.cg_certcheck_def.specs.Events.{Event, AllHold, unary_events, binary_events, meets, row}
 use Rattle.cg_typing.specs.Operators.{Sort, arithmetic, equality, order, logic, takes, gives, operand}
 use Rattle.cg_check_laws.proofs.SoundParts.{operand_is, way_is}
-use Rattle.cg_certcheck_laws.proofs.MarkTests.{and_both, both_and}
 use Rattle.cg_certcheck_laws.proofs.Rows.{hold_append, hold_left, hold_right, met_is, is_met}
+use Rattle.cg_check_laws.proofs.SameTypes.{and_refl as both_and}
+use Rattle.cg_base.proofs.Truths.{both as and_both}
 
 -- the type that an operand has in its direction: of the one of a sort with one, of the left one, and of the right one
 pub one_type : (functions : List Function) (p : List Tau) (x : Tree Place) (sort : Sort) (direction : Option Tau)

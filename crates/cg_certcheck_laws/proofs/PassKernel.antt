@@ -16,17 +16,18 @@ use Rattle.cg_core.specs.Terms.{Tree, term, Shape, var, unit, bool, lit, fun, op
 use Rattle.cg_faults.specs.Events.{field_directions, next_direction, later_directions}
 use Rattle.cg_faults.specs.Plain.{plain_in, plain_parts}
 use Rattle.cg_certcheck_def.specs.Events as tests
-use Rattle.cg_certcheck_def.specs.Events.{Event, event, behind, strings_at, marks_next, size, field_sizes, field_strings, is_record, is_named, is_over, nodes_next, funs_behind, events, field_events, body_events, maybe_body_events, function_events, cert_events, first_failing}
+use Rattle.cg_certcheck_def.specs.Events.{Event, event, strings_at, size, field_sizes, field_strings, is_record, is_named, is_over, nodes_next, funs_behind, events, field_events, body_events, maybe_body_events, function_events, cert_events, first_failing}
 use Rattle.cg_certcheck_laws.specs.Laws.{body_kept, all_kept, PassAnswersTheFirstFault}
 use Rattle.cg_certcheck_def.specs.Pass.{Out, bind, row, stands, wanted, Cursor, step, Got, GotFields, made, no_fields, in_front, check, check_shape, check_fields, check_body, from_body, check_functions, Kept, verdict}
 use Rattle.cg_certcheck_def.specs.Reads.{trees_at}
 use Rattle.cg_certcheck_def.specs.Tests.{splits}
 use Rattle.cg_certcheck_laws.proofs.PassBinders.{pass_app, pass_put, pass_let, pass_let_bang, pass_take, pass_if, pass_case}
 use Rattle.cg_certcheck_laws.proofs.PassParts.{value, Passes, PassesShape, got, pass_var, pass_unit, pass_bool, pass_lit, pass_fun, pass_unary, pass_binary, pass_con, pass_esac, pass_member, pass_cast, pass_annot}
-use Rattle.cg_certcheck_laws.proofs.PassSteps.{run, next, last_part, guarded, right_holds, left_holds, past, past_past, past_step, Agree, agree_left, agree_second}
+use Rattle.cg_certcheck_laws.proofs.PassSteps.{run, next, last_part, guarded, past, past_past, past_step, Agree, agree_left, agree_second}
 use Rattle.cg_typing.specs.Accepted.{kinds_of_vars}
 use Rattle.cg_typing.specs.Contexts.{Context, first, second}
 use Rattle.cg_typing.specs.Parts.{is_arrow, taken_by, given_by, has_word_arrays}
+use Rattle.cg_base.proofs.Truths.{both_true as left_holds, and_right as right_holds}
 
 module _ (functions : List Function) (vars : List Kinds) where
   abbrev P : Tree Place → Type 0

@@ -14,10 +14,11 @@ use Rattle.cg_core.specs.Terms.{Tree, term, lit, op, none, more, Note}
 use Rattle.cg_kinds.specs.Kinds.{is_word}
 use Rattle.cg_certcheck_def.specs.Events.{Event, behind, meets, unary_events, binary_events, guided_reached, guided_number}
 use Rattle.cg_certcheck_def.specs.Pass.{row, Cursor, step, Got, Way, made, unary, binary, operated_both, reach_literal}
-use Rattle.cg_certcheck_laws.proofs.PassSteps.{run, next, last_part, met, in_direction, right_holds}
+use Rattle.cg_certcheck_laws.proofs.PassSteps.{run, next, last_part, met, in_direction}
 use Rattle.cg_typing.specs.Contexts.{Context}
 use Rattle.cg_typing.specs.Operators.{Sort, arithmetic, equality, order, logic, takes, gives, operand}
 use Rattle.cg_typing.specs.Trees.{leaf, one, two}
+use Rattle.cg_base.proofs.Truths.{and_right as right_holds}
 
 -- an operand of a type, a core in each direction, and a derivation, behind which the pass stands here
 abbrev pub operand_value : Tau → (Option Tau → Tree Note) → Derivation → Cursor → Option Tau → Got

@@ -16,18 +16,20 @@ use Rattle.cg_core.specs.Terms.{Tree, term, Shape, var, unit, bool, lit, fun, op
 use Rattle.cg_faults.specs.Plain.{plain, plain_in, plain_at, mentioned}
 use Rattle.cg_kinds.specs.Kinds.{or_unit}
 use Rattle.cg_certcheck_def.specs.Events as tests
-use Rattle.cg_certcheck_def.specs.Events.{Event, behind, marks_next, strings_at, size, size_below, no_strings, meets, is_number, is_alternative, alternative_held, is_cast, value_of, reached, unary_events, binary_events, guided_reached, guided_number, events, events_shape}
+use Rattle.cg_certcheck_def.specs.Events.{Event, behind, marks_next, size, no_strings, meets, is_number, is_alternative, alternative_held, is_cast, value_of, unary_events, binary_events, guided_reached, guided_number, events, events_shape}
 use Rattle.cg_certcheck_def.specs.Pass.{Out, bind, wanted, row, reach, Cursor, step, Got, made, binary, check, check_shape}
 use Rattle.cg_certcheck_def.specs.Reads.{tree_at, tree_of}
 use Rattle.cg_certcheck_def.specs.Tests.{is_present, drops_all, drops_but}
 use Rattle.cg_certcheck_laws.proofs.PassOperators.{operand_value, unary_is, binary_is}
-use Rattle.cg_certcheck_laws.proofs.PassSteps.{run, next, last_part, met, in_direction, right_holds, join_tests, past, past_step, past_two, step_is, Agree, agree_left, agree_second, look_is, split_is}
+use Rattle.cg_certcheck_laws.proofs.PassSteps.{run, next, last_part, met, in_direction, past, past_step, past_two, step_is, Agree, agree_left, agree_second, look_is, split_is}
 use Rattle.cg_typing.specs.Contexts.{Context, look, first, second, shares}
 use Rattle.cg_typing.specs.Functions.{asked_by, are_good_arguments}
 use Rattle.cg_typing.specs.Operators.{sort_of}
 use Rattle.cg_typing.specs.Parts.{is_left, is_last, field_in, alternative_in, held, has_word_arrays}
 use Rattle.cg_typing.specs.Rules.{is_literal, note_at}
 use Rattle.cg_typing.specs.Trees.{leaf, one}
+use Rattle.cg_typing_parts.proofs.RecordSteps.{and_assoc as join_tests}
+use Rattle.cg_base.proofs.Truths.{and_right as right_holds}
 
 module _ (functions : List Function) (vars : List Kinds) where
   -- what a term comes to where its events hold

@@ -1,6 +1,6 @@
 -- The second checker's pass beside the events of a certificate: answers in turn, places among the nodes, and contexts that agree with the
 -- plain one.
-use Rattle.std.proofs.Common.{◌≡◌, ℕ, zero, suc, ◌+◌, Bool, true, false, ◌&&◌, not, cond, Option, Some, None, Ok, List, [], ◌∷◌, ◌++◌, drop, refl, sym, ap, ◌∙◌, arith, subst}
+use Rattle.std.proofs.Common.{◌≡◌, ℕ, zero, suc, ◌+◌, Bool, true, false, cond, Option, Some, None, Ok, List, [], ◌∷◌, ◌++◌, drop, refl, sym, ap, ◌∙◌, arith, subst}
 use Rattle.std.proofs.lemmas.List.{drop-drop}
 use Rattle.cg_base.specs.declared.kind.Kinds.{Kinds}
 use Rattle.cg_base.specs.declared.place.Place.{Place}
@@ -23,6 +23,8 @@ use Rattle.cg_certcheck_def.specs.Pass.{Out, bind, test, row, Cursor, step, made
 use Rattle.cg_certcheck_def.specs.Tests.{splits, splits_where, is_present}
 use Rattle.cg_typing.specs.Contexts.{Context, look, push, first, second}
 use Rattle.cg_typing.specs.Trees.{first_marks}
+use Rattle.cg_check_laws.proofs.Clean.{observed_none as banged_nowhere}
+use Rattle.cg_base.proofs.Truths.{both_true as left_holds, and_right as right_holds, not_true}
 
 -- the events of a list in turn, and then what is left
 abbrev pub run : {A : Type 0} → List Event → Out A → Out A
@@ -53,18 +55,6 @@ last_part o h xs a k e f = ap (λ o. bind o h) e ∙ bind_run xs (Ok a) h ∙ ap
 pub guarded : {A : Type 0} (fault : CertFault) (ok : Bool) (k l : Out A) → (ok ≡ true → k ≡ l) → test fault ok k ≡ test fault ok l
 guarded fault true k l h = h refl
 guarded fault false k l h = refl
-
-pub right_holds : (a b : Bool) → (a && b) ≡ true → b ≡ true
-right_holds true b h = h
-right_holds false b h = absurd (cc)
-
-pub left_holds : (a b : Bool) → (a && b) ≡ true → a ≡ true
-left_holds true b h = refl
-left_holds false b h = absurd (cc)
-
-pub join_tests : (a b c : Bool) → ((a && b) && c) ≡ (a && (b && c))
-join_tests true b c = refl
-join_tests false b c = refl
 
 -- ---- a checked type is the synthesised one
 
@@ -146,11 +136,6 @@ agree_second seen (Seen ∷ m) (Some u ∷ g) (t ∷ p) vars s h = (h.0, agree_s
 agree_second seen (mark ∷ m) (None ∷ g) [] vars s h = absurd h
 agree_second seen (mark ∷ m) (Some u ∷ g) [] vars s h = absurd h
 
--- the first side, where what is observed is seen
-not_true : (b : Bool) → not b ≡ true → b ≡ false
-not_true true h = absurd (cc)
-not_true false h = refl
-
 kept_type : (b : Bool) (u t : Tau) → b ≡ false → u ≡ t → u ≡ cond b (bang t) t
 kept_type true u t h e = absurd (cc)
 kept_type false u t h e = e
@@ -179,11 +164,6 @@ agree_first seen (Seen ∷ m) (Some u ∷ g) (t ∷ p) vars s h =
     (seen_type (seen zero) u t (left_holds _ _ s) h.0, agree_first (λ i. seen (suc i)) m g p vars (right_holds _ _ s) h.1)
 agree_first seen (mark ∷ m) (None ∷ g) [] vars s h = absurd h
 agree_first seen (mark ∷ m) (Some u ∷ g) [] vars s h = absurd h
-
--- where nothing is observed
-banged_nowhere : (p : List Tau) → banged_where (λ i. false) p ≡ p
-banged_nowhere [] = refl
-banged_nowhere (t ∷ p) = ap (λ q. t ∷ q) (banged_nowhere p)
 
 pub agree_left : (m : List Mark) (g : Context) (p : List Tau) (vars : List Kinds) → splits vars [] m g ≡ true → Agree g p → Agree (first m g) p
 agree_left m g p vars s h = subst (λ q. Agree (first m g) q) (banged_nowhere p) (agree_first (λ i. false) m g p vars s h)

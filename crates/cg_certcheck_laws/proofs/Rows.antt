@@ -16,7 +16,8 @@ use Rattle.cg_certcheck_def.specs.Tests.{same_node}
 use Rattle.cg_typing.specs.Contexts.{Context, Splits}
 use Rattle.cg_typing.specs.Trees.{first_marks}
 use Rattle.cg_check_laws.proofs.SameTypes.{same_is, same_refl}
-use Rattle.cg_certcheck_laws.proofs.MarkTests.{and_both, node_is, splits_is}
+use Rattle.cg_certcheck_laws.proofs.MarkTests.{node_is, splits_is}
+use Rattle.cg_base.proofs.Truths.{both as and_both}
 
 pub hold_append : (xs ys : List Event) → AllHold xs → AllHold ys → AllHold (xs ++ ys)
 hold_append [] ys h k = k

@@ -1,5 +1,5 @@
 -- Where no event fails, a derivation is spelled: calls, puts and binders.
-use Rattle.std.proofs.Common.{◌≡◌, ℕ, suc, ◌+◌, true, false, not, Option, Some, None, List, [], length, drop, refl, sym, ap, ◌∙◌, subst}
+use Rattle.std.proofs.Common.{ℕ, suc, ◌+◌, true, false, not, Option, Some, None, List, [], length, drop, refl, sym, ap, ◌∙◌, subst}
 use Rattle.cg_base.specs.declared.kind.Kinds.{Kinds}
 use Rattle.cg_base.specs.declared.place.Place.{Place}
 use Rattle.cg_base.specs.Types.{Tau, arrow}
@@ -22,14 +22,11 @@ use Rattle.cg_check_laws.proofs.Clean.{within_first, within_second, within_split
 use Rattle.cg_check_laws.proofs.SoundLeaves.{in_meets, body_in}
 use Rattle.cg_certcheck_laws.proofs.ReadSteps.{two_reads}
 use Rattle.cg_certcheck_laws.proofs.Limits.{limits_append, meets_limits, observer_limits, scope_limits}
-use Rattle.cg_certcheck_laws.proofs.MarkTests.{and_both, not_is}
 use Rattle.cg_certcheck_laws.proofs.Nodes.{heads_two}
 use Rattle.cg_certcheck_laws.proofs.Rows.{hold_left, hold_right, split_is, met_is}
 use Rattle.cg_certcheck_laws.proofs.SoundLeaves.{Sound, SoundShape}
-
-pub arrow_is : (t : Tau) → is_arrow t ≡ true → t ≡ arrow (taken_by t) (given_by t)
-arrow_is (arrow a b) h = refl
-arrow_is _ h = absurd (cc)
+use Rattle.cg_check_laws.proofs.SoundBinders.{arrow_is}
+use Rattle.cg_base.proofs.Truths.{both as and_both, not_true as not_is}
 
 module _ (functions : List Function) (vars : List Kinds) (types_in : ℕ) where
   abbrev E : Context → List Tau → Option Tau → List CertNode → ℕ → Tree Place → List Event

@@ -1,5 +1,5 @@
 -- Where no event fails, a derivation is spelled: branches.
-use Rattle.std.proofs.Common.{◌≡◌, ℕ, suc, ◌+◌, true, Option, Some, None, List, [], length, drop, refl, subst}
+use Rattle.std.proofs.Common.{ℕ, suc, ◌+◌, true, Option, Some, None, List, [], length, drop, refl, subst}
 use Rattle.cg_base.specs.declared.kind.Kinds.{Kinds}
 use Rattle.cg_base.specs.declared.place.Place.{Place}
 use Rattle.cg_base.specs.Types as types
@@ -12,7 +12,7 @@ use Rattle.cg_core.specs.Terms.{Tree, term, if_else, case_of}
 use Rattle.cg_faults.specs.Events as faults
 use Rattle.cg_faults.specs.Events.{after, upto, scope_end}
 use Rattle.cg_faults.specs.Occurrences.{used}
-use Rattle.cg_faults.specs.Plain.{plain, plain_in}
+use Rattle.cg_faults.specs.Plain.{plain}
 use Rattle.cg_check_def.specs.NormalForm.{core}
 use Rattle.cg_certcheck_def.specs.Events.{Event, events, size, behind, marks_next}
 use Rattle.cg_typing.specs.Contexts.{Context, push, first, second}
@@ -20,7 +20,7 @@ use Rattle.cg_typing.specs.Parts.{alternative_in, held, with_part}
 use Rattle.cg_typing.specs.Rules.{Derives, second_branch, note_at}
 use Rattle.cg_typing.specs.Trees.{three}
 use Rattle.cg_check_laws.proofs.Clean.{within_first, within_second, within_push}
-use Rattle.cg_check_laws.proofs.SoundBranches.{branch_way}
+use Rattle.cg_check_laws.proofs.SoundBranches.{branch_way, branch_type}
 use Rattle.cg_check_laws.proofs.SoundLeaves.{body_in}
 use Rattle.cg_certcheck_laws.proofs.ReadSteps.{three_reads}
 use Rattle.cg_certcheck_laws.proofs.Limits.{limits_append, branch_limits, scope_limits}
@@ -28,11 +28,6 @@ use Rattle.cg_certcheck_laws.proofs.Nodes.{heads_three}
 use Rattle.cg_certcheck_laws.proofs.Rows.{hold_left, hold_right, split_is}
 use Rattle.cg_certcheck_laws.proofs.SoundBinders.{lawful_push}
 use Rattle.cg_certcheck_laws.proofs.SoundLeaves.{Sound, SoundShape}
-
--- the type of a second branch is that of the first
-branch_type : (functions : List Function) (q r : List Tau) (dir : Option Tau) (x y : Tree Place) → plain_in functions r (second_branch dir (plain functions q x)) y ≡ plain_in functions q dir x
-branch_type functions q r None x y = refl
-branch_type functions q r (Some u) x y = refl
 
 module _ (functions : List Function) (vars : List Kinds) (types_in : ℕ) where
   abbrev E : Context → List Tau → Option Tau → List CertNode → ℕ → Tree Place → List Event

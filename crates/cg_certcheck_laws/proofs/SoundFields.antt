@@ -11,23 +11,24 @@ use Rattle.cg_core.specs.Derivations.{Derivations, derivation, part, done}
 use Rattle.cg_core.specs.Kernels.{Function}
 use Rattle.cg_core.specs.Terms.{Tree, term, struct, Named, end, field}
 use Rattle.cg_faults.specs.Events as faults
-use Rattle.cg_faults.specs.Events.{Before, LimitsHold, after, next_direction, later_directions}
+use Rattle.cg_faults.specs.Events.{Before, LimitsHold, after, next_direction}
 use Rattle.cg_core_def.specs.Lawful.{AreSome, field_names, AreLawfulFields}
 use Rattle.cg_check_def.specs.NormalForm.{core, core_fields}
 use Rattle.cg_certcheck_def.specs.Reads.{tree_at, trees_at}
-use Rattle.cg_certcheck_def.specs.Events.{Event, AllHold, events, field_events, field_strings, size, field_sizes, strings_at, is_some, name_at}
+use Rattle.cg_certcheck_def.specs.Events.{Event, AllHold, events, field_events, field_strings, size, field_sizes, strings_at}
 use Rattle.cg_certcheck_def.specs.Events as certs
 use Rattle.cg_certcheck_def.specs.Tests.{splits}
 use Rattle.cg_typing.specs.Contexts.{Context, first, second}
 use Rattle.cg_typing.specs.Rules.{Derives, DerivesFields}
 use Rattle.cg_check_laws.proofs.Clean.{Within, within_first, within_second}
-use Rattle.cg_check_laws.proofs.SoundFields.{ways, Follows, behind, made_plain, made_checked}
-use Rattle.cg_certcheck_laws.proofs.FieldWays.{next_along, follows_on, ways_on}
+use Rattle.cg_check_laws.proofs.SoundFields.{ways, Follows, behind, made_plain, made_checked, next_along, ways_on}
+use Rattle.cg_certcheck_laws.proofs.FieldWays.{follows_on}
 use Rattle.cg_certcheck_laws.proofs.Limits.{limits_append}
-use Rattle.cg_certcheck_laws.proofs.MarkTests.{and_both, splits_is}
+use Rattle.cg_certcheck_laws.proofs.MarkTests.{splits_is}
 use Rattle.cg_certcheck_laws.proofs.Nodes.{HeadsIn, heads_part, heads_node}
 use Rattle.cg_certcheck_laws.proofs.Rows.{hold_left, hold_right, reached_is}
 use Rattle.cg_certcheck_laws.proofs.SoundLeaves.{Sound, SoundShape}
+use Rattle.cg_base.proofs.Truths.{both as and_both}
 
 module _ (functions : List Function) (vars : List Kinds) (types_in : ℕ) where
   abbrev E : Context → List Tau → Option Tau → List CertNode → ℕ → Tree Place → List Event

@@ -29,9 +29,10 @@ use Rattle.cg_check_laws.proofs.Clash.{Lawful}
 use Rattle.cg_check_laws.proofs.Clean.{Of, Within}
 use Rattle.cg_check_laws.proofs.SoundLeaves.{in_meets, mention_is, ranged}
 use Rattle.cg_certcheck_laws.proofs.Limits.{limits_append, meets_limits, argument_limits}
-use Rattle.cg_certcheck_laws.proofs.MarkTests.{and_both, drops_are, others_are}
+use Rattle.cg_certcheck_laws.proofs.MarkTests.{drops_are, others_are}
 use Rattle.cg_certcheck_laws.proofs.Nodes.{Heads, heads_plain}
 use Rattle.cg_certcheck_laws.proofs.Rows.{reached_is, met_is}
+use Rattle.cg_base.proofs.Truths.{both as and_both}
 
 -- a leaf is reached and judged
 pub record LeafHolds (ns : List CertNode) (node : Node) (test : Bool) : Type 0 where

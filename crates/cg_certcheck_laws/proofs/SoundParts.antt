@@ -28,12 +28,12 @@ use Rattle.cg_check_laws.proofs.SoundParts.{literal_core}
 use Rattle.cg_certcheck_laws.proofs.ReadSteps.{one_reads, two_reads}
 use Rattle.cg_certcheck_laws.proofs.Guided.{guided}
 use Rattle.cg_certcheck_laws.proofs.Limits.{limits_append, meets_limits}
-use Rattle.cg_certcheck_laws.proofs.MarkTests.{and_both}
 use Rattle.cg_certcheck_laws.proofs.Nodes.{Heads, heads_last, heads_part, heads_plain, heads_marked}
 use Rattle.cg_certcheck_laws.proofs.OperandLimits.{one_limits, two_limits}
 use Rattle.cg_certcheck_laws.proofs.Operands.{common, one_type, left_type, right_type, one_way, left_way, right_way, one_holds, two_hold}
 use Rattle.cg_certcheck_laws.proofs.Rows.{hold_left, hold_right, reached_is, split_is, met_is}
 use Rattle.cg_certcheck_laws.proofs.SoundLeaves.{Sound, SoundShape}
+use Rattle.cg_base.proofs.Truths.{both as and_both}
 
 -- the nodes of a derivation with one part
 pub heads_one : (ns : List CertNode) (node : Node) (k : ℕ) (d : Derivation) → is_some ns ≡ true → (same_node (name_at ns) node && no_strings ns) ≡ true → Heads k d (behind ns)

@@ -1,5 +1,7 @@
-//! What a certificate is judged by, node by node (`specs/Events.antt`), and the laws on it: that this decides exactly which certificates
-//! spell a derivation, and that one pass answers the first test that fails. docs/LANGUAGE.md, "Certificates", says the order of judging.
+//! Stage: certificates. The events of a certificate decide exactly what it spells, and one pass answers the first.
+//! Role: laws.
+//! Promises: `events_decide`, `pass_answers_the_first_fault`, `kept_is_listed`.
+//! May cite: definitions, laws and public crates below; no code above.
 #![tactic(auto)]
 
 mod law;

@@ -14,12 +14,12 @@ use Rattle.cg_core.specs.declared.term.FieldTerm.{FieldTerm}
 use Rattle.cg_core.specs.declared.term.Seen.{Seen as Observer}
 use Rattle.cg_core.specs.Kernels.{the_field}
 use Rattle.cg_core.specs.Terms.{to_named}
-use Rattle.cg_kinds.proofs.Laws.{bang_free}
-use Rattle.cg_kinds.specs.Kinds.{bang, kinds}
+use Rattle.cg_kinds.specs.Kinds.{kinds}
 use Rattle.cg_certcheck_def.specs.Events.{field_strings}
 use Rattle.cg_certcheck_def.specs.Tests.{fits, splits, splits_where}
 use Rattle.cg_typing.specs.Contexts.{Context, among, second}
 use Rattle.cg_check_uses.specs.Uses.{is_seen, seen_at, seen_places, table}
+use Rattle.cg_kinds.proofs.BangKinds.{bang_shares}
 
 -- a mark and an entry
 pub present_fits : (vars : List Kinds) (observed : Bool) (m : Mark) (t : Tau) → fits vars observed m (Some t) ≡ fits_present (kinds vars t).share observed m
@@ -35,10 +35,6 @@ gone_fits vars observed Left = refl
 gone_fits vars observed Right = refl
 gone_fits vars observed Both = refl
 gone_fits vars observed Seen = refl
-
--- what is observed may be shared
-pub bang_shares : (vs : List Kinds) (t : Tau) → (kinds vs (bang t)).share ≡ true
-bang_shares vs t = (bang_free vs t).1
 
 -- variables, one after another
 module _ (vars : List Kinds) where

@@ -1,29 +1,14 @@
 -- Tests on types and contexts.
-use Rattle.std.proofs.Common.{◌≡◌, ◌<◌, ◌≤◌, ◌+◌, ◌-◌, ℕ, zero, suc, Bool, true, false, ◌&&◌, List, [], ◌∷◌, length, take, drop, get_or, refl, sym, ap, ◌∙◌, arith, ⊎_elim}
+use Rattle.std.proofs.Common.{◌≡◌, ◌<◌, ◌≤◌, ◌+◌, ◌-◌, ℕ, zero, suc, Bool, true, false, ◌&&◌, List, [], ◌∷◌, length, take, drop, get_or, refl, sym, ap, ◌∙◌, arith}
 use Rattle.std.proofs.lemmas.List.{at_drop_more, at_drop_all, take_all, length-drop}
 use Rattle.cg_base.specs.declared.kind.Kinds.{Kinds}
 use Rattle.cg_base.specs.declared.ty.Ty.{the_lemmas}
-use Rattle.cg_base.specs.Types.{Tau}
 use Rattle.cg_certcheck_nodes.proofs.ContextSteps.{found_drops}
 use Rattle.cg_certcheck_nodes.specs.Contexts.{context_of, entry_of}
 use Rattle.cg_certcheck_nodes.specs.declared.context.Entry.{Entry}
-use Rattle.cg_check_laws.proofs.Basics.{bool_is}
-use Rattle.cg_check_laws.proofs.SameTypes.{same_is, same_refl}
-use Rattle.cg_faults.specs.Same.{same}
-use Rattle.cg_kinds.proofs.Laws.{bang_free}
-use Rattle.cg_kinds.specs.Kinds.{bang, kinds}
 use Rattle.cg_certcheck_def.specs.Tests.{drops_all, drops_but, entry_drops}
-
--- the test on types, by what it says
-pub same_when : (a b : Tau) → a ≡ b → same a b ≡ true
-same_when a b e = ap (same a) (sym e) ∙ same_refl a
-
-pub same_unless : (a b : Tau) → (a ≡ b → ⊥) → same a b ≡ false
-same_unless a b ne = ⊎_elim (λ t. absurd (ne (same_is a b t))) (λ f. f) (bool_is (same a b))
-
--- what is observed may be dropped
-pub bang_drops : (vs : List Kinds) (t : Tau) → (kinds vs (bang t)).drop ≡ true
-bang_drops vs t = (bang_free vs t).0
+use Rattle.cg_check_laws.proofs.SameTypeTests.{same_when, same_unless}
+use Rattle.cg_kinds.proofs.BangKinds.{bang_drops}
 
 -- entries, one after another
 module _ (vars : List Kinds) (es : List Entry) where

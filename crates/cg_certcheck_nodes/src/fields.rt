@@ -17,8 +17,8 @@ ghost use Rattle.cg_certcheck_def.specs.Pass.{in_front as in_front_of, no_fields
 use crate::got::{Got, copied_marks, made};
 use crate::source::{Cursor, Source};
 use cg_base::{Items, Memory, Name, Part, Place, Sigil, Ty};
-use cg_core::{Deriv, FieldTerm, Form, Mark, Node, Typed};
 use cg_check_pieces::{add_core, add_part, add_tree, turned};
+use cg_core::{Deriv, FieldTerm, Form, Mark, Node, Typed};
 use std::alloc::Global;
 
 /// What the fields of a record come to, the last one first: their types by name, their cores, and their derivations; and where the pass

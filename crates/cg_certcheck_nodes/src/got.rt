@@ -10,8 +10,8 @@ ghost use Rattle.cg_typing.specs.Trees as trees;
 
 use crate::source::{Cursor, Source};
 use cg_base::{Items, Memory, Place, Ty};
-use cg_core::{Deriv, Form, Mark, Node, Term, Typed};
 use cg_check_uses::{leaf, one_part, three_parts, two_parts};
+use cg_core::{Deriv, Form, Mark, Node, Term, Typed};
 use std::alloc::Global;
 
 /// What a part of a body comes to: its core, its derivation, and where the pass stands behind it.

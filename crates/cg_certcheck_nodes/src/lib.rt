@@ -1,6 +1,8 @@
-//! What the second checker of certificates goes by that isn't a pass over terms: contexts as marks leave them ([`firsts`],
-//! [`seconds`], [`opened`]), how a node is reached ([`reach_leaf`], [`reach_split`], [`reach_record`]), what is tested there, and what
-//! each form of node comes to by what its parts come to ([`Got`]). docs/LANGUAGE.md, "Certificates", says the rows.
+//! Stage: certificates. Contexts as marks leave them, how a node is reached, and what a form comes to by its parts.
+//! Role: part of `cg_certcheck`.
+//! Promises: `firsts`, `seconds`, `opened`, `reach_leaf`, `reach_split`, `reach_record`, `let_node` and so on, each as the pass answers.
+//! May cite: anything below it, of its stage and of those below; no crate above.
+//! docs/LANGUAGE.md, "Certificates", says the rows.
 #![tactic(auto)]
 
 mod context;

@@ -12,8 +12,8 @@ ghost use Rattle.cg_certcheck_def.specs.Pass.{operated as operated_of, operated_
 use crate::got::{Got, Pair, Single, Triple, alone, branched, made, paired};
 use crate::source::Source;
 use cg_base::{Items, Memory, Name, Place, Ty};
-use cg_core::{At, Form, Mark, Node, Op, Seen, TyArg};
 use cg_check_pieces::{copied_observers, kept_while, one_operand, two_operands};
+use cg_core::{At, Form, Mark, Node, Op, Seen, TyArg};
 
 /// An operator with one operand, of this type. Want of memory is its one refusal.
 pub fn operated(source: &Source, op: Op, place: Place, ty: Ty, part: Got) -> Result<Got, Memory>

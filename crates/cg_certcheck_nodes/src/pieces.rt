@@ -15,9 +15,9 @@ use crate::source::Source;
 use crate::tests::meets;
 use cg_base::{Name, Part, Ty};
 use cg_cert::CertFault;
+use cg_check_pieces::{is_left, is_there};
 use cg_kinds::kinds_of;
 use cg_typing_parts::{alternative_in, field_in, held, is_last, is_read_only, may_be_put_over};
-use cg_check_pieces::{is_left, is_there};
 
 // Whether what a part holds is the type that is checked against, if any is.
 fn meets_held(direction: Option<&Ty>, part: Option<&Part>) -> bool

@@ -14,10 +14,10 @@ ghost use Rattle.cg_certcheck_def.specs.Tests.{fits as fits_of, splits as splits
 use crate::context::{Entry, seconds};
 use crate::source::Source;
 use cg_base::{Items, Memory, Place, Ty};
-use cg_core::{FieldTerm, Mark, Seen};
-use cg_kinds::kinds_of;
 use cg_check_pieces::is_seen_at;
 use cg_check_uses::seen_places;
+use cg_core::{FieldTerm, Mark, Seen};
+use cg_kinds::kinds_of;
 
 // Whether a mark fits a present variable.
 fn fits_present(shared: bool, observed: bool, mark: Mark) -> bool

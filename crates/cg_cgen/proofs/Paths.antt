@@ -199,7 +199,7 @@ one_apart x y us w vs true d q h =
     ap (λ b. if b then Some (with_others w us) else look y vs) k ∙ sym (ap (λ b. if b then Some w else look y vs) k)
 one_apart x y us w vs false d q h = ap (λ z. if bytes_eq y w.name then Some w else z) h
 
-look_apart : (x y : List ℕ) (us : List Scalar) (fr : Frame) → bytes_eq y x ≡ false → look y (with_scalars x us fr) ≡ look y fr
+pub look_apart : (x y : List ℕ) (us : List Scalar) (fr : Frame) → bytes_eq y x ≡ false → look y (with_scalars x us fr) ≡ look y fr
 look_apart x y us [] d = refl
 look_apart x y us (w ∷ vs) d = one_apart x y us w vs (bytes_eq x w.name) d refl (look_apart x y us vs d)
 

@@ -1,5 +1,8 @@
-//! The C of operators, by [`op_stmts`]: statements that do on words of C what an operator does on numbers (docs/LANGUAGE.md,
-//! "Operators in C").
+//! Stage: C. The C of operators, and that it does what they do.
+//! Role: public.
+//! Promises: `op_stmts` gives the statements of each operator, exactly; law: `operators_compute`.
+//! May cite: anything of its stage and of those below; no crate above.
+//! docs/LANGUAGE.md, "Operators in C", says them.
 #![tactic(auto)]
 
 mod copies;

@@ -1,5 +1,5 @@
 -- Operands of an operator in their list, and the sizes of lists of terms.
-use Rattle.std.proofs.Common.{◌≡◌, ◌<◌, ◌≤◌, ◌+◌, ◌-◌, Bool, Option, None, List, [], ◌∷◌, length, map, take, drop, get_or, refl, sym, ap, ◌∙◌, arith}
+use Rattle.std.proofs.Common.{◌≡◌, ◌<◌, ◌≤◌, ◌+◌, ◌-◌, Bool, Option, None, List, [], ◌∷◌, length, map, take, drop, get_or, refl, ap, ◌∙◌, arith}
 use Rattle.cg_base.specs.declared.kind.Kinds.{Kinds}
 use Rattle.cg_base.specs.declared.place.Place.{Place}
 use Rattle.cg_base.specs.Types as types
@@ -16,23 +16,8 @@ use Rattle.cg_core.specs.declared.term.Form.TheVariants.{Op as OpForm}
 use Rattle.cg_core.specs.declared.term.Term.{Term}
 use Rattle.cg_core.specs.declared.term.Typed.{Typed}
 use Rattle.cg_core.specs.Kernels.{Function, the_core, the_core_form, the_field, the_term}
-use Rattle.cg_core.specs.Terms.{none, more, op, to_named, to_trees}
-
--- one operand
-pub one_operand : (ts : List (Term Place)) (x : Term Place) → 1 ≤ length ts → length ts < 2 → x ≡ get_or ts 0 x → to_trees (map the_term ts) ≡ more (the_term x) none
-unfolding to_trees
-one_operand [] x h w e = absurd (omega arith)
-one_operand (y ∷ []) x h w e = ap (λ t. more (the_term t) none) (sym e)
-one_operand (y ∷ z ∷ ts) x h w e = absurd (omega arith)
-
--- two
-pub two_operands : (ts : List (Term Place)) (a b : Term Place) → 2 ≤ length ts → length ts < 3 → a ≡ get_or ts 0 a → b ≡ get_or ts 1 b
-    → to_trees (map the_term ts) ≡ more (the_term a) (more (the_term b) none)
-unfolding to_trees
-two_operands [] a b h w e k = absurd (omega arith)
-two_operands (x ∷ []) a b h w e k = absurd (omega arith)
-two_operands (x ∷ y ∷ []) a b h w e k = ap (λ t. more (the_term t) (more (the_term y) none)) (sym e) ∙ ap (λ t. more (the_term a) (more (the_term t) none)) (sym k)
-two_operands (x ∷ y ∷ z ∷ ts) a b h w e k = absurd (omega arith)
+use Rattle.cg_core.specs.Terms.{none, op, to_named, to_trees}
+use Rattle.cg_core.proofs.Operands.{one_operand, two_operands}
 
 -- neither
 pub other_operands : (functions : List Function) (vars : List Kinds) (p : List Tau) (before : List Bool) (direction : Option Tau) (place : Place) (o : Op) (ts : List (Term Place))

@@ -20,13 +20,15 @@ ghost use Rattle.cg_typing.specs.Operators.{takes as takes_by};
 ghost use Rattle.cg_typing.specs.Parts.{given_by, is_small_enough as small_by, widens as widens_by};
 
 use cg_base::{Items, Memory, Place, Ty};
-use cg_check_context::{Known, Source, Stop, branches, but_last, last_type, meet, member_type, need};
-use cg_core::{At, FieldTerm, Op, TyArg};
-use cg_faults::Rule;
+use cg_check_context::{
+    Known, Source, Stop, branches, but_last, last_type, meet, member_type, need,
+};
 use cg_check_nodes::{
     Fields, Got, annot_node, app_node, boxed, boxed_tested, case_node, cast_node, copied,
     esac_node, if_node, member_node, operated, operated_both, put_node, record_node, struct_node,
 };
+use cg_core::{At, FieldTerm, Op, TyArg};
+use cg_faults::Rule;
 use cg_typing_parts::{Sort, is_made_of, is_small_enough, takes, widens, with_part};
 use std::alloc::Global;
 

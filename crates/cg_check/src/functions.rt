@@ -21,15 +21,14 @@ use crate::Refusal;
 use crate::pass::check_term;
 use cg_base::{Items, Limit, Memory, Place, Ty};
 use cg_check_context::{Known, Source, Stop, end_scope};
+use cg_check_nodes::Got;
+use cg_check_pieces::{KeptBodies, KeptBody};
+use cg_check_uses::{Use, keep_new, leave, settle};
 use cg_core::{Deriv, KBody, KFun, Kernel, Term};
 use cg_faults::Rule;
-use cg_check_uses::Use;
 use cg_kinds::kinds_of;
-use cg_check_nodes::Got;
-use cg_typing_parts::has_word_arrays;
-use cg_check_pieces::{KeptBodies, KeptBody};
 use cg_typing::Checked;
-use cg_check_uses::{keep_new, leave, settle};
+use cg_typing_parts::has_word_arrays;
 use std::alloc::Global;
 
 /// Judges a lawful kernel (docs/LANGUAGE.md, "Typing"). Ok exactly where the typing rules derive it and no type passes the limit: the

@@ -14,12 +14,12 @@ ghost use Rattle.cg_check_pieces.specs.View.{bounds_of, way_of};
 
 use cg_base::{Fun, Items, Place, Ty};
 use cg_check_context::{Known, Source, Stop, may_touch, meet, need, type_at};
-use cg_core::{Form, Node, Op, Term, TyArg, Typed};
-use cg_faults::Rule;
 use cg_check_nodes::{Got, boxed, copied, leaf_of};
-use cg_typing_parts::{arguments_fault, in_range, is_word, mentioned};
 use cg_check_pieces::copied_arguments;
 use cg_check_uses::{no_uses, one_use};
+use cg_core::{Form, Node, Op, Term, TyArg, Typed};
+use cg_faults::Rule;
+use cg_typing_parts::{arguments_fault, in_range, is_word, mentioned};
 use std::alloc::Global;
 
 // A core of this type and form.

@@ -36,15 +36,15 @@ use cg_check_context::{
     Known, Source, Stop, alternative_type, flags_of, injected_type, inner, inner_two, leave, need,
     observe, observe_all, put_type, restore, taken_type,
 };
-use cg_core::{At, FieldTerm, Form, Op, Seen, Term, TyArg};
-use cg_faults::Rule;
 use cg_check_nodes::{
     Fields, Got, are_none, behind_observed, boxed, boxed_tested, con_node, end_scoped, end_taken,
     enter_both, enter_copy, in_front, let_bang_node, let_node, no_fields, take_node,
 };
-use cg_typing_parts::{Sort, has_word_arrays, is_word, sort_of, with_part};
 use cg_check_pieces::{is_literal, later_wanted, next_wanted, other_way, parts_of};
 use cg_check_uses::{mark, seen_places};
+use cg_core::{At, FieldTerm, Form, Op, Seen, Term, TyArg};
+use cg_faults::Rule;
+use cg_typing_parts::{Sort, has_word_arrays, is_word, sort_of, with_part};
 
 /// What a term comes to, in a context and a direction, behind parts that touched some variables: as the pass answers it.
 #[cycle(check)]

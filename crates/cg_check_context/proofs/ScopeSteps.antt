@@ -1,5 +1,5 @@
 -- Where scopes begin and end, and tests in a row.
-use Rattle.std.proofs.Common.{◌≡◌, ◌<◌, ◌≤◌, ℕ, zero, suc, ◌+◌, ◌-◌, if◌then◌else◌, Bool, true, false, List, [], ◌∷◌, ◌++◌, length, Option, Some, None, Err, get_or, refl, ap, ◌∙◌, arith}
+use Rattle.std.proofs.Common.{◌≡◌, ◌<◌, ◌≤◌, ℕ, zero, suc, ◌+◌, ◌-◌, if◌then◌else◌, Bool, true, false, List, [], ◌∷◌, length, Option, Some, None, Err, get_or, refl, ap, ◌∙◌, arith}
 use Rattle.cg_base.specs.declared.kind.Kinds.{Kinds}
 use Rattle.cg_base.specs.declared.place.Place.{Place}
 use Rattle.cg_base.specs.Types.{Tau}
@@ -16,6 +16,7 @@ use Rattle.cg_typing.specs.Functions.{Asked, these, a_cell, an_element, nothing,
 use Rattle.cg_typing.specs.Parts.{has_word_arrays, is_cell}
 use Rattle.cg_kinds.specs.Kinds.{kinds, is_word}
 use Rattle.cg_check_uses.specs.Uses.{last, front}
+use Rattle.cg_check_uses.proofs.TableSteps.{front_of as front_push}
 
 -- the last of some, and the one before
 last_index : (us : List Use) (i : ℕ) (d : Use) → length us ≡ i + 1 → last us ≡ get_or us i d
@@ -121,11 +122,5 @@ module _ {B : Type 0} (functions : List Function) (vars : List Kinds) where
           → arguments functions vars asked (a ∷ args) k ≡ Err (rule r, p)
       go None e h again = argument_go (next_asked asked) a.place a.ty (arguments functions vars (later_asked asked) args k) e ∙ again h
       go (Some s) e h again = argument_stop (next_asked asked) a.place a.ty s (arguments functions vars (later_asked asked) args k) e ∙ ap (at B) (some_is (s, a.place) (r, p) h)
-
--- all but the last
-pub front_push : (us : List Use) (u : Use) → front (us ++ u ∷ []) ≡ us
-front_push [] u = refl
-front_push (v ∷ []) u = refl
-front_push (v ∷ w ∷ us) u = ap (λ xs. v ∷ xs) (front_push (w ∷ us) u)
 
 pub ruleset scope_steps = (last_at, before_last_at, none_before_last, push_flag, front_push)

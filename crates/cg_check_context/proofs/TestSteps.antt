@@ -1,12 +1,10 @@
 -- Tests of the pass, and what follows of their answers whatever comes behind them.
-use Rattle.std.proofs.Common.{◌≡◌, ◌<◌, ◌≤◌, ℕ, zero, suc, Bool, true, false, not, ◌||◌, cond, List, [], ◌∷◌, ◌++◌, length, drop, Err, get_or, refl, sym, ap, ◌∙◌, arith, ⊎_elim, ◌+◌}
+use Rattle.std.proofs.Common.{◌≡◌, ◌<◌, ◌≤◌, ℕ, zero, suc, Bool, true, false, not, ◌||◌, cond, List, [], ◌∷◌, ◌++◌, length, drop, Err, get_or, refl, sym, ap, ◌∙◌, arith, ◌+◌}
 use Rattle.std.proofs.lemmas.List.{at_drop_more, at_drop_all}
 use Rattle.cg_base.specs.declared.kind.Kinds.{Kinds}
 use Rattle.cg_base.specs.declared.place.Place.{Place}
 use Rattle.cg_base.specs.declared.ty.Ty.{the_lemmas}
 use Rattle.cg_base.specs.Types.{Tau, unit}
-use Rattle.cg_check_laws.proofs.SameTypes.{same_is, same_refl}
-use Rattle.cg_check_laws.proofs.Basics.{bool_is}
 use Rattle.cg_check_def.specs.Pass.{Out, need, observers_test, branches_test}
 use Rattle.cg_check_context.specs.declared.source.Known.{Known}
 use Rattle.cg_check_context.specs.View.{entries_of, type_of_known, types_in}
@@ -16,18 +14,11 @@ use Rattle.cg_faults.specs.declared.rule.Rule.TheVariants.{K4, K5}
 use Rattle.cg_check_uses.specs.declared.entry.Use.{Use}
 use Rattle.cg_faults.specs.Plain.{plain_at}
 use Rattle.cg_faults.specs.Rule.{rule}
-use Rattle.cg_faults.specs.Same.{same}
-use Rattle.cg_kinds.proofs.Laws.{bang_free}
-use Rattle.cg_kinds.specs.Kinds.{bang, kinds}
+use Rattle.cg_kinds.specs.Kinds.{kinds}
 use Rattle.cg_typing.specs.Contexts.{push, shares, drops}
 use Rattle.cg_check_uses.specs.Uses.{flag_at}
-
--- the test on types, by what it says
-pub same_when : (a b : Tau) → a ≡ b → same a b ≡ true
-same_when a b e = ap (same a) (sym e) ∙ same_refl a
-
-pub same_unless : (a b : Tau) → (a ≡ b → ⊥) → same a b ≡ false
-same_unless a b ne = ⊎_elim (λ t. absurd (ne (same_is a b t))) (λ f. f) (bool_is (same a b))
+use Rattle.cg_check_laws.proofs.SameTypeTests.{same_when, same_unless}
+use Rattle.cg_kinds.proofs.BangKinds.{bang_shares, bang_drops}
 
 -- flags
 pub flag_get : (bs : List Bool) (i : ℕ) (d : Bool) → i < length bs → flag_at bs i ≡ get_or bs i d
@@ -43,10 +34,6 @@ flag_past (b ∷ bs) (suc i) h = flag_past bs i (omega (arith, h))
 pub push_flag : (bs : List Bool) (b : Bool) → bs ++ b ∷ [] ≡ push bs b
 push_flag [] b = refl
 push_flag (c ∷ bs) b = ap (λ us. c ∷ us) (push_flag bs b)
-
--- what is observed may be shared
-pub bang_shares : (vs : List Kinds) (t : Tau) → (kinds vs (bang t)).share ≡ true
-bang_shares vs t = (bang_free vs t).1
 
 pub unit_shares : (vs : List Kinds) → (kinds vs unit).share ≡ true
 unfolding kinds
@@ -73,10 +60,6 @@ module _ {A : Type 0} (functions : List Function) (vars : List Kinds) (p : List 
 
   pub observers_past : (i : ℕ) → length os ≤ i → observers_test functions vars p before (drop i os) k ≡ k
   observers_past i h = at_drop_all (λ l. observers_test functions vars p before l k) os i h
-
--- what is observed may be dropped
-pub bang_drops : (vs : List Kinds) (t : Tau) → (kinds vs (bang t)).drop ≡ true
-bang_drops vs t = (bang_free vs t).0
 
 -- variables behind branches, one after another
 module _ {A : Type 0} (functions : List Function) (vars : List Kinds) (x y : Place) (ks : List Known) (us vs : List Use) (k : Out A) where

@@ -1,6 +1,8 @@
-//! The contexts of the checker: what a variable is known by ([`Known`]), where scopes begin and end ([`enter`], [`leave`], [`end`]),
-//! what a `let!` observes ([`observe`], [`restore`]), and the tests of the pass that need no term ([`may_touch`], [`meet`],
-//! [`branches`], [`member_type`] and its like). docs/LANGUAGE.md, "Typing", says the rules.
+//! Stage: types. Contexts of the checker: where scopes begin and end, what is observed, and tests that need no term.
+//! Role: part of `cg_check`.
+//! Promises: `enter`, `leave`, `end`, `observe`, `restore`, `may_touch`, `meet`, `branches`, `member_type` and so on, as the pass answers.
+//! May cite: anything below it, of its stage and of those below; no crate above.
+//! docs/LANGUAGE.md, "Typing", says the rules.
 #![tactic(auto)]
 
 mod observed;

@@ -15,13 +15,13 @@ ghost use Rattle.cg_typing.specs.Parts as parts;
 use crate::source::Source;
 use crate::stop::Stop;
 use cg_base::{Name, Part, Place, Ty};
+use cg_check_pieces::{is_left, is_there};
 use cg_core::At;
 use cg_faults::Rule;
 use cg_kinds::kinds_of;
 use cg_typing_parts::{
     alternative_in, field_in, held, is_last, is_read_only, is_variant, may_be_put_over,
 };
-use cg_check_pieces::{is_left, is_there};
 
 /// A rule that has to hold here.
 pub fn need(rule: Rule, place: Place, holds: bool) -> Result<(), Stop>

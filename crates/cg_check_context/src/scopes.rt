@@ -16,10 +16,9 @@ use crate::source::Source;
 use crate::stop::Stop;
 use crate::tests::{end_scope, inner, with_new};
 use cg_base::{Memory, Place, Ty};
+use cg_check_uses::{NO_USE, Use, mark_but};
 use cg_faults::Rule;
-use cg_check_uses::Use;
 use cg_kinds::kinds_of;
-use cg_check_uses::{NO_USE, mark_but};
 use std::alloc::Global;
 
 /// What is done with the last variable; nothing, where there is none.

@@ -16,11 +16,10 @@ ghost use Rattle.cg_check_uses.specs.Uses as tables;
 use crate::source::{Known, Source};
 use crate::stop::Stop;
 use cg_base::{Items, Memory, Place, Ty};
+use cg_check_uses::{Use, mark};
 use cg_core::Seen;
 use cg_faults::Rule;
-use cg_check_uses::Use;
 use cg_kinds::{bang, kinds_of, same};
-use cg_check_uses::mark;
 use std::alloc::Global;
 
 /// T1 where a synthesised type is checked.

@@ -1,7 +1,7 @@
 -- The checker as a pure function: one pass over a term, which answers its core, its derivation and what it does with each variable, or
 -- the first fault that it meets. It makes no choice of splits and looks at no other part of the body: what a node's marks are is told
 -- by what its parts touch, and what is present although no part touches it is put in where that is known.
-use Rattle.std.specs.Prelude.{ℕ, zero, suc, Bool, true, false, ◌&&◌, ◌||◌, not, cond, nat_eq, Option, Some, None, Result, Ok, Err, List, [], ◌∷◌, ◌++◌, length, map, slice_set}
+use Rattle.std.specs.Prelude.{ℕ, suc, Bool, true, false, ◌||◌, not, cond, Option, Some, None, Result, Ok, Err, List, [], ◌∷◌, ◌++◌, length}
 use Rattle.cg_base.specs.declared.kind.Kinds.{Kinds}
 use Rattle.cg_base.specs.declared.kind.Sigil.TheVariants.{U}
 use Rattle.cg_base.specs.declared.place.Place.{Place}

@@ -1,3 +1,5 @@
-//! What the checker's pass gives of a kernel, as definitions alone, in `specs/`: the pass, cores and derivations by occurrences, and how often a
-//! variable is used (docs/LANGUAGE.md, "Typing").
+//! Stage: types. The checker as a pure function, one pass over each body, and what it keeps.
+//! Role: definitions.
+//! Promises: definitions alone (`specs/Pass.antt`, `NormalForm`, `Kept`, `Uses`).
+//! May cite: definitions and plain data of crates below; no laws, and no code above.
 #![tactic(auto)]

@@ -1,5 +1,5 @@
 -- Lemmas on tests, entries, contexts and events.
-use Rattle.std.proofs.Common.{◌≡◌, ℕ, zero, suc, ◌<◌, ◌≤◌, Bool, true, false, ◌&&◌, ◌||◌, not, cond, Option, Some, None, List, [], ◌∷◌, ◌++◌, length, ◌⊎◌, inl, inr, ⊎_elim, refl, sym, ap, ◌∙◌, arith, nat_lt, lt-ltb, ltb-true}
+use Rattle.std.proofs.Common.{◌≡◌, ℕ, zero, suc, ◌<◌, ◌≤◌, Bool, true, false, ◌&&◌, ◌||◌, not, cond, Option, Some, None, List, [], ◌∷◌, ◌++◌, length, ◌⊎◌, refl, sym, ap, ◌∙◌, arith, nat_lt, lt-ltb, ltb-true}
 use Rattle.cg_base.specs.declared.place.Place.{Place}
 use Rattle.cg_base.specs.Types.{Tau, unit}
 use Rattle.cg_core.specs.declared.derivation.Mark.{Mark}
@@ -13,45 +13,15 @@ use Rattle.cg_faults.specs.Events.{Event, RulesHold}
 use Rattle.cg_check_def.specs.NormalForm.{pick, marks, core}
 use Rattle.cg_faults.specs.Plain.{plain_at, plain_in, banged_where, observed}
 use Rattle.cg_typing.specs.Rules.{type_at}
-
-pub bool_is : (b : Bool) → (b ≡ true) ⊎ (b ≡ false)
-bool_is true = inl refl
-bool_is false = inr refl
-
-pub apart : {X : Type 0} (b : Bool) → b ≡ true → b ≡ false → X
-apart b h k = absurd (cc)
-
--- tests
-pub or_left : (a b : Bool) → a ≡ true → (a || b) ≡ true
-or_left true b e = refl
-or_left false b e = absurd (cc)
-
-pub or_right : (a b : Bool) → b ≡ true → (a || b) ≡ true
-or_right true b e = refl
-or_right false b e = e
+use Rattle.cg_base.proofs.Truths.{both as and_both}
 
 pub or_false : (a b : Bool) → (a || b) ≡ false → (a ≡ false) × (b ≡ false)
 or_false true b e = absurd (cc)
 or_false false b e = (refl, e)
 
-pub none_or : (a b : Bool) → a ≡ false → b ≡ false → (a || b) ≡ false
-none_or true b h k = h
-none_or false b h k = k
-
 pub or_none : (x : Bool) → (x || false) ≡ x
 or_none true = refl
 or_none false = refl
-
-pub and_both : (a b : Bool) → (a && b) ≡ true → (a ≡ true) × (b ≡ true)
-and_both true b e = (refl, e)
-and_both false b e = absurd (cc)
-
-pub or_cases : (a b : Bool) → (a || b) ≡ true → (a ≡ true) ⊎ (b ≡ true)
-or_cases true b e = inl refl
-or_cases false b e = inr e
-
-pub or_elim : {X : Type 0} (a b : Bool) → (a || b) ≡ true → (a ≡ true → X) → (b ≡ true → X) → X
-or_elim a b h f g = ⊎_elim f g (or_cases a b h)
 
 pub not_or : (a b : Bool) → (not a || b) ≡ true → a ≡ true → b ≡ true
 not_or true b e h = e
@@ -108,16 +78,6 @@ look_second m [] i = sym (second_none (mark_at m i))
 look_second [] (o ∷ g) i = refl
 look_second (m ∷ ms) (o ∷ g) zero = refl
 look_second (m ∷ ms) (o ∷ g) (suc i) = look_second ms g i
-
-pub length_first : (m : List Mark) (g : Context) → length m ≡ length g → length (first m g) ≡ length g
-length_first m [] e = refl
-length_first [] (o ∷ g) e = e
-length_first (m ∷ ms) (o ∷ g) e = ap suc (length_first ms g (omega arith))
-
-pub length_second : (m : List Mark) (g : Context) → length m ≡ length g → length (second m g) ≡ length g
-length_second m [] e = refl
-length_second [] (o ∷ g) e = e
-length_second (m ∷ ms) (o ∷ g) e = ap suc (length_second ms g (omega arith))
 
 pub length_push : {A : Type 0} (xs : List A) (x : A) → length (push xs x) ≡ suc (length xs)
 length_push [] x = refl

@@ -18,8 +18,10 @@ use Rattle.cg_typing.specs.Operators.{sort_of}
 use Rattle.cg_typing.specs.Parts.{taken_by, field_in, alternative_in, held, with_part}
 use Rattle.cg_faults.specs.Plain.{plain, plain_at, observed}
 use Rattle.cg_typing.specs.Rules.{is_literal, second_branch}
-use Rattle.cg_check_laws.proofs.Basics.{bool_is, apart, or_left, or_elim, not_or, lt_test, hold_left, hold_right, length_push, length_banged, at_old, at_kept}
+use Rattle.cg_check_laws.proofs.Basics.{not_or, lt_test, hold_left, hold_right, length_push, length_banged, at_old, at_kept}
 use Rattle.cg_check_laws.proofs.Operands.{checked_is, left_holds, right_holds, operand_holds}
+use Rattle.cg_check_uses.proofs.Numbers.{apart}
+use Rattle.cg_base.proofs.Truths.{either_bool as bool_is, either as or_elim, or_left}
 
 -- the number of an operator's operands
 pub at_most_two : (o : Op) → operands o ≤ 2

@@ -13,8 +13,11 @@ use Rattle.cg_typing.specs.Contexts.{Context, look, mark_at, push, first_side, s
 use Rattle.cg_faults.specs.Events.{Before, after_seen, upto}
 use Rattle.cg_faults.specs.Occurrences.{touched, used}
 use Rattle.cg_faults.specs.Plain.{plain_at, banged_where, observed}
-use Rattle.cg_check_laws.proofs.Basics.{apart, or_elim, lt_test_is, below_suc, look_first, look_second, length_first, length_second, length_push, look_old, look_new, at_old, at_new, at_banged, length_banged}
+use Rattle.cg_check_laws.proofs.Basics.{lt_test_is, below_suc, look_first, look_second, length_push, look_old, look_new, at_old, at_new, at_banged, length_banged}
 use Rattle.cg_check_laws.proofs.Held.{Held, HeldIn}
+use Rattle.cg_check_uses.proofs.Numbers.{apart}
+use Rattle.cg_base.proofs.Truths.{either as or_elim}
+use Rattle.cg_typing.proofs.Lists.{first_as_many as length_first, second_as_many as length_second}
 
 -- the type of an entry that is present
 abbrev pub Of : Option Tau → Tau → Type 0
@@ -26,7 +29,7 @@ pub record Within (g : Context) (p : List Tau) : Type 0 where
   pub long : length g ≡ length p
   pub at : (i : ℕ) → i < length p → Of (look g i) (plain_at p i)
 
-observed_none : (p : List Tau) → banged_where (λ i. false) p ≡ p
+pub observed_none : (p : List Tau) → banged_where (λ i. false) p ≡ p
 observed_none [] = refl
 observed_none (t ∷ p) = ap (λ q. t ∷ q) (observed_none p)
 

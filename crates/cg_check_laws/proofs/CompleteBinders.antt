@@ -16,7 +16,7 @@ use Rattle.cg_typing.specs.Parts.{is_arrow, taken_by, given_by, is_read_only, is
 use Rattle.cg_faults.specs.Plain.{plain, plain_in, plain_at, observed}
 use Rattle.cg_typing.specs.Rules.{type_at}
 use Rattle.cg_typing.specs.Trees.{sub, marks_of}
-use Rattle.cg_check_laws.proofs.Basics.{hold_append, or_left, or_right, or_not, else_or, below_or_not, look_second, look_old, look_new, length_second, length_push, at_old, at_new, at_banged, at_kept, length_banged}
+use Rattle.cg_check_laws.proofs.Basics.{hold_append, or_not, else_or, below_or_not, look_second, look_old, look_new, length_push, at_old, at_new, at_banged, at_kept, length_banged}
 use Rattle.cg_check_laws.proofs.Clean.{Within, within_split, within_first, within_second, within_push, past_end, seen_drops, Clean, clean_second, clean_body, clean_body2}
 use Rattle.cg_check_laws.proofs.CompleteParts.{Complete, Done, type_is, noted_is, in_is, meets_as, field_is}
 use Rattle.cg_check_laws.proofs.Held as entries
@@ -24,8 +24,10 @@ use Rattle.cg_check_laws.proofs.Held.{D, Held, held_old}
 use Rattle.cg_check_laws.proofs.Occurs.{AllSeen, seen_append, to_seen, to_among, to_skip}
 use Rattle.cg_check_laws.proofs.Parted.{banged_shares}
 use Rattle.cg_check_laws.proofs.SoundLeaves.{body_in}
+use Rattle.cg_base.proofs.Truths.{or_true as or_right, or_left}
+use Rattle.cg_typing.proofs.Lists.{second_as_many as length_second}
 
-false_not : (a : Bool) → a ≡ false → not a ≡ true
+pub false_not : (a : Bool) → a ≡ false → not a ≡ true
 false_not true e = absurd (cc)
 false_not false e = refl
 

@@ -14,14 +14,15 @@ use Rattle.cg_typing.specs.Parts.{is_left, alternative_in, held, with_part}
 use Rattle.cg_faults.specs.Plain.{plain, plain_in, plain_at}
 use Rattle.cg_typing.specs.Rules.{type_at, second_branch, note_at}
 use Rattle.cg_typing.specs.Trees.{sub, marks_of}
-use Rattle.cg_check_laws.proofs.Basics.{hold_append, or_left, or_right}
+use Rattle.cg_check_laws.proofs.Basics.{hold_append}
 use Rattle.cg_check_laws.proofs.Clean.{Of, Within, within_first, within_second, clean_second}
 use Rattle.cg_check_laws.proofs.CompleteBinders.{BodyDone, complete_body}
 use Rattle.cg_check_laws.proofs.CompleteParts.{Complete, Done, type_is, noted_is, there_is}
 use Rattle.cg_check_laws.proofs.Held as entries
-use Rattle.cg_check_laws.proofs.Held.{D, Held, HeldIn, held_old, held_or}
+use Rattle.cg_check_laws.proofs.Held.{Held, HeldIn, held_old}
 use Rattle.cg_check_laws.proofs.Occurs.{seen_append, unused}
 use Rattle.cg_check_laws.proofs.SoundLeaves.{body_in}
+use Rattle.cg_base.proofs.Truths.{or_true as or_right, or_left}
 
 to_branches : (vars : List Kinds) (u v : ℕ → Bool) (x y : Place) (p : List Tau) → ((i : ℕ) → i < length p → (drops vars (plain_at p i) || cond (u i) (v i) (not (v i))) ≡ true)
     → RulesHold (branch_events vars u v x y p)

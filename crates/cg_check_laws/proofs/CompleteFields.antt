@@ -1,7 +1,5 @@
 -- Where there is a derivation, no rule fails: records that are made.
 use Rattle.std.proofs.Common.{◌≡◌, ℕ, ◌<◌, true, Option, Some, None, List, [], length, refl, sym, ap, ◌∙◌, subst}
-use Rattle.std.specs.Str.{bytes_eq}
-use Rattle.std.proofs.lemmas.Slice.Eq.{bytes_eq-Decides}
 use Rattle.cg_base.specs.declared.kind.Kinds.{Kinds}
 use Rattle.cg_base.specs.declared.kind.Sigil.TheVariants.{U}
 use Rattle.cg_base.specs.declared.place.Place.{Place}
@@ -18,13 +16,14 @@ use Rattle.cg_typing.specs.Operators.{along}
 use Rattle.cg_faults.specs.Plain.{plain_at, plain_parts, are_fields}
 use Rattle.cg_typing.specs.Rules.{DerivesFields, type_at, parts_made}
 use Rattle.cg_typing.specs.Trees.{nth, later_parts, first_marks, later_marks}
-use Rattle.cg_check_laws.proofs.Basics.{hold_append, or_left, or_right}
+use Rattle.cg_check_laws.proofs.Basics.{hold_append}
 use Rattle.cg_check_laws.proofs.Clean.{Within, within_first, within_second, CleanOf, clean_second}
 use Rattle.cg_check_laws.proofs.CompleteParts.{Complete, Done, noted_is}
 use Rattle.cg_check_laws.proofs.Held as entries
-use Rattle.cg_check_laws.proofs.Held.{D}
 use Rattle.cg_check_laws.proofs.Occurs.{AllSeen, seen_append}
 use Rattle.cg_check_laws.proofs.SoundFields.{made_plain}
+use Rattle.cg_base.proofs.Sequences.{itself as names_same}
+use Rattle.cg_base.proofs.Truths.{or_true as or_right, or_left}
 
 -- the directions of fields that are derived along with a whole: none, or their own types
 abbrev pub fields_along : Option Tau → Named Note → List (Option Tau)
@@ -38,10 +37,6 @@ next_is (Some t) name e fs = refl
 later_is : (dir : Option Tau) (name : List ℕ) (e : Tree Note) (fs : Named Note) → later_directions (fields_along dir (field name e fs)) ≡ fields_along dir fs
 later_is None name e fs = refl
 later_is (Some t) name e fs = refl
-
--- the record that fields make is one of just these fields
-names_same : (n : List ℕ) → bytes_eq n n ≡ true
-names_same n = (bytes_eq-Decides n n).1 refl
 
 pub made_fields : (fs : Named Note) → are_fields (parts_made fs) (erased_named fs) ≡ true
 unfolding erased

@@ -16,11 +16,12 @@ use Rattle.cg_typing.specs.Operators.{Sort, arithmetic, equality, order, logic, 
 use Rattle.cg_faults.specs.Plain.{plain, plain_in}
 use Rattle.cg_typing.specs.Rules.{Meets, type_at, is_literal}
 use Rattle.cg_typing.specs.Trees.{sub, marks_of}
-use Rattle.cg_check_laws.proofs.Basics.{hold_append, or_left, or_right}
+use Rattle.cg_check_laws.proofs.Basics.{hold_append}
 use Rattle.cg_check_laws.proofs.Clean.{within_first, within_second, clean_second}
 use Rattle.cg_check_laws.proofs.CompleteParts.{Complete, Done, type_is, noted_is, in_is, meets_as, literal_erased}
 use Rattle.cg_check_laws.proofs.Held.{D, held}
 use Rattle.cg_check_laws.proofs.Occurs.{seen_append}
+use Rattle.cg_base.proofs.Truths.{or_true as or_right, or_left}
 
 -- with one operand: u is its type, and t the type of the whole
 module _ (functions : List Function) (p : List Tau) (place : Place) (x whole : Tree Place) (part : Option Tau → List Event) where

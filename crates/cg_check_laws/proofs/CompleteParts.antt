@@ -21,11 +21,12 @@ use Rattle.cg_typing.specs.Parts.{in_range, widens, is_variant, is_there, is_lef
 use Rattle.cg_faults.specs.Plain.{plain, plain_in, plain_at, mentioned}
 use Rattle.cg_typing.specs.Rules.{Meets, InRange, type_at, is_literal}
 use Rattle.cg_typing.specs.Trees.{sub}
-use Rattle.cg_check_laws.proofs.Basics.{type_core, hold_append, and_both, or_not, look_within}
+use Rattle.cg_check_laws.proofs.Basics.{type_core, hold_append, or_not, look_within}
 use Rattle.cg_check_laws.proofs.Clean.{Of, Within, Clean}
 use Rattle.cg_check_laws.proofs.Held.{D}
 use Rattle.cg_check_laws.proofs.Occurs.{AllSeen}
 use Rattle.cg_check_laws.proofs.SameTypes.{same_refl}
+use Rattle.cg_base.proofs.Truths.{both as and_both}
 
 -- ---- directions
 
@@ -45,7 +46,7 @@ in_is functions p (Some u) e t m h = sym m
 pub noted_is : (a : Note) (t : Tau) → a.ty ≡ t → a ≡ noted a.place t
 noted_is a t h = ap (λ t. noted a.place t) h
 
-in_range_ok : (v : Option ℕ) (t : Tau) → InRange v t → in_range v t ≡ true
+pub in_range_ok : (v : Option ℕ) (t : Tau) → InRange v t → in_range v t ≡ true
 in_range_ok (Some n) (word w) h = lt-ltb n _ h
 in_range_ok _ _ h = absurd h
 

@@ -13,7 +13,10 @@ use Rattle.cg_typing.specs.Contexts.{Context, look, mark_at, push, first_side, s
 use Rattle.cg_faults.specs.Occurrences.{touched, touched_fields, used, used_fields}
 use Rattle.cg_typing.specs.Rules.{Derives, DerivesFields}
 use Rattle.cg_typing.specs.Trees.{marks_of, first_marks}
-use Rattle.cg_check_laws.proofs.Basics.{apart, none_or, or_false, look_first, look_second, length_first, length_second, length_push, look_old}
+use Rattle.cg_check_laws.proofs.Basics.{or_false, look_first, look_second, length_push, look_old}
+use Rattle.cg_check_uses.proofs.Numbers.{apart}
+use Rattle.cg_base.proofs.Truths.{either_false as none_or}
+use Rattle.cg_typing.proofs.Lists.{first_as_many as length_first, second_as_many as length_second}
 
 module _ (vars : List Kinds) where
   abbrev pub Held : Bool → Bool → Option Tau → Type 0

@@ -38,3 +38,4 @@ pub mod SoundLeaves
 pub mod SoundParts
 pub mod Tests
 pub mod Untouched
+pub mod SameTypeTests

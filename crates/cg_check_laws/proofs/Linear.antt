@@ -12,7 +12,9 @@ use Rattle.cg_typing.specs.Contexts.{Context, look, mark_at, push, first_side, s
 use Rattle.cg_typing.specs.Rules.{Derives, DerivesFields}
 use Rattle.cg_typing.specs.Trees.{marks_of, first_marks}
 use Rattle.cg_check_def.specs.Uses.{InTurn, InView, Uses, UsesFields, LinearVariablesAreUsedOnce}
-use Rattle.cg_check_laws.proofs.Basics.{apart, look_first, look_second, length_first, length_second, length_push, look_old, look_within}
+use Rattle.cg_check_laws.proofs.Basics.{look_first, look_second, length_push, look_old, look_within}
+use Rattle.cg_check_uses.proofs.Numbers.{apart}
+use Rattle.cg_typing.proofs.Lists.{first_as_many as length_first, second_as_many as length_second}
 
 module _ (vars : List Kinds) where
   -- an entry that is there n times: gone, or one that can be neither dropped nor shared

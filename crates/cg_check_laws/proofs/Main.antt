@@ -4,7 +4,7 @@ use Rattle.std.specs.List.{All, flat_map}
 use Rattle.std.proofs.lemmas.List.Elements.{All-nil, All-cons, All-head, All-tail}
 use Rattle.cg_base.specs.declared.kind.Kinds.{Kinds}
 use Rattle.cg_base.specs.declared.place.Place.{Place}
-use Rattle.cg_base.specs.Types.{Tau, arrow}
+use Rattle.cg_base.specs.Types.{Tau}
 use Rattle.cg_core.specs.Derivations.{Derivation}
 use Rattle.cg_core.specs.Kernels.{Function, Body}
 use Rattle.cg_core.specs.Terms.{Tree, term, Note, erased}
@@ -29,14 +29,10 @@ use Rattle.cg_check_laws.proofs.Held.{held}
 use Rattle.cg_check_laws.proofs.Occurs.{AllSeen, to_seen}
 use Rattle.cg_check_laws.proofs.Parted.{Entry}
 use Rattle.cg_check_laws.proofs.Sound.{sound}
-use Rattle.cg_check_laws.proofs.SoundBinders.{ended}
+use Rattle.cg_check_laws.proofs.SoundBinders.{ended, arrow_is}
 
-zero_is : (i : ℕ) → i < 1 → 0 ≡ i
+pub zero_is : (i : ℕ) → i < 1 → 0 ≡ i
 zero_is i lt = omega arith
-
-arrow_is : (t : Tau) → is_arrow t ≡ true → t ≡ arrow (taken_by t) (given_by t)
-arrow_is (arrow a b) h = refl
-arrow_is _ h = absurd (cc)
 
 module _ (functions : List Function) (vars : List Kinds) (types_in : ℕ) (argument result : Tau) where
   -- the one entry of the context

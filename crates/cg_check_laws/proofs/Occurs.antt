@@ -6,7 +6,9 @@ use Rattle.cg_faults.specs.declared.rule.Rule.TheVariants.{K3}
 use Rattle.cg_typing.specs.Contexts.{among}
 use Rattle.cg_faults.specs.Events.{judged, RulesHold}
 use Rattle.cg_faults.specs.Occurrences.{touched, touched_shape, touched_trees, touched_fields, used, used_shape, used_trees, used_fields, Sighting, sightings_among, sightings, sightings_shape, sightings_trees, sightings_fields}
-use Rattle.cg_check_laws.proofs.Basics.{bool_is, apart, or_false, none_or, or_elim, or_else}
+use Rattle.cg_check_laws.proofs.Basics.{or_false, or_else}
+use Rattle.cg_check_uses.proofs.Numbers.{apart}
+use Rattle.cg_base.proofs.Truths.{either_bool as bool_is, either as or_elim, either_false as none_or}
 
 none_not : (a b c : Bool) → a ≡ false → b ≡ false → c ≡ false → ((not a && b) || c) ≡ false
 none_not true b c h k l = absurd (cc)

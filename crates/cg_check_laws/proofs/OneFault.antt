@@ -71,7 +71,7 @@ judgements a b = ⊎_elim (λ l. inl (inl l)) (λ r. ⊎_elim (λ e. in_function
 abbrev One : Test → Test → Place → Place → Type 0
 One t u p q = (t ≡ u) × (p ≡ q)
 
-some_is : {X : Type 0} (o : Option X) (x y : X) → o ≡ Some x → o ≡ Some y → x ≡ y
+pub some_is : {X : Type 0} (o : Option X) (x y : X) → o ≡ Some x → o ≡ Some y → x ≡ y
 some_is None x y e f = absurd (cc)
 some_is (Some z) x y e f = cc
 

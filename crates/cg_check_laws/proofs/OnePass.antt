@@ -25,7 +25,8 @@ use Rattle.cg_check_laws.proofs.Own.{use_fields, own_strings, own_trees, value, 
 use Rattle.cg_check_laws.proofs.PassBinders.{pass_app, pass_put, pass_let, pass_let_bang, pass_take, pass_if, pass_case, leave_last}
 use Rattle.cg_check_laws.proofs.PassParts.{Passes, PassesShape, got, meets_got, pass_var, pass_lit, pass_fun, pass_unary, pass_binary, pass_con, pass_esac, pass_member, pass_cast, pass_annot}
 use Rattle.cg_check_laws.proofs.Settled.{body_settles}
-use Rattle.cg_check_laws.proofs.PassSteps.{run, next, last_part, run_first, use_in, uses, use_two, table_same, join_table, Same, same_mark}
+use Rattle.cg_check_laws.proofs.PassSteps.{run, next, last_part, run_first, use_in, uses, use_two, join_table, Same, same_mark}
+use Rattle.cg_check_uses.proofs.TableSteps.{table_is as table_same}
 
 module _ (functions : List Function) (vars : List Kinds) (types_in : ℕ) where
   abbrev P : Tree Place → Type 0

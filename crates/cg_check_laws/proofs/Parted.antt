@@ -10,7 +10,8 @@ use Rattle.cg_kinds.proofs.Laws.{bang_free}
 use Rattle.cg_typing.specs.Contexts.{Context, look, mark_at, push, first_side, second_side, first, second, among, drops, shares, Fits, Splits, Drops, DropsBut}
 use Rattle.cg_check_def.specs.NormalForm.{pick, marks}
 use Rattle.cg_faults.specs.Plain.{plain_at, observed}
-use Rattle.cg_check_laws.proofs.Basics.{or_else, below_suc, below_or_not, look_first, look_second, length_first, length_second, length_push, look_old, look_new, at_old, at_new, look_past, mark_marks, length_marks, at_banged, length_banged}
+use Rattle.cg_check_laws.proofs.Basics.{or_else, below_suc, below_or_not, look_first, look_second, length_push, look_old, look_new, at_old, at_new, look_past, mark_marks, length_marks, at_banged, length_banged}
+use Rattle.cg_typing.proofs.Lists.{first_as_many as length_first, second_as_many as length_second}
 
 module _ (vars : List Kinds) where
   pub banged_drops : (t : Tau) → drops vars (bang t) ≡ true

@@ -24,9 +24,10 @@ use Rattle.cg_check_laws.proofs.Basics.{length_push, length_banged}
 use Rattle.cg_check_laws.proofs.Clash.{Lawful}
 use Rattle.cg_check_laws.proofs.Own.{value}
 use Rattle.cg_check_laws.proofs.PassParts.{Passes, PassesShape, got, meets_got}
-use Rattle.cg_check_laws.proofs.PassSteps.{run, run_append, next, first_bad, use_in, uses, use_two, use_seen, table_same, join_table, seen_table, last_table, front_table, Same, same_mark, same_mark_but, same_push, leave_is, branches_is}
+use Rattle.cg_check_laws.proofs.PassSteps.{run, run_append, next, first_bad, use_in, uses, use_two, use_seen, join_table, seen_table, last_table, front_table, Same, same_mark, same_mark_but, same_push, leave_is, branches_is}
 use Rattle.cg_check_laws.proofs.SoundBranches.{branch_way}
 use Rattle.cg_check_laws.proofs.SoundLeaves.{body_in}
+use Rattle.cg_check_uses.proofs.TableSteps.{table_is as table_same}
 
 -- what two parts do is what a node of both does
 pub two_uses : (n : ℕ) (x y whole : Tree Place) → ((i : ℕ) → both (use_in x i) (use_in y i) ≡ use_in whole i) → join (uses n x) (uses n y) ≡ uses n whole

@@ -29,7 +29,9 @@ use Rattle.cg_typing.specs.Rules.{is_literal}
 use Rattle.cg_check_laws.proofs.Basics.{or_none}
 use Rattle.cg_check_laws.proofs.Clash.{Lawful}
 use Rattle.cg_check_laws.proofs.Own.{own, own_shape, value}
-use Rattle.cg_check_laws.proofs.PassSteps.{run, run_append, next, last_part, meet_is, meet_in, in_direction, first_bad, use_in, uses, use_two, table_same, join_table, Same, same_mark}
+use Rattle.cg_check_laws.proofs.PassSteps.{run, run_append, next, last_part, meet_is, meet_in, in_direction, first_bad, use_in, uses, use_two, join_table, Same, same_mark}
+use Rattle.cg_check_uses.proofs.TableSteps.{table_is as table_same}
+use Rattle.cg_base.proofs.Sequences.{append_none}
 
 -- ---- operators, over what each operand answers in a direction
 
@@ -112,10 +114,6 @@ module _ (o : Op) (place : Place) (bs : List Bool) (l r : Way) (left right : Opt
       ∙ sym (run_append (guided order place a left right) _ _)
 
 -- ---- uses of a list's last part
-
-append_none : {A : Type 0} (xs : List A) → xs ++ [] ≡ xs
-append_none [] = refl
-append_none (x ∷ xs) = ap (λ ys. x ∷ ys) (append_none xs)
 
 pub use_last : (a c : Bool) (xs : List Sighting) → use_of (a || false) (c || false) (first_bad (xs ++ [])) ≡ use_of a c (first_bad xs)
 use_last a c xs = ap (λ z. use_of z (c || false) (first_bad (xs ++ []))) (or_none a) ∙ ap (λ z. use_of a z (first_bad (xs ++ []))) (or_none c) ∙ ap (λ z. use_of a c (first_bad z)) (append_none xs)

@@ -16,8 +16,9 @@ use Rattle.cg_check_def.specs.Pass.{Out, bind, test, need, meet, made, none_bad,
 use Rattle.cg_check_uses.specs.Uses.{use_of, first_of, both, table, join, join_seen, mark, mark_but, seen_at, is_seen, seen_places, both_seen, flag_at, last, front}
 use Rattle.cg_check_uses.specs.declared.entry.Use.{Use}
 use Rattle.cg_faults.specs.Rule.{Test}
-use Rattle.cg_check_laws.proofs.Basics.{bool_is, length_push, below_suc}
+use Rattle.cg_check_laws.proofs.Basics.{length_push, below_suc}
 use Rattle.cg_check_laws.proofs.SameTypes.{same_is}
+use Rattle.cg_base.proofs.Truths.{either_bool as bool_is}
 
 -- the events of a list in turn, and then what is left
 abbrev pub run : {A : Type 0} → List Event → Out A → Out A
@@ -112,10 +113,6 @@ use_in e i = use_of (touched i e) (used i e) (first_bad (sightings i e))
 
 abbrev pub uses : ℕ → Tree Place → List Use
 uses n e = table n (use_in e)
-
-pub table_same : {A : Type 0} (n : ℕ) (f g : ℕ → A) → ((i : ℕ) → f i ≡ g i) → table n f ≡ table n g
-table_same zero f g h = refl
-table_same (suc n) f g h = ap (λ x. x ∷ table n (λ i. f (suc i))) (h 0) ∙ ap (λ xs. g 0 ∷ xs) (table_same n (λ i. f (suc i)) (λ i. g (suc i)) (λ i. h (suc i)))
 
 pub join_table : (n : ℕ) (f g : ℕ → Use) → join (table n f) (table n g) ≡ table n (λ i. both (f i) (g i))
 join_table zero f g = refl

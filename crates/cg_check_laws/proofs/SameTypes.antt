@@ -5,12 +5,9 @@ use Rattle.cg_base.specs.declared.kind.Sigil.TheVariants.{R, W, U}
 use Rattle.cg_base.specs.Types.{Tau, var, seen, unit, word, bool, arrow, abs, variant, fields, Taus, none, more, Parts, end, part}
 use Rattle.cg_base.proofs.WordLaws.{word_is, word_same}
 use Rattle.cg_faults.specs.Same.{same, same_all, same_parts, same_name, same_sigil, same_bool}
+use Rattle.cg_base.proofs.Truths.{both as and_both}
 
-and_both : (a b : Bool) → (a && b) ≡ true → (a ≡ true) × (b ≡ true)
-and_both true b e = (refl, e)
-and_both false b e = absurd (cc)
-
-name_is : (xs ys : List ℕ) → same_name xs ys ≡ true → xs ≡ ys
+pub name_is : (xs ys : List ℕ) → same_name xs ys ≡ true → xs ≡ ys
 name_is [] [] h = refl
 name_is (x ∷ xs) (y ∷ ys) h = let p = and_both (nat_eq x y) _ h in let q = eqb-true x y p.0 in let r = name_is xs ys p.1 in cc
 name_is _ _ h = absurd (cc)
@@ -55,11 +52,11 @@ mutual
       let w = name_is n n' p.0 in let x = same_is t t' q.0 in let y = bool_is b b' r.0 in let z = parts_is ps qs r.1 in cc
   parts_is _ _ h = absurd (cc)
 
-and_refl : (a b : Bool) → a ≡ true → b ≡ true → (a && b) ≡ true
+pub and_refl : (a b : Bool) → a ≡ true → b ≡ true → (a && b) ≡ true
 and_refl true b h k = k
 and_refl false b h k = h
 
-name_refl : (xs : List ℕ) → same_name xs xs ≡ true
+pub name_refl : (xs : List ℕ) → same_name xs xs ≡ true
 name_refl [] = refl
 name_refl (x ∷ xs) = and_refl (nat_eq x x) _ (eq-eqb x x refl) (name_refl xs)
 

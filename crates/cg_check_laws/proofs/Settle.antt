@@ -9,7 +9,7 @@ use Rattle.cg_core.specs.Derivations.{Derivation, Derivations, derivation}
 use Rattle.cg_check_uses.specs.Marks.{keep_all, settle, settle_behind, settled, raised, kept_beside, kept_seen, kept_new}
 use Rattle.cg_check_uses.specs.Uses.{table, pairs, flag_at, is_seen}
 use Rattle.cg_check_uses.specs.declared.entry.Use.{Use}
-use Rattle.cg_check_laws.proofs.Basics.{bool_is}
+use Rattle.cg_base.proofs.Truths.{either_bool as bool_is}
 
 -- one position is another, which computes
 abbrev alike : ℕ → ℕ → Bool

@@ -15,19 +15,17 @@ use Rattle.cg_faults.specs.Occurrences.{touched, used, sightings, sightings_amon
 use Rattle.cg_typing.specs.Parts.{is_arrow, taken_by, given_by, field_in, held, with_part}
 use Rattle.cg_faults.specs.Plain.{plain, plain_at, observed}
 use Rattle.cg_typing.specs.Rules.{Derives}
-use Rattle.cg_check_laws.proofs.Basics.{bool_is, apart, hold_left, hold_right, or_left, or_right, or_elim, or_else, below_suc, length_push, length_banged, at_old, at_new, at_banged}
+use Rattle.cg_check_laws.proofs.Basics.{hold_left, hold_right, or_else, below_suc, length_push, length_banged, at_old, at_new, at_banged}
 use Rattle.cg_check_laws.proofs.Clash.{Lawful, clash, clash_body, clash_body2}
 use Rattle.cg_check_laws.proofs.Occurs.{AllSeen, seen_left, seen_right, seen_of, droppable, among_seen, skip_seen, unused}
 use Rattle.cg_check_laws.proofs.Parted.{parted, parted_observed, enter, banged_drops}
 use Rattle.cg_check_laws.proofs.SoundLeaves.{Has, Sighted, Sound, SoundShape, meets_is, in_meets, body_in}
+use Rattle.cg_check_uses.proofs.Numbers.{apart}
+use Rattle.cg_base.proofs.Truths.{either_bool as bool_is, either as or_elim, or_true as or_right, not_true, or_left}
 
-arrow_is : (t : Tau) → is_arrow t ≡ true → t ≡ arrow (taken_by t) (given_by t)
+pub arrow_is : (t : Tau) → is_arrow t ≡ true → t ≡ arrow (taken_by t) (given_by t)
 arrow_is (arrow a b) h = refl
 arrow_is _ h = absurd (cc)
-
-pub not_true : (a : Bool) → not a ≡ true → a ≡ false
-not_true true e = absurd (cc)
-not_true false e = refl
 
 pub used_touched : (e : Tree Place) (i : ℕ) → used i e ≡ true → touched i e ≡ true
 used_touched e i h = ⊎_elim (λ t. t) (λ n. apart (used i e) h (unused e i n)) (bool_is (touched i e))

@@ -15,12 +15,13 @@ use Rattle.cg_faults.specs.Occurrences.{touched, used, sightings}
 use Rattle.cg_typing.specs.Parts.{alternative_in, held, with_part}
 use Rattle.cg_faults.specs.Plain.{plain, plain_in, plain_at}
 use Rattle.cg_typing.specs.Rules.{Derives, second_branch}
-use Rattle.cg_check_laws.proofs.Basics.{hold_left, hold_right, or_right, or_elim}
+use Rattle.cg_check_laws.proofs.Basics.{hold_left, hold_right}
 use Rattle.cg_check_laws.proofs.Clash.{clash, clash_body}
 use Rattle.cg_check_laws.proofs.Occurs.{seen_left, seen_right, unused, sighted}
 use Rattle.cg_check_laws.proofs.Parted.{parted, branch_entry, flip}
 use Rattle.cg_check_laws.proofs.SoundBinders.{sound_body}
 use Rattle.cg_check_laws.proofs.SoundLeaves.{Has, Sighted, Sound, SoundShape, body_in}
+use Rattle.cg_base.proofs.Truths.{either as or_elim, or_true as or_right}
 
 -- what the events behind two branches say of a variable
 pub branches_hold : (vars : List Kinds) (u v : ℕ → Bool) (x y : Place) (p : List Tau) → RulesHold (branch_events vars u v x y p)
@@ -48,7 +49,7 @@ pub branch_way : (functions : List Function) (q : List Tau) (dir : Option Tau) (
 branch_way functions q None x = refl
 branch_way functions q (Some u) x = refl
 
-branch_type : (functions : List Function) (q r : List Tau) (dir : Option Tau) (x y : Tree Place) → plain_in functions r (second_branch dir (plain functions q x)) y ≡ plain_in functions q dir x
+pub branch_type : (functions : List Function) (q r : List Tau) (dir : Option Tau) (x y : Tree Place) → plain_in functions r (second_branch dir (plain functions q x)) y ≡ plain_in functions q dir x
 branch_type functions q r None x y = refl
 branch_type functions q r (Some u) x y = refl
 

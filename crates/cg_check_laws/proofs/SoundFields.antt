@@ -1,11 +1,10 @@
 -- The row of records that are made, where no event fails.
 use Rattle.std.proofs.Common.{◌≡◌, ℕ, ◌<◌, Bool, true, false, ◌||◌, not, Option, Some, None, List, [], length, map, refl, sym, ap, subst}
 use Rattle.std.specs.Str.{bytes_eq}
-use Rattle.std.proofs.lemmas.Slice.Eq.{bytes_eq-Decides}
 use Rattle.cg_base.specs.declared.kind.Kinds.{Kinds}
 use Rattle.cg_base.specs.declared.place.Place.{Place}
 use Rattle.cg_base.specs.Types as types
-use Rattle.cg_base.specs.Types.{Tau, fields, Parts, part}
+use Rattle.cg_base.specs.Types.{Tau, Parts, part}
 use Rattle.cg_core.specs.Kernels.{Function}
 use Rattle.cg_core.specs.Terms.{Tree, term, Named, end, field}
 use Rattle.cg_core_def.specs.Lawful.{AreLawfulFields}
@@ -16,12 +15,13 @@ use Rattle.cg_faults.specs.Occurrences.{touched, touched_fields, sightings, sigh
 use Rattle.cg_typing.specs.Operators.{along}
 use Rattle.cg_faults.specs.Plain.{plain, plain_in, plain_at, plain_parts, are_fields}
 use Rattle.cg_typing.specs.Rules.{Derives, DerivesFields, parts_made}
-use Rattle.cg_check_laws.proofs.Basics.{hold_left, hold_right, or_right, and_both}
+use Rattle.cg_check_laws.proofs.Basics.{hold_left, hold_right}
 use Rattle.cg_check_laws.proofs.Clash.{clash_fields}
 use Rattle.cg_check_laws.proofs.Occurs.{AllSeen, seen_left, seen_right}
 use Rattle.cg_check_laws.proofs.Parted.{Entry, parted}
-use Rattle.cg_check_laws.proofs.SoundBinders.{not_true}
 use Rattle.cg_check_laws.proofs.SoundLeaves.{Has, Sound}
+use Rattle.cg_base.proofs.Sequences.{is_name as same_name}
+use Rattle.cg_base.proofs.Truths.{both as and_both, or_true as or_right, not_true}
 
 -- ---- directions of fields
 
@@ -42,7 +42,7 @@ behind (Some types.end) = Some types.end
 behind (Some (part n t taken ps)) = Some ps
 
 -- the next field goes along with the whole, and so do those behind it
-next_along : (functions : List Function) (p : List Tau) (dir : Option Tau) (ps : Option Parts) (name : List ℕ) (e : Tree Place) (fs : Named Place) → Follows dir ps (field name e fs)
+pub next_along : (functions : List Function) (p : List Tau) (dir : Option Tau) (ps : Option Parts) (name : List ℕ) (e : Tree Place) (fs : Named Place) → Follows dir ps (field name e fs)
     → along dir (plain_in functions p (next_direction (ways ps)) e) ≡ next_direction (ways ps)
 next_along functions p None None name e fs h = refl
 next_along functions p (Some t) (Some (part n u taken ps)) name e fs h = refl
@@ -57,7 +57,7 @@ follows_on (Some t) (Some types.end) name e fs h = absurd (cc)
 follows_on None (Some ps) name e fs h = absurd h
 follows_on (Some t) None name e fs h = absurd h
 
-ways_on : (ps : Option Parts) → later_directions (ways ps) ≡ ways (behind ps)
+pub ways_on : (ps : Option Parts) → later_directions (ways ps) ≡ ways (behind ps)
 ways_on None = refl
 ways_on (Some types.end) = refl
 ways_on (Some (part n t taken ps)) = refl
@@ -66,9 +66,6 @@ ways_on (Some (part n t taken ps)) = refl
 pub made_plain : (functions : List Function) (p : List Tau) (fs : Named Place) → parts_made (core_fields functions p [] fs) ≡ plain_parts functions p fs
 made_plain functions p end = refl
 made_plain functions p (field name (term a s) fs) = ap (λ ps. part name (plain functions p (term a s)) false ps) (made_plain functions p fs)
-
-same_name : (n name : List ℕ) → bytes_eq n name ≡ true → n ≡ name
-same_name n name h = (bytes_eq-Decides n name).0 h
 
 pub made_checked : (functions : List Function) (p : List Tau) (ps : Parts) (fs : Named Place) → are_fields ps fs ≡ true → parts_made (core_fields functions p (part_directions ps) fs) ≡ ps
 made_checked functions p types.end end h = refl

@@ -1,5 +1,5 @@
 -- Where no event fails, the tree with the occurrence marks is a derivation: what that says of a term, and the leaves.
-use Rattle.std.proofs.Common.{◌≡◌, ℕ, zero, suc, ◌<◌, Bool, true, false, ◌&&◌, Option, Some, None, List, [], ◌∷◌, ◌++◌, length, map, refl, sym, ap, ◌∙◌, subst, ltb-true, eq-eqb}
+use Rattle.std.proofs.Common.{◌≡◌, ℕ, zero, suc, ◌<◌, Bool, true, Option, Some, None, List, [], ◌∷◌, ◌++◌, length, map, refl, sym, ap, ◌∙◌, subst, ltb-true, eq-eqb}
 use Rattle.std.specs.Prelude.{slice_get}
 use Rattle.cg_base.specs.declared.fun.Fun.{Fun}
 use Rattle.cg_base.specs.declared.fun.Fun.TheVariants.{User, Lib as OfLib}
@@ -20,7 +20,7 @@ use Rattle.cg_typing.specs.Rules.{Meets, InRange, Derives}
 use Rattle.cg_check_laws.proofs.Clash.{Lawful}
 use Rattle.cg_check_laws.proofs.Occurs.{AllSeen}
 use Rattle.cg_check_laws.proofs.Parted.{Entry, all_drop, others_drop}
-use Rattle.cg_check_laws.proofs.SameTypes.{same_is}
+use Rattle.cg_check_laws.proofs.SameTypes.{same_is, and_refl as and_of}
 
 -- directions
 pub meets_is : (functions : List Function) (p : List Tau) (direction : Option Tau) (e : Tree Place) (place : Place) → RulesHold (meets direction place (plain functions p e))
@@ -54,11 +54,6 @@ mention_is functions (User f) args n h = go (found (λ f. length f.vars) functio
   where
     go : ((x : Function) × (slice_get functions f ≡ Some x)) → fun_type functions (User f) args ≡ Some (mentioned functions (User f) args)
     go x = rw (x.1) refl
-
--- type arguments
-and_of : (a b : Bool) → a ≡ true → b ≡ true → (a && b) ≡ true
-and_of true b h k = k
-and_of false b h k = absurd (cc)
 
 asked_holds : (vars : List Kinds) (asked : Asked) (functions : List Function) (place : Place) (t : Tau) (rest later : List Event)
     → RulesHold ((asked_event functions vars asked place t ++ rest) ++ later) → (meets_asked vars asked t ≡ true) × RulesHold (rest ++ later)

@@ -16,11 +16,12 @@ use Rattle.cg_typing.specs.Operators.{Sort, arithmetic, equality, order, logic, 
 use Rattle.cg_typing.specs.Parts.{alternative_in, held}
 use Rattle.cg_faults.specs.Plain.{plain, plain_in, plain_at}
 use Rattle.cg_typing.specs.Rules.{Derives, is_literal}
-use Rattle.cg_check_laws.proofs.Basics.{hold_left, hold_right, or_right}
+use Rattle.cg_check_laws.proofs.Basics.{hold_left, hold_right}
 use Rattle.cg_check_laws.proofs.Clash.{clash}
 use Rattle.cg_check_laws.proofs.Occurs.{seen_left, seen_right}
 use Rattle.cg_check_laws.proofs.Parted.{Entry, parted}
 use Rattle.cg_check_laws.proofs.SoundLeaves.{Has, Sound, SoundShape, meets_is, in_meets}
+use Rattle.cg_base.proofs.Truths.{or_true as or_right}
 
 -- ---- operators: what their events say of their operands
 

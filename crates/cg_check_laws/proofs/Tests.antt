@@ -6,18 +6,7 @@ use Rattle.cg_core.specs.declared.derivation.Mark.{Mark}
 use Rattle.cg_core.specs.declared.derivation.Mark.TheVariants.{Gone, Left, Right, Both, Seen}
 use Rattle.cg_core.specs.declared.term.Seen.{Seen as Observer}
 use Rattle.cg_typing.specs.Contexts.{Context, look, mark_at, among, Fits, Splits, Drops, DropsBut, drops, shares}
-
-and_left : (a b : Bool) → (a && b) ≡ true → a ≡ true
-and_left true b e = refl
-and_left false b e = absurd (cc)
-
-and_right : (a b : Bool) → (a && b) ≡ true → b ≡ true
-and_right true b e = e
-and_right false b e = absurd (cc)
-
-not_true : (a : Bool) → not a ≡ true → a ≡ false
-not_true true e = absurd (cc)
-not_true false e = refl
+use Rattle.cg_base.proofs.Truths.{both_true as and_left, and_right, not_true}
 
 module _ (vars : List Kinds) where
   -- a mark fits an entry

@@ -9,8 +9,10 @@ use Rattle.cg_check_def.specs.NormalForm.{pick, marks}
 use Rattle.cg_check_uses.specs.Marks.{mark_of, mark_seen, marks_of_uses, marks_seen, kept_beside, kept_seen, kept_new}
 use Rattle.cg_check_uses.specs.Uses.{table, is_seen}
 use Rattle.cg_check_uses.specs.declared.entry.Use.{Use}
-use Rattle.cg_check_laws.proofs.Basics.{none_or, or_none, or_left, or_right, below_suc, look_first, look_second, length_first, length_second, length_push, look_old, look_new, mark_marks, length_marks}
+use Rattle.cg_check_laws.proofs.Basics.{or_none, below_suc, look_first, look_second, length_push, look_old, look_new, mark_marks, length_marks}
 use Rattle.cg_check_laws.proofs.Settle.{is_in, keep_by, in_append, in_beside, past_beside, in_seen, past_seen, in_new, apart_new}
+use Rattle.cg_base.proofs.Truths.{either_false as none_or, or_true as or_right, or_left}
+use Rattle.cg_typing.proofs.Lists.{first_as_many as length_first, second_as_many as length_second}
 
 abbrev pub some : Option Tau → Bool
 some None = false

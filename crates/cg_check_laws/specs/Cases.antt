@@ -6,18 +6,16 @@ use Rattle.cg_base.specs.declared.fun.Lib.TheVariants.{New}
 use Rattle.cg_base.specs.declared.kind.Bound.{Bound}
 use Rattle.cg_base.specs.declared.kind.Kinds.{Kinds}
 use Rattle.cg_base.specs.declared.kind.Sigil.TheVariants.{R, W}
-use Rattle.cg_base.specs.declared.kind.Word.TheVariants.{U8, U16, U32}
 use Rattle.cg_base.specs.declared.place.Place.{Place}
 use Rattle.cg_base.specs.Types as types
-use Rattle.cg_base.specs.Types.{Tau, word, arrow, variant, fields, part}
-use Rattle.cg_core.specs.declared.at.At.{At}
+use Rattle.cg_base.specs.Types.{Tau, arrow, variant, fields, part}
 use Rattle.cg_core.specs.declared.derivation.Mark.TheVariants.{Left, Right, Both, Seen}
 use Rattle.cg_core.specs.declared.derivation.Node.TheVariants as nodes
 use Rattle.cg_core.specs.declared.op.Op.TheVariants.{Add, Complement, Eq}
 use Rattle.cg_core.specs.Derivations as trees
 use Rattle.cg_core.specs.Derivations.{Derivation, derivation}
 use Rattle.cg_core.specs.Kernels.{Function, Body}
-use Rattle.cg_core.specs.Terms.{Tree, term, Shape, var, unit, bool, lit, fun, op, app, lets, let_bang, if_else, con, case_of, esac, struct, member, take_field, put, cast, annot, none, more, end, field, Note, Arg, erased}
+use Rattle.cg_core.specs.Terms.{Tree, term, var, unit, bool, lit, fun, op, app, lets, let_bang, if_else, con, case_of, esac, struct, member, take_field, put, cast, annot, none, more, end, field, Note, erased}
 use Rattle.cg_kinds.specs.Kinds.{no_kinds, seen_kinds}
 use Rattle.cg_faults.specs.declared.rule.Rule.{Rule}
 use Rattle.cg_faults.specs.declared.rule.Rule.TheVariants.{K1, K2, K3, K4, K5, K6, K7, T1, T2, T3, T4, T5, T6, T7, T8, T9, T10, T11, T12, T13, T14}

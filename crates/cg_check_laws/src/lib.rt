@@ -1,5 +1,9 @@
-//! The laws that join what the typing rules derive, the events of a body and the pass of the checker: that the events decide exactly
-//! what is derived with any splits, that the occurrence marks serve, that there is one core and one fault; and cases of each row.
+//! Stage: types. What joins the typing rules, the events of a body and the pass of the checker; and cases of each row.
+//! Role: laws.
+//! Promises: `kernels_are_judged_exactly`, `bodies_are_judged_exactly`, `pass_answers_the_first_fault`, `one_core`.
+//! May cite: definitions, laws and public crates below; no code above.
+//! Promises also: `accepted_within_limits`, `occurrence_marks_serve`, `normal_forms_are_kept`, `one_fault`.
+//! Promises also: `linear_variables_are_used_once`.
 #![tactic(auto)]
 
 mod law;

@@ -17,10 +17,9 @@ use crate::got::{Got, finished, made};
 use crate::types::copied;
 use cg_base::{Items, Memory, Name, Part, Place, Sigil, Ty};
 use cg_check_context::{Known, Stop};
-use cg_core::{Deriv, FieldTerm, Form, Mark, Node, Term, Typed};
-use cg_check_uses::Use;
 use cg_check_pieces::{add_core, add_part, add_tree, turned};
-use cg_check_uses::{join, marks_of_uses, no_uses};
+use cg_check_uses::{Use, join, marks_of_uses, no_uses};
+use cg_core::{Deriv, FieldTerm, Form, Mark, Node, Term, Typed};
 use std::alloc::Global;
 
 /// What the fields of a record come to, the last one first: their types by name, their cores, the marks between each and the later

@@ -12,9 +12,8 @@ ghost use Rattle.cg_check_nodes.specs.Gots.{got_of};
 
 use cg_base::{Items, Memory, Place, Ty};
 use cg_check_context::Stop;
+use cg_check_uses::{Use, join, leaf, marks_of_uses, one_part, three_parts, two_parts};
 use cg_core::{Deriv, Form, Mark, Node, Term, Typed};
-use cg_check_uses::Use;
-use cg_check_uses::{join, leaf, marks_of_uses, one_part, three_parts, two_parts};
 use std::alloc::Global;
 
 /// What a part of a body comes to: its core, its derivation where just what it touches is present, and what it does with each variable

@@ -1,5 +1,8 @@
-//! What each form of term comes to by what its parts come to ([`Got`]): its core, its derivation with the occurrence marks, and what it
-//! does with each variable of its context. docs/LANGUAGE.md, "Typing", says what marks and derivations are.
+//! Stage: types. What a form of term comes to by its parts: core, derivation with the occurrence marks, uses.
+//! Role: part of `cg_check`.
+//! Promises: `let_node`, `case_node` and a call for each other form, exactly as defined (`specs/Nodes.antt`).
+//! May cite: anything below it, of its stage and of those below; no crate above.
+//! docs/LANGUAGE.md, "Typing", says what marks and derivations are.
 #![tactic(auto)]
 
 mod fields;

@@ -18,12 +18,11 @@ use crate::got::{Got, Pair, Single, Triple, alone, branched, in_turn, made, pair
 use crate::types::copied;
 use cg_base::{Items, Memory, Name, Place, Ty};
 use cg_check_context::Stop;
-use cg_core::{At, Form, Node, Op, Seen, TyArg};
-use cg_check_uses::Use;
 use cg_check_pieces::{copied_observers, one_operand, two_operands};
 use cg_check_uses::{
-    join_seen, keep_new, kept_beside, kept_seen, leave, marks_seen, seen_places, settle,
+    Use, join_seen, keep_new, kept_beside, kept_seen, leave, marks_seen, seen_places, settle,
 };
+use cg_core::{At, Form, Node, Op, Seen, TyArg};
 use std::alloc::Global;
 
 /// An operator with one operand.

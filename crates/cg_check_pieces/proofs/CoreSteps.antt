@@ -7,9 +7,7 @@ use Rattle.cg_core.specs.declared.term.Term.{Term}
 use Rattle.cg_core.specs.declared.term.Typed.{Typed}
 use Rattle.cg_core.specs.Kernels.{the_core, the_core_form}
 use Rattle.cg_core.specs.Terms.{op, none, more, to_trees}
-
-op_is : (o : Op) (ts : List (Term Typed)) → the_core_form (form.Op o ts) ≡ op o (to_trees (map the_core ts))
-op_is o ts = search the_lemmas
+use Rattle.cg_core.proofs.Forms.{op_is}
 
 -- operators with one operand, and with two
 pub one_operand : (o : Op) (ts : List (Term Typed)) (a : Term Typed) → ts ≡ a ∷ [] → the_core_form (form.Op o ts) ≡ op o (more (the_core a) none)

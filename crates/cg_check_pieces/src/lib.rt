@@ -1,7 +1,8 @@
-//! Small parts of which both checkers are made; it knows neither pass. What is kept of bodies ([`KeptBody`], [`KeptBodies`]), the
-//! fields of a record in turn ([`parts_of`], [`next_wanted`], [`later_wanted`]) and from behind ([`add_part`], [`add_core`],
-//! [`add_tree`], [`turned`]), lists that go into a core ([`one_operand`], [`two_operands`], [`copied_arguments`],
-//! [`copied_observers`]), and small tests. docs/LANGUAGE.md, "Typing", says what they are for.
+//! Stage: types. Small parts of which both checkers are made; it knows neither pass.
+//! Role: part of `cg_check`.
+//! Promises: `KeptBodies`, `parts_of`, `next_wanted`, `add_part`, `turned`, `two_operands`, `copied_arguments` and so on, each exactly.
+//! May cite: anything below it, of its stage and of those below; no crate above.
+//! What is kept of bodies, fields of a record in turn and from behind, lists that go into a core, and small tests.
 #![tactic(auto)]
 
 mod copies;

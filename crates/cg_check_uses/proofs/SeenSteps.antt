@@ -4,9 +4,10 @@ use Rattle.std.specs.Prelude.{slice_set, replicate}
 use Rattle.std.proofs.lemmas.List.{at_drop_more, at_drop_all}
 use Rattle.cg_base.specs.declared.place.Place.{Place}
 use Rattle.cg_core.specs.declared.term.Seen.{Seen}
-use Rattle.cg_check_uses.proofs.Numbers.{other_number, next_numbers}
+use Rattle.cg_check_uses.proofs.Numbers.{next_numbers}
 use Rattle.cg_check_uses.specs.Noted.{over, noted}
 use Rattle.cg_check_uses.specs.Uses.{first_of, seen_at, seen_places, table}
+use Rattle.cg_base.proofs.Counts.{is_other as other_number}
 
 first_none : (p : Option Place) → first_of p None ≡ p
 first_none None = refl

@@ -10,6 +10,7 @@ use Rattle.cg_core.proofs.Views.{derivation_is}
 use Rattle.cg_core.specs.Derivations.{Derivation, derivation, part, to_derivations, derivation_of}
 use Rattle.cg_check_uses.specs.Marks.{keep_all, settle, settle_behind}
 use Rattle.cg_check_uses.specs.Parted.{settled_from}
+use Rattle.cg_base.proofs.Counts.{one_more as one_on}
 
 -- positions, one after another
 pub keep_more : (kept : List ℕ) (ms : List Mark) (k d : ℕ) → k < length kept → keep_all (drop (k + 1) kept) (slice_set ms (get_or kept k d) Right) ≡ keep_all (drop k kept) ms
@@ -68,9 +69,6 @@ kept_next [] ys i d e l is = absurd (omega (arith, l))
 kept_next (x ∷ xs) [] i d e l is = absurd (omega (arith, e))
 kept_next (x ∷ xs) (z ∷ ys) zero d e l is = ap (λ w. w ∷ xs) (sym is)
 kept_next (x ∷ xs) (z ∷ ys) (suc i) d e l is = ap (λ w. z ∷ w) (kept_next xs ys i d (omega (arith, e)) (omega (arith, l)) is)
-
-one_on : (i : ℕ) → suc i ≡ i + 1
-one_on i = omega arith
 
 pub toward : {X Y : Type 0} (f : X → Y) (zs : List X) (xs ys : List Y) (i : ℕ) (y : X) → map f zs ≡ take i ys ++ drop i xs → length xs ≡ length ys → i < length xs → f y ≡ get_or ys i (f y)
     → map f (set zs i y) ≡ take (i + 1) ys ++ drop (i + 1) xs

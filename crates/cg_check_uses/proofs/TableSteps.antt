@@ -3,13 +3,14 @@ use Rattle.std.proofs.Common.{◌≡◌, ℕ, zero, suc, ◌≤◌, Bool, true, 
 use Rattle.std.specs.Prelude.{slice_set, replicate}
 use Rattle.cg_check_uses.specs.Uses.{table, no_use, no_uses, var_uses, use_of, last, front}
 use Rattle.cg_check_uses.specs.declared.entry.Use.{Use}
-use Rattle.cg_check_uses.proofs.Numbers.{other_number, next_numbers}
+use Rattle.cg_check_uses.proofs.Numbers.{next_numbers}
+use Rattle.cg_base.proofs.Counts.{is_other as other_number}
 
 pub none_replicate : (n : ℕ) → replicate n no_use ≡ no_uses n
 none_replicate zero = refl
 none_replicate (suc n) = ap (λ us. no_use ∷ us) (none_replicate n)
 
-table_is : {A : Type 0} (n : ℕ) (f g : ℕ → A) → ((i : ℕ) → f i ≡ g i) → table n f ≡ table n g
+pub table_is : {A : Type 0} (n : ℕ) (f g : ℕ → A) → ((i : ℕ) → f i ≡ g i) → table n f ≡ table n g
 table_is zero f g h = refl
 table_is (suc n) f g h = cc (h 0, table_is n (λ i. f (suc i)) (λ i. g (suc i)) (λ i. h (suc i)))
 

@@ -1,6 +1,8 @@
-//! What the parts of a body do with each variable, and the marks and derivations that follow: tables of uses ([`no_uses`], [`join`]),
-//! what was touched before a part ([`mark`]), and the observers of a `let!` ([`seen_places`]). docs/LANGUAGE.md, "Typing", says what
-//! they mean.
+//! Stage: types. What the parts of a body do with each variable, and the marks and derivations that follow.
+//! Role: part of `cg_check`.
+//! Promises: `no_uses`, `join`, `leave`, `mark`, `seen_places`, `marks_of_uses`, `leaf`, `two_parts`, `settle` and so on, each exactly.
+//! May cite: anything below it, of its stage and of those below; no crate above.
+//! docs/LANGUAGE.md, "Typing", says what they mean.
 #![tactic(auto)]
 
 mod derivs;

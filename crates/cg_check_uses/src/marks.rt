@@ -5,9 +5,9 @@ ghost use Rattle.std.specs.Prelude.{◌≡◌, ◌&&◌, ◌++◌, not, IfOk};
 ghost use Rattle.cg_check_uses.specs.Marks as splits;
 ghost use Rattle.cg_check_uses.specs.Uses.{is_seen};
 
+use crate::entry::Use;
 use cg_base::{Items, Memory, Place};
 use cg_core::Mark;
-use crate::entry::Use;
 use std::alloc::Global;
 
 // The mark of a variable that each side touches or not.

@@ -5,9 +5,9 @@ ghost use Rattle.std.specs.Prelude.{◌≡◌, IfOk, ◌&&◌, ◌||◌, not, re
 ghost use Rattle.cg_check_uses.specs.Uses as tables;
 ghost use Rattle.cg_check_uses.specs.Noted.{noted};
 
+use crate::entry::Use;
 use cg_base::{Items, Memory, Place};
 use cg_core::Seen;
-use crate::entry::Use;
 use std::alloc::Global;
 
 /// Nothing.

@@ -1,4 +1,7 @@
-//! The program `cogent` over real files.
+//! Stage: command. The program `cogent` over real files and the real output.
+//! Role: public.
+//! Promises: `main`; its adapters keep the clauses of the traits of the outside, and their loops end.
+//! May cite: anything of its stage and of those below; no crate above.
 #![tactic(auto)]
 
 mod real;

@@ -1,5 +1,5 @@
 -- The beginning and the end of a run, as equations.
-use Rattle.std.proofs.Common.{◌≡◌, ℕ, ◌+◌, ◌-◌, ◌≤◌, Bool, true, false, nat_eq, nat_le, Some, None, List, [], ◌∷◌, ◌++◌, drop, length, map, take, refl, sym, ap, ◌∙◌, arith, subst, Option}
+use Rattle.std.proofs.Common.{◌≡◌, ℕ, ◌+◌, ◌-◌, ◌≤◌, Bool, true, false, nat_le, Some, None, List, [], ◌∷◌, ◌++◌, drop, length, map, take, refl, sym, ap, ◌∙◌, arith, subst, Option}
 use Rattle.std.proofs.lemmas.List.{drop-append-le, length-drop, take-append-le}
 use Rattle.std.proofs.lemmas.List.Elements.{All-nil}
 use Rattle.std.specs.List.{All}
@@ -249,12 +249,6 @@ module _ (r : Resolution) (asked : Asked) (n : ℕ) where
   crun_none x us m e = rw e refl
 
 -- ---- as many scalars as the parameters have slots
-
-pub many_not : (a b : ℕ) → nat_eq a b ≡ false → a ≡ b → ⊥
-many_not a b e h = grind (arith, e, h)
-
-pub many_are : (a b : ℕ) → nat_eq a b ≡ true → a ≡ b
-many_are a b e = grind (arith, e)
 
 -- ---- what is told
 

@@ -41,6 +41,7 @@ use Rattle.cg_cmachine.specs.Machine.{Asked, abstract_call, function_at, gathere
 use Rattle.cg_cmachine.proofs.Entries.{at_place, laid}
 use Rattle.cg_cmachine.proofs.Steps.{Fails, waits_astray, waits_stuck}
 use Rattle.cg_cmachine.proofs.Tops.{Under, astray_under, bind_under, done_under, plain_under, spend_under, under_done}
+use Rattle.cg_cmachine_builtins.proofs.Creating.{few}
 
 -- ---- arguments
 
@@ -110,9 +111,6 @@ pub whole_other : (l : Layout) (us : List Scalar) → (length us ≡ size l → 
 whole_other l us h = ap (λ j. on j (λ _. read l us)) (size_other l us h)
 
 -- ---- an answer
-
-few : (cost left : ℕ) → left < cost → nat_lt left cost ≡ true
-few cost left h = grind (arith, h)
 
 enough : (cost left rest : ℕ) → cost + rest ≡ left → nat_lt left cost ≡ false
 enough cost left rest h = grind (arith, h)

@@ -12,7 +12,7 @@ use Rattle.cg_cmachine_resolve.specs.Resolutions.{IsFirst, IsHead, Resolution, b
 use Rattle.cg_cmachine_resolve.specs.Scopes.{Scope, declared_as, frame_of as scoped, locals_of, total}
 use Rattle.cg_cmachine_def.specs.Layouts.{Layout, cell, group, layout, pointer, same_layout, size}
 use Rattle.cg_cmachine_def.specs.Operands as operands
-use Rattle.cg_cmachine_def.specs.Operands.{Value, literal, typed, give, scalars_of}
+use Rattle.cg_cmachine_def.specs.Operands.{Value, literal, typed, give}
 use Rattle.cg_cmachine_def.specs.Outcomes.{Judged, ok, no, on, State, Outcome, stuck, done, bind, lift}
 use Rattle.cg_cmachine_def.specs.Runs.{Linked, enter, onward, returned, run_block, unset}
 use Rattle.cg_ctree.specs.declared.tree.CBody.{CBody}
@@ -22,7 +22,7 @@ use Rattle.cg_ctree.specs.declared.tree.CStruct.{CStruct}
 use Rattle.cg_ctree.specs.declared.why.Why.{Why}
 use Rattle.cg_ctree.specs.declared.why.Why.TheVariants.{KindsDiffer, NoBody, NoFunction}
 use Rattle.cg_ctree.specs.Trees.{Block, block_of}
-use Rattle.cg_cmachine_values.proofs.Giving.{give_typed, same_sizes, size_pointer, size_word}
+use Rattle.cg_cmachine_values.proofs.Giving.{give_typed, same_sizes}
 use Rattle.cg_cmachine_values.specs.declared.value.CValue.{CValue}
 use Rattle.cg_cmachine_values.specs.declared.value.CValue.TheVariants as value
 use Rattle.cg_cmachine_values.specs.declared.fault.RunFault.{RunFault}
@@ -39,6 +39,8 @@ use Rattle.cg_cmachine.specs.declared.machine.Kont.{Kont}
 use Rattle.cg_cmachine.specs.declared.machine.Kont.TheVariants.{Return}
 use Rattle.cg_cmachine.specs.Machine.{Asked, Enters, IsFrame, block, calls, entered, framed, gathered, landed, lay_at, on_kont, program, scope_at, valued, waits}
 use Rattle.cg_cmachine.proofs.Steps.{Fails, waits_needs, waits_push, waits_stuck}
+use Rattle.cg_cmachine_layout.proofs.Groups.{one_word as size_word, one_pointer as size_pointer}
+use Rattle.cg_cmachine_resolve.proofs.Places.{give_size as give_many}
 
 -- ---- values have as many scalars as their types have slots
 
@@ -59,12 +61,6 @@ literal_many w n us false e = absurd cc
 typed_many : (l k : Layout) (ws us : List Scalar) (b : Bool) → same_layout l k ≡ b → length ws ≡ size k → cond b (ok ws) (no KindsDiffer) ≡ ok us → length us ≡ size l
 typed_many l k ws us true s h e = let p : ws ≡ us = cc in ap length (sym p) ∙ h ∙ sym (same_sizes l k s)
 typed_many l k ws us false s h e = absurd cc
-
-pub give_many : (l : Layout) (v : Value) (us : List Scalar) → IsWhole v → give l v ≡ ok us → length us ≡ size l
-give_many (cell w) (literal n) us h e = literal_many w n us (nat_lt n (2 ^ bits w)) e
-give_many (pointer x) (literal n) us h e = absurd cc
-give_many (group x ms) (literal n) us h e = absurd cc
-give_many l (typed k ws) us h e = typed_many l k ws us (same_layout l k) refl (h k ws refl) (sym (give_typed l k ws) ∙ e)
 
 -- a value is refused for its type alone
 refused_only : {A : Type 0} (b : Bool) (a : A) (why : Why) → cond b (ok a) (no KindsDiffer) ≡ no why → why ≡ KindsDiffer

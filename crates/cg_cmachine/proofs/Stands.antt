@@ -5,7 +5,6 @@ use Rattle.cg_cmachine_layout.specs.Kinds.{layout_of}
 use Rattle.cg_cmachine.proofs.Assigning.{aside_is, assign_is, lifted, word_is}
 use Rattle.cg_cmachine.proofs.Layers.{case_is, form_of, stmt_is, stands_here, block_lines}
 use Rattle.cg_cmachine.proofs.Within.{does_within}
-use Rattle.cg_cmachine.proofs.Steps.{onward_twice}
 use Rattle.cg_cmachine.specs.declared.machine.Machine.{Machine}
 use Rattle.cg_cmachine.specs.Flat.{IsActionWithin, first_case, word_at}
 use Rattle.cg_cmachine.specs.Machine.{Asked, IsFrame, block, calls, framed, inner, inner_case, lay_at, program, scope_at, turned}
@@ -34,6 +33,7 @@ use Rattle.cg_cmachine_values.specs.declared.place.Operand.{Operand}
 use Rattle.cg_cmachine_values.specs.Values.{judged, judged_all}
 use Rattle.cg_heap.specs.declared.cell.Scalar.{Scalar}
 use Rattle.cg_heap.specs.Stored.{Stored}
+use Rattle.cg_cmachine_laws.proofs.Flows.{onward_twice}
 
 -- ---- the statements at a place
 

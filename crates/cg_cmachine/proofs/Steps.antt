@@ -10,22 +10,13 @@ use Rattle.cg_cmachine.specs.Machine.{Asked, Cont, Went, block, on_kont, program
 use Rattle.cg_cmachine_resolve.specs.Resolutions.{Resolution}
 use Rattle.cg_cmachine_def.specs.BuiltIns.{Given}
 use Rattle.cg_cmachine_def.specs.Operands as operands
-use Rattle.cg_cmachine_def.specs.Operands.{Value}
-use Rattle.cg_cmachine_def.specs.Outcomes.{Judged, ok, State, Outcome, done, stuck, needs, astray, bind, lift}
-use Rattle.cg_cmachine_def.specs.Runs.{Flow, choose, goes, back, onward, returned}
+use Rattle.cg_cmachine_def.specs.Outcomes.{Judged, ok, State, Outcome, stuck, needs, astray, bind, lift}
+use Rattle.cg_cmachine_def.specs.Runs.{Flow, choose, onward, returned}
 use Rattle.cg_ctree.specs.declared.why.Why.{Why}
 use Rattle.cg_cmachine_values.specs.declared.fault.RunFault.{RunFault}
 use Rattle.cg_cmachine_values.specs.declared.fault.RunFault.TheVariants.{Stuck, Budget, Memory}
 use Rattle.cg_heap.specs.declared.cell.Scalar.{Scalar}
 use Rattle.cg_heap.specs.Stored.{Stored}
-
--- statements behind statements
-pub onward_twice : (o : Outcome Flow) (f g : operands.Frame → State → ℕ → Outcome Flow) → onward (onward o f) g ≡ onward o (λ fr s left. onward (f fr s left) g)
-onward_twice (done (goes fr) s left) f g = refl
-onward_twice (done (back us) s left) f g = refl
-onward_twice (stuck why m) f g = refl
-onward_twice (needs m) f g = refl
-onward_twice astray f g = refl
 
 -- what ends a run ends it whatever waits
 pub data IsEnd : Outcome Flow → Outcome (List Scalar) → Type 0 where

@@ -18,8 +18,8 @@ use crate::running::land;
 use cg_base::{Items, Memory, Name};
 use cg_cmachine_builtins::Changes;
 use cg_cmachine_layout::Kind;
-use cg_ctree::Why;
 use cg_cmachine_values::{CValue, RunFault, read_local};
+use cg_ctree::Why;
 use cg_heap::{Called, ExternHeap, Scalar, Store};
 use std::alloc::Global;
 

@@ -24,8 +24,8 @@ use cg_base::Name;
 use cg_cmachine_builtins::{BuiltIn, call, call_into, new_into};
 use cg_cmachine_layout::{Kind, Shape};
 use cg_cmachine_resolve::{Callee, Head, Position};
-use cg_ctree::Why;
 use cg_cmachine_values::{CValue, Operand, Place, RunFault, is_of, judge, judge_all, push_scalars};
+use cg_ctree::Why;
 use cg_heap::{Scalar, Store};
 use std::alloc::Global;
 

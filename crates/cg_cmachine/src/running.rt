@@ -20,8 +20,8 @@ use crate::calls::{call_aside, call_to, new_to};
 use crate::machine::{Frame, Kont, Machine, Next, Run};
 use crate::statements::{assign, branch, give_back, switch, turn};
 use cg_cmachine_resolve::{Action, Right};
-use cg_ctree::Why;
 use cg_cmachine_values::{CValue, Place, RunFault, write};
+use cg_ctree::Why;
 use cg_heap::{ExternHeap, Store};
 use std::alloc::Global;
 

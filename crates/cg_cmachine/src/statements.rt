@@ -18,11 +18,11 @@ ghost use Rattle.cg_cmachine_values.specs.Values.{IsOperandWithin, IsWithin, Tri
 use crate::machine::{Kont, Machine, Next};
 use cg_base::Word;
 use cg_cmachine_resolve::{Position, Right};
-use cg_ctree::{COp, Why};
 use cg_cmachine_values::{
     CValue, Operand, Place, RunFault, address_in, compute, convert, flip, give, judge, word_in,
     write,
 };
+use cg_ctree::{COp, Why};
 use cg_heap::{Scalar, Store};
 use std::alloc::Global;
 

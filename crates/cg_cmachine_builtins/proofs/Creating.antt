@@ -31,6 +31,7 @@ use Rattle.cg_heap.specs.declared.cell.Scalar.TheVariants.{Address}
 use Rattle.cg_heap.specs.Stored.{Stored, cell_at, changed, in_cell, in_place, with_fresh, without_answer}
 use Rattle.cg_heap.proofs.TopSteps.{top_stays}
 use Rattle.cg_cmachine_builtins.proofs.Rooms.{made_beside, made_there}
+use Rattle.cg_graphs.proofs.Standing.{are_equal as equal_at}
 
 -- ---- what an allocator answers
 
@@ -42,7 +43,7 @@ denied l q b f cost s left m e h = rw (e, h) refl
 enough : (cost left : ℕ) → cost ≤ left → nat_lt left cost ≡ false
 enough cost left h = grind arith
 
-few : (cost left : ℕ) → left < cost → nat_lt left cost ≡ true
+pub few : (cost left : ℕ) → left < cost → nat_lt left cost ≡ true
 few cost left h = grind arith
 
 -- where it is, and the steps are left
@@ -92,10 +93,7 @@ same_cell q p m (Some (Answers (b ∷ bs))) e = grind (gets, rules)
 same_room : (q p : ℕ) (m : Stored) → room_of (cell_at (changed without_answer q m) p) ≡ room_of (cell_at m p)
 same_room q p m = same_cell q p m (cell_at m q) refl
 
-equal_at : (a b : ℕ) → nat_eq a b ≡ true → a ≡ b
-equal_at a b e = grind arith
-
-apart_at : (a b : ℕ) → nat_eq a b ≡ false → a ≡ b → ⊥
+pub apart_at : (a b : ℕ) → nat_eq a b ≡ false → a ≡ b → ⊥
 apart_at a b e h = grind arith
 
 same_made : (f : Option Fresh) (q p : ℕ) (m : Stored) → room_of (cell_at (with_made f (changed without_answer q m)) p) ≡ room_of (cell_at (with_made f m) p)

@@ -1,5 +1,5 @@
 -- Names behind prefixes.
-use Rattle.std.proofs.Common.{◌≡◌, ◌≢◌, ℕ, Bool, true, false, List, [], ◌∷◌, ◌++◌, nat_eq, refl, sym, ap, ◌∙◌, arith}
+use Rattle.std.proofs.Common.{◌≡◌, ◌≢◌, ℕ, Bool, true, false, List, [], ◌∷◌, ◌++◌, refl, sym, ap, ◌∙◌}
 use Rattle.std.specs.Cmp.Lexicographic.{bytes_decides}
 use Rattle.std.specs.Option.{option_or}
 use Rattle.std.specs.Prelude.{codes, if◌then◌else◌}
@@ -7,9 +7,7 @@ use Rattle.std.specs.Str.{bytes_eq}
 use Rattle.std.specs.declared.option.Option.TheVariants.{None, Some}
 use Rattle.cg_cmachine_def.specs.BuiltIns.{built_in, first_named}
 use Rattle.cg_cmachine_builtins.specs.Names.{Named, short_names, narrow_names, prefixed, wide_names}
-
-eqb_same : (c : ℕ) → nat_eq c c ≡ true
-eqb_same c = grind arith
+use Rattle.cg_base.proofs.Counts.{eqb_same}
 
 -- of equal beginnings nothing is asked
 same_behind : (p xs ys : List ℕ) → bytes_eq (p ++ xs) (p ++ ys) ≡ bytes_eq xs ys

@@ -15,8 +15,8 @@ use crate::operands::allocator_there;
 use crate::{BuiltIn, Changes};
 use cg_base::Name;
 use cg_cmachine_layout::Shape;
-use cg_ctree::Why;
 use cg_cmachine_values::{CValue, Place, RunFault, write};
+use cg_ctree::Why;
 use cg_heap::{Fresh, Scalar, Store};
 
 /// What a call does, where nobody takes its value.

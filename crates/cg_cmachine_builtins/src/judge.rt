@@ -14,8 +14,8 @@ use crate::operands::{
     allocator_of, allocator_there, array_in, array_there, index_of, is_there, number_of,
 };
 use cg_base::Word;
-use cg_ctree::Why;
 use cg_cmachine_values::{CValue, address_in, fits};
+use cg_ctree::Why;
 use cg_heap::{Form, Scalar, Store};
 
 /// A function that gives no value stands on the right of no assignment.

@@ -1,5 +1,8 @@
-//! The functions that `cogent.h` declares, on a store (docs/LANGUAGE.md, "The C subset", built-ins): a call whose value nobody takes,
-//! and one whose value is assigned to a place.
+//! Stage: C. The functions that `cogent.h` declares, on a store.
+//! Role: part of `cg_cmachine`.
+//! Promises: `call`, `call_into` and `new_into`, exactly as defined; `named` tells which built-in a name is.
+//! May cite: anything below it, of its stage and of those below; no crate above.
+//! docs/LANGUAGE.md, "The C subset", built-ins.
 #![tactic(auto)]
 
 mod act;

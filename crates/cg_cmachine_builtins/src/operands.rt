@@ -12,8 +12,8 @@ ghost use Rattle.cg_cmachine_values.specs.Values.{Gives, value_of};
 
 use crate::widths::array_name;
 use cg_base::Word;
-use cg_ctree::Why;
 use cg_cmachine_values::{CValue, fits, same};
+use cg_ctree::Why;
 use cg_heap::Store;
 
 /// The cell that an operand points to has to be there; of one that is no pointer nothing is asked yet.

@@ -11,8 +11,8 @@ ghost use Rattle.cg_heap.specs.declared.cell.Scalar.TheVariants.{Address};
 ghost use Rattle.cg_heap.specs.Stored.{Stored, cell_at, fresh_cell};
 
 use cg_cmachine_layout::{Kind, Part};
-use cg_ctree::Why;
 use cg_cmachine_values::{Place, has_room};
+use cg_ctree::Why;
 use cg_heap::{Form, Fresh, Scalar, Store};
 
 /// What an assignment to a part of a cell asks of the cell.

@@ -4,8 +4,8 @@
 use crate::{BuiltIn, Changes, call, call_into, named, new_into};
 use cg_base::{Items, Memory, Name, Word};
 use cg_cmachine_layout::{Kind, Structs};
-use cg_ctree::{CDecl, CStruct, CTy};
 use cg_cmachine_values::{CValue, Place};
+use cg_ctree::{CDecl, CStruct, CTy};
 use cg_heap::{Cell, Fresh, MapStore, Scalar, Store};
 use std::alloc::Global;
 use std::test::Fail;

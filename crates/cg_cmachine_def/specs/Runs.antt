@@ -1,6 +1,6 @@
 -- What a program of the C subset does (docs/LANGUAGE.md, "The C subset"): a recursion over its statements, with what is left of a
 -- budget of steps, and no stack.
-use Rattle.std.specs.Prelude.{ℕ, zero, suc, Bool, true, false, List, [], ◌∷◌, ◌++◌, length, replicate, take, drop, Option, Some, None, cond, nat_eq, nat_le, if◌then◌else◌}
+use Rattle.std.specs.Prelude.{ℕ, zero, suc, true, false, List, [], ◌∷◌, ◌++◌, length, replicate, take, drop, Option, Some, None, cond, nat_eq, nat_le, if◌then◌else◌}
 use Rattle.std.specs.List.{flat_map}
 use Rattle.std.specs.Str.{bytes_eq}
 use Rattle.cg_base.specs.declared.kind.Word.TheVariants.{U8}

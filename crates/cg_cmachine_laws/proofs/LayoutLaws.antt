@@ -15,6 +15,7 @@ use Rattle.cg_ctree.specs.declared.tree.CTy.{CTy}
 use Rattle.cg_ctree.specs.declared.tree.CTy.TheVariants as ty
 use Rattle.cg_cmachine_def.specs.Layouts.{Spot, behind, cell, declared, find_member, further, group, holds_itself, is_reached, laid, layout, layout_within, member, members_in, pointer, size, spot, structs_among, walk}
 use Rattle.cg_cmachine_def.specs.Parts.{Part, member_part, part, part_at, part_behind, part_within, sizes_of}
+use Rattle.cg_base.proofs.Truths.{or_true as or_second, or_left as or_first, or_cases as either_true}
 
 -- ---- structs that are reached
 
@@ -29,19 +30,6 @@ declared_or_none x (s ∷ ss) = pick (bytes_eq x s.name) (declared_or_none x ss)
     pick : (b : Bool) → (declared x ss ≡ []) ⊎ (list_any (bytes_eq x) (names ss) ≡ true) → (cond b s.members (declared x ss) ≡ []) ⊎ ((b || list_any (bytes_eq x) (names ss)) ≡ true)
     pick true h = inr refl
     pick false h = h
-
--- where one test or another passes
-either_true : (a b : Bool) → (a || b) ≡ true → (a ≡ true) ⊎ (b ≡ true)
-either_true true b e = inl refl
-either_true false b e = inr e
-
-or_first : (a b : Bool) → a ≡ true → (a || b) ≡ true
-or_first true b e = refl
-or_first false b e = absurd (cc)
-
-or_second : (a b : Bool) → b ≡ true → (a || b) ≡ true
-or_second true b e = refl
-or_second false b e = e
 
 module _ (ss : List CStruct) where
   -- whether a struct leads to another through at most so many structs

@@ -4,3 +4,4 @@ pub mod LayoutLaws
 pub mod Names
 pub mod NeverAstray
 pub mod Rows
+pub mod Flows

@@ -1,4 +1,7 @@
-//! Laws of runs of programs of the C subset (docs/LANGUAGE.md, "The C subset").
+//! Stage: C. Laws of runs of C: neither names nor the order of what is declared matter.
+//! Role: laws.
+//! Promises: `names_do_not_matter`, `order_does_not_matter`.
+//! May cite: definitions, laws and public crates below; no code above.
 #![tactic(auto)]
 
 mod law;

@@ -1,11 +1,10 @@
 -- A struct's layout is a group of its name.
-use Rattle.std.proofs.Common.{◌≡◌, ℕ, zero, suc, ◌&&◌, Bool, List, length, refl}
+use Rattle.std.proofs.Common.{◌≡◌, ℕ, zero, suc, ◌&&◌, List, length, refl}
 use Rattle.std.specs.Bool.{nat_eq}
 use Rattle.std.specs.Str.{bytes_eq}
-use Rattle.cg_cmachine_layout.specs.declared.kind.Kind.{Kind}
 use Rattle.cg_cmachine_layout.specs.declared.shape.Shape.{Shape}
-use Rattle.cg_cmachine_layout.specs.Kinds.{layout_of, shape_layout}
-use Rattle.cg_cmachine_def.specs.Layouts.{Layout, Members, cell, pointer, group, members_of, layout, layout_within, same_layout, size}
+use Rattle.cg_cmachine_layout.specs.Kinds.{shape_layout}
+use Rattle.cg_cmachine_def.specs.Layouts.{Layout, Members, cell, pointer, group, members_of, layout_within, same_layout, size}
 use Rattle.cg_base.specs.declared.kind.Word.{Word}
 use Rattle.cg_ctree.specs.declared.tree.CStruct.{CStruct}
 use Rattle.cg_ctree.specs.declared.tree.CTy.TheVariants as ty

@@ -13,7 +13,7 @@ use Rattle.cg_cmachine_def.specs.Layouts.{declared}
 use Rattle.cg_cmachine_layout.specs.Tables.{Table, place, Indexes, Within}
 
 -- the first that passes, where one more stands behind
-position_push : {A : Type 0} (p : A → Bool) (i : ℕ) (xs : List A) (x : A) → position_from p i (xs ++ x ∷ []) ≡ option_or (position_from p i xs) (cond (p x) (Some (i + length xs)) None)
+pub position_push : {A : Type 0} (p : A → Bool) (i : ℕ) (xs : List A) (x : A) → position_from p i (xs ++ x ∷ []) ≡ option_or (position_from p i xs) (cond (p x) (Some (i + length xs)) None)
 position_push p i [] x = rw add-zero refl
 position_push p i (y ∷ xs) x = pick (p y) (position_push p (i + 1) xs x)
   where
@@ -22,7 +22,7 @@ position_push p i (y ∷ xs) x = pick (p y) (position_push p (i + 1) xs x)
     pick true h = refl
     pick false h = h ∙ ap (λ n. option_or (position_from p (i + 1) xs) (cond (p x) (Some n) None)) (omega arith)
 
-alone : (found : Option ℕ) → option_or found None ≡ found
+pub alone : (found : Option ℕ) → option_or found None ≡ found
 alone None = refl
 alone (Some at) = refl
 

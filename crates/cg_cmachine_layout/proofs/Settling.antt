@@ -18,6 +18,7 @@ use Rattle.cg_cmachine_layout.specs.declared.circles.Settled.{Settled}
 use Rattle.cg_cmachine_layout.specs.Tables.{Indexes, IsSettled, Table, Within, any_reaches, counted, holds, later, listed, place, rounds, slices, struct_at, targets}
 use Rattle.cg_cmachine_laws.proofs.LayoutLaws.{no_circle}
 use Rattle.cg_cmachine_layout.proofs.Names.{found_members, found_name, not_declared, one_name, places_within}
+use Rattle.cg_base.proofs.Truths.{same_test as both_true}
 
 -- ---- the graph of structs
 
@@ -76,11 +77,6 @@ among_targets names (d ∷ ds) y j c e = pick d.ty d.name c (λ c. among_targets
     pick (ty.Pointer z) x c h = h c
 
 -- ---- which structs hold themselves
-
-both_true : (a b : Bool) → (a ≡ true → b ≡ true) → (b ≡ true → a ≡ true) → a ≡ b
-both_true true b f g = sym (f refl)
-both_true false true f g = g refl
-both_true false false f g = refl
 
 unreached : (k : ℕ) (ss : List CStruct) (x : List ℕ) → is_reached k ss x [] ≡ false
 unreached zero ss x = refl

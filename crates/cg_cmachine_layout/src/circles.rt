@@ -6,8 +6,8 @@ ghost use Rattle.cg_cmachine_layout.specs.Tables.{Indexes, IsSettled, Within, an
 
 use crate::index::{Names, find};
 use cg_base::Memory;
-use cg_graphs::{NoOrder, order};
 use cg_ctree::{CDecl, CStruct, CTy};
+use cg_graphs::{NoOrder, order};
 use std::alloc::Global;
 
 /// For each struct its members that count, none where it holds itself; and the structs, each behind those that it holds.

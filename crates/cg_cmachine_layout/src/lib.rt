@@ -1,4 +1,8 @@
-//! Layouts of C types: how many slots they have, and where their parts stand (docs/LANGUAGE.md, "The C subset", layouts).
+//! Stage: C. Layouts of C types: how many slots they have, and where their parts stand.
+//! Role: part of `cg_cmachine`.
+//! Promises: `Structs` gives layouts and the parts that members lead to, exactly; `Kind`, `Shape`, `Part`.
+//! May cite: anything below it, of its stage and of those below; no crate above.
+//! docs/LANGUAGE.md, "The C subset", layouts.
 #![tactic(auto)]
 
 mod circles;

@@ -10,7 +10,7 @@ use Rattle.cg_cmachine_resolve.specs.Indexes.{Indexes, Table, place}
 use Rattle.cg_cmachine_resolve.specs.Lines.{Calls, IsAt, Whole, linked}
 use Rattle.cg_cmachine_def.specs.BuiltIns.{built_in}
 use Rattle.cg_cmachine_def.specs.Runs as runs
-use Rattle.cg_cmachine_def.specs.Runs.{abstract', built, find, linked_to, own, without_body}
+use Rattle.cg_cmachine_def.specs.Runs.{abstract', find, linked_to, own, without_body}
 use Rattle.cg_ctree.specs.declared.tree.CBody.{CBody}
 use Rattle.cg_ctree.specs.declared.tree.CFun.{CFun}
 use Rattle.cg_ctree.specs.Trees.{body_of, function_of}

@@ -1,5 +1,5 @@
 -- What stands of statements still stands when more blocks have joined.
-use Rattle.std.proofs.Common.{◌≡◌, ℕ, zero, suc, Some, List, [], ◌∷◌, ◌++◌, length, get_or, take, slice_get, ◌+◌, ◌<◌, IfOk, Result, Ok, Err, refl, sym, ap, ◌∙◌}
+use Rattle.std.proofs.Common.{◌≡◌, ℕ, Some, List, [], ◌∷◌, ◌++◌, length, get_or, take, slice_get, ◌+◌, ◌<◌, IfOk, Result, Ok, Err, refl, sym, ap, ◌∙◌}
 use Rattle.std.proofs.lemmas.List.{take_more}
 use Rattle.std.specs.List.{AllByRecursion, AllZip}
 use Rattle.cg_cmachine_resolve.specs.declared.line.Action.{Action}
@@ -11,15 +11,7 @@ use Rattle.cg_cmachine_resolve.specs.Scopes.{Scope}
 use Rattle.cg_ctree.specs.declared.tree.CCase.{CCase}
 use Rattle.cg_ctree.specs.declared.tree.CStmt.{CStmt, CStmt-F, out-CStmt}
 use Rattle.cg_ctree.specs.declared.tree.CStmt.TheOpen as form
-
-pub stays : {A : Type 0} (xs more : List A) (i : ℕ) (x : A) → slice_get xs i ≡ Some x → slice_get (xs ++ more) i ≡ Some x
-stays [] more i x e = absurd (cc)
-stays (y ∷ xs) more zero x e = e
-stays (y ∷ xs) more (suc i) x e = stays xs more i x e
-
-pub joins_last : {A : Type 0} (xs : List A) (x : A) → slice_get (xs ++ x ∷ []) (length xs) ≡ Some x
-joins_last [] x = refl
-joins_last (y ∷ xs) x = joins_last xs x
+use Rattle.cg_base.proofs.Sequences.{get_front as stays, get_last as joins_last}
 
 module _ (w : Whole) (vs : Scope) (all more : List (List CStmt)) where
   pub cases_stay : (cs : List CCase) (es : List (ℕ × ℕ)) → AreCases w vs all cs es → AreCases w vs (all ++ more) cs es

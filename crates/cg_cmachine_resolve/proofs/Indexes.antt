@@ -1,5 +1,5 @@
 -- Tables of names, and what they find.
-use Rattle.std.proofs.Common.{◌≡◌, ℕ, suc, ◌+◌, ◌<◌, Bool, true, false, cond, Some, None, Option, List, [], ◌∷◌, ◌++◌, length, get_or, map, take, refl, sym, ap, ◌∙◌, subst, arith, bytes_eq, Bor, add-zero, is_some}
+use Rattle.std.proofs.Common.{◌≡◌, ℕ, ◌+◌, ◌<◌, Bool, true, false, cond, Some, None, Option, List, [], ◌∷◌, ◌++◌, length, get_or, map, take, refl, sym, ap, ◌∙◌, subst, arith, bytes_eq, Bor, is_some}
 use Rattle.std.proofs.lemmas.Bool.{true≢false}
 use Rattle.std.proofs.lemmas.List.{map-append, take_more, length-map, length-take-le}
 use Rattle.std.proofs.lemmas.Map.Text.{is_eq-slice_cmp}
@@ -9,20 +9,7 @@ use Rattle.std.specs.List.{position_from}
 use Rattle.std.specs.Option.{option_or}
 use Rattle.std.specs.Ordering.{nat_cmp}
 use Rattle.cg_cmachine_resolve.specs.Indexes.{HasJoined, Indexes, Table, place}
-
--- the first that passes, where one more stands behind
-position_push : {A : Type 0} (p : A → Bool) (i : ℕ) (xs : List A) (x : A) → position_from p i (xs ++ x ∷ []) ≡ option_or (position_from p i xs) (cond (p x) (Some (i + length xs)) None)
-position_push p i [] x = rw add-zero refl
-position_push p i (y ∷ xs) x = pick (p y) (position_push p (i + 1) xs x)
-  where
-    pick : (b : Bool) → position_from p (i + 1) (xs ++ x ∷ []) ≡ option_or (position_from p (i + 1) xs) (cond (p x) (Some ((i + 1) + length xs)) None)
-        → cond b (Some i) (position_from p (i + 1) (xs ++ x ∷ [])) ≡ option_or (cond b (Some i) (position_from p (i + 1) xs)) (cond (p x) (Some (i + suc (length xs))) None)
-    pick true h = refl
-    pick false h = h ∙ ap (λ n. option_or (position_from p (i + 1) xs) (cond (p x) (Some n) None)) (omega arith)
-
-alone : (found : Option ℕ) → option_or found None ≡ found
-alone None = refl
-alone (Some at) = refl
+use Rattle.cg_cmachine_layout.proofs.Names.{position_push, alone}
 
 -- a name that is in the table already
 kept : (names : List (List ℕ)) (name : List ℕ) (table : Table) → Indexes names table → is_some (place table name) ≡ true → Indexes (names ++ name ∷ []) table

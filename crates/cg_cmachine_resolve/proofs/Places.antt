@@ -2,7 +2,6 @@
 use Rattle.std.proofs.Common.{◌≡◌, ℕ, zero, suc, ◌+◌, ◌^◌, ◌<◌, ◌≤◌, Bool, true, false, cond, Some, None, Option, List, [], ◌∷◌, ◌++◌, length, map, take, drop, refl, sym, ap, ◌∙◌, subst, arith, bytes_eq, MatchOption}
 use Rattle.std.proofs.lemmas.List.{append_assoc, take-append-drop, take_at, length-append, length-take-le, length-drop}
 use Rattle.std.proofs.Math.Seq.{drop-append_seam, drop-nil}
-use Rattle.std.proofs.lemmas.Bool.{true≢false}
 use Rattle.std.specs.Bool.{nat_lt}
 use Rattle.std.specs.List.{position_from}
 use Rattle.cg_base.specs.declared.kind.Word.{Word}
@@ -14,7 +13,7 @@ use Rattle.cg_cmachine_layout.specs.declared.shape.Shape.{Shape}
 use Rattle.cg_cmachine_layout.specs.Kinds.{IsPart, layout_of}
 use Rattle.cg_cmachine_resolve.specs.Lines.{IsWhole, Leads}
 use Rattle.cg_cmachine_resolve.specs.Scopes.{Finds, Scope, frame_of, total}
-use Rattle.cg_cmachine_def.specs.Layouts.{Layout, cell, pointer, group, layout_within, pointed, size, sizes, Spot, spot, same_layout, walk}
+use Rattle.cg_cmachine_def.specs.Layouts.{Layout, cell, pointer, group, layout_within, pointed, size, Spot, spot, same_layout, walk}
 use Rattle.cg_cmachine_def.specs.Operands.{Value, literal, typed, look, address_at, only, present, scalars_in, target_of, give, read, read_part}
 use Rattle.cg_cmachine_def.specs.Outcomes.{Judged, ok, no, on, found}
 use Rattle.cg_cmachine_def.specs.Targets.{Written, spliced, with_cell_at, with_scalars, written_cell}
@@ -29,6 +28,8 @@ use Rattle.cg_heap.specs.declared.cell.Cell.TheVariants.{Slots}
 use Rattle.cg_heap.specs.declared.cell.Scalar.{Scalar}
 use Rattle.cg_heap.specs.declared.cell.Scalar.TheVariants.{Word as Number'}
 use Rattle.cg_heap.specs.Stored.{Stored}
+use Rattle.cg_cmachine_values.proofs.Giving.{same_sizes as same_size}
+use Rattle.cg_cmachine_values.proofs.Reading.{first_only as one_only}
 
 -- ---- rows
 
@@ -123,18 +124,6 @@ looks_none x i (v ∷ vs) us e = pick (bytes_eq x v.0) e (looks_none x (i + 1) v
 
 -- ---- values as they are needed
 
-same_size : (k l : Layout) → same_layout k l ≡ true → size k ≡ size l
-unfolding size sizes
-same_size (cell v) (cell w) e = refl
-same_size (cell v) (pointer x) e = refl
-same_size (cell v) (group x ms) e = absurd (true≢false (sym e))
-same_size (pointer x) (cell v) e = refl
-same_size (pointer x) (pointer y) e = refl
-same_size (pointer x) (group y ns) e = absurd (true≢false (sym e))
-same_size (group x ms) (cell v) e = absurd (true≢false (sym e))
-same_size (group x ms) (pointer y) e = absurd (true≢false (sym e))
-same_size (group x ms) (group y ns) e = grind (arith, e)
-
 number_size : (w : Word) (n : ℕ) (b : Bool) (xs : List Scalar) → cond b (ok (Number' n ∷ [])) (no KindsDiffer) ≡ ok xs → length xs ≡ size (cell w)
 unfolding size
 number_size w n true xs e = let is : Number' n ∷ [] ≡ xs = cc in subst (λ z. length z ≡ 1) is refl
@@ -212,10 +201,6 @@ leads_local ss vs p start l a k f plain e fits = record {
         ∙ ap (frame_of vs) (spliced_over start a (size (layout_of k)) (size l) xs us many fits (omega (arith, f.within, long))))
 
 -- ---- behind a pointer
-
-one_only : (us : List Scalar) → only (take 1 us) ≡ only us
-one_only [] = refl
-one_only (u ∷ us) = refl
 
 one_slot : (x : List ℕ) (us : List Scalar) → only (take (size (pointer x)) us) ≡ only us
 unfolding size

@@ -1,5 +1,8 @@
-//! Programs of the C subset with all names resolved: which slots a path leads to, which function is called, which block comes next
-//! (docs/LANGUAGE.md, "The C subset"). A run looks up no name.
+//! Stage: C. Programs of the C subset with all names resolved: slots, functions and blocks by their numbers.
+//! Role: part of `cg_cmachine`.
+//! Promises: `Resolved` gives what each statement does with no look-up of a name, exactly; `Line`, `Position`, `Action`.
+//! May cite: anything below it, of its stage and of those below; no crate above.
+//! docs/LANGUAGE.md, "The C subset", says what a name leads to.
 #![tactic(auto)]
 
 mod code;

@@ -2,8 +2,8 @@
 use cg_base::{Name, Word};
 use cg_cmachine_builtins::BuiltIn;
 use cg_cmachine_layout::Shape;
-use cg_ctree::{COp, CStmt};
 use cg_cmachine_values::{Operand, Place};
+use cg_ctree::{COp, CStmt};
 
 /// What is called.
 #[derive(Clone, Copy)]

@@ -14,8 +14,8 @@ use crate::scope::{Variable, Variables};
 use crate::{Callee, Right};
 use cg_base::{Memory, Name};
 use cg_cmachine_layout::{Kind, Part, Structs};
-use cg_ctree::{CFun, COpnd, CPath, CRhs};
 use cg_cmachine_values::{Operand, Place};
+use cg_ctree::{CFun, COpnd, CPath, CRhs};
 use std::alloc::Global;
 use std::marker::Model;
 

@@ -1,8 +1,8 @@
 // A program of a function with a choice, and of one that a link names.
 use crate::{Action, Position, Resolved, Right};
 use cg_base::{Items, Memory, Name, Word};
-use cg_ctree::{CBody, CDecl, CFun, COpnd, CPath, CProgram, CRhs, CStmt, CTy};
 use cg_cmachine_values::{Operand, Place};
+use cg_ctree::{CBody, CDecl, CFun, COpnd, CPath, CProgram, CRhs, CStmt, CTy};
 use cg_heap::Link;
 use std::alloc::Global;
 use std::test::Fail;

@@ -1,16 +1,17 @@
 -- Values where types are needed.
-use Rattle.std.proofs.Common.{rules, ◌≡◌, ℕ, ◌&&◌, Bool, true, false, cond, List, refl}
+use Rattle.std.proofs.Common.{rules, ◌≡◌, ℕ, true, false, cond, List, refl}
 use Rattle.std.specs.Bool.{nat_eq}
 use Rattle.std.specs.Str.{bytes_eq}
 use Rattle.cg_base.specs.declared.kind.Word.{Word}
 use Rattle.cg_cmachine_layout.specs.declared.shape.Shape.{Shape}
 use Rattle.cg_cmachine_layout.specs.Kinds.{shape_layout}
-use Rattle.cg_cmachine_layout.proofs.Groups.{shape_grouped}
+use Rattle.cg_cmachine_layout.proofs.Groups.{shape_grouped, one_word as size_word, one_pointer as size_pointer}
 use Rattle.cg_cmachine_def.specs.Layouts.{Layout, Members, cell, pointer, group, same_layout, size, sizes}
 use Rattle.cg_cmachine_def.specs.Operands.{literal, typed, give}
 use Rattle.cg_cmachine_def.specs.Outcomes.{ok, no}
 use Rattle.cg_ctree.specs.declared.why.Why.TheVariants.{KindsDiffer}
 use Rattle.cg_heap.specs.declared.cell.Scalar.{Scalar}
+use Rattle.cg_base.proofs.Truths.{and_right as both}
 
 -- ---- a struct's layout is none of a word or a pointer
 
@@ -53,10 +54,6 @@ pointer_shape s y = pointer_group (shape_layout s) _ y _ (shape_grouped s)
 
 -- ---- values of the same type have as many slots
 
-both : (a b : Bool) → a && b ≡ true → b ≡ true
-both true b e = e
-both false b e = absurd (search (rules, e))
-
 pub same_sizes : (l k : Layout) → same_layout l k ≡ true → size l ≡ size k
 unfolding size
 same_sizes (cell v) (cell w) e = refl
@@ -68,13 +65,5 @@ same_sizes (pointer x) (cell w) e = absurd (search (rules, e))
 same_sizes (pointer x) (group y ns) e = absurd (search (rules, e))
 same_sizes (group x ms) (cell w) e = absurd (search (rules, e))
 same_sizes (group x ms) (pointer y) e = absurd (search (rules, e))
-
-pub size_word : (w : Word) → size (cell w) ≡ 1
-unfolding size
-size_word w = refl
-
-pub size_pointer : (x : List ℕ) → size (pointer x) ≡ 1
-unfolding size
-size_pointer x = refl
 
 pub ruleset giving_steps = (size_word, size_pointer, shape_literal, give_typed, shape_word, word_shape, shape_pointer, pointer_shape, same_sizes)

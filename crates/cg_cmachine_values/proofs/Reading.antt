@@ -15,13 +15,12 @@ use Rattle.cg_cmachine_layout.specs.declared.kind.Kind.TheVariants as kind
 use Rattle.cg_cmachine_layout.specs.declared.kind.Part.{Part}
 use Rattle.cg_cmachine_layout.specs.declared.shape.Shape.{Shape}
 use Rattle.cg_cmachine_layout.specs.Kinds.{layout_of, shape_layout}
-use Rattle.cg_cmachine_layout.proofs.Groups.{shape_grouped}
+use Rattle.cg_cmachine_layout.proofs.Groups.{shape_grouped, one_word as size_word, one_pointer as size_pointer}
 use Rattle.cg_cmachine_def.specs.Layouts.{Layout, Members, cell, pointer, group, size, spot}
 use Rattle.cg_cmachine_def.specs.Operands.{Value, typed, present, scalars_in, only, read, read_part}
 use Rattle.cg_cmachine_def.specs.Outcomes.{Judged, ok, no, on}
 use Rattle.cg_ctree.specs.declared.why.Why.{Why}
 use Rattle.cg_ctree.specs.declared.why.Why.TheVariants.{KindsDiffer, NoCell}
-use Rattle.cg_cmachine_values.proofs.Giving.{size_word, size_pointer}
 use Rattle.cg_cmachine_values.specs.declared.fault.RunFault.{RunFault}
 use Rattle.cg_cmachine_values.specs.declared.fault.RunFault.TheVariants.{Stuck, Budget, Memory}
 use Rattle.cg_cmachine_values.specs.declared.place.Operand.{Operand}
@@ -33,6 +32,7 @@ use Rattle.cg_heap.specs.declared.cell.Scalar.{Scalar}
 use Rattle.cg_heap.specs.declared.cell.Scalar.TheVariants.{Unset, Word}
 use Rattle.cg_heap.specs.Readings.{held_scalars}
 use Rattle.cg_heap.specs.Stored.{Stored, asked_of, cell_at, form_of, in_cell, slot_of}
+use Rattle.cg_heap.proofs.CellItems.{slot_is}
 
 -- ---- a slot of a frame
 
@@ -47,7 +47,7 @@ only_nowhere [] (suc i) e = refl
 only_nowhere (x ∷ us) zero e = absurd (search (rules, e))
 only_nowhere (x ∷ us) (suc i) e = only_nowhere us i e
 
-first_only : (us : List Scalar) → only (take 1 us) ≡ only us
+pub first_only : (us : List Scalar) → only (take 1 us) ≡ only us
 first_only [] = refl
 first_only (u ∷ us) = refl
 
@@ -78,12 +78,6 @@ present_none m p e = rw e refl
 
 pub present_some : (m : Stored) (p : ℕ) (c : Cell) → cell_at m p ≡ Some c → present m p ≡ ok c
 present_some m p c e = rw e refl
-
-slot_is : (o : Option Cell) (i : ℕ) → in_cell (slot_of i) o ≡ slice_get (held_scalars o) i
-slot_is None i = refl
-slot_is (Some (Slots us)) i = refl
-slot_is (Some (Words ns)) i = sym (slice_get-map Word ns i)
-slot_is (Some (Answers bs)) i = refl
 
 get_behind : (us : List Scalar) (n i : ℕ) → slice_get (drop n us) i ≡ slice_get us (n + i)
 get_behind us zero i = let start : 0 + i ≡ i = omega arith in rw start refl

@@ -27,6 +27,7 @@ use Rattle.cg_heap.specs.declared.cell.Form.{Form}
 use Rattle.cg_heap.specs.declared.cell.Scalar.{Scalar}
 use Rattle.cg_heap.specs.Readings.{held_scalars}
 use Rattle.cg_heap.specs.Stored.{Stored, cell_at, changed, form_of, with_slot}
+use Rattle.cg_heap.proofs.Maps.{same_put}
 
 -- ---- slots that are written one by one
 
@@ -68,9 +69,6 @@ overwritten_one at us x less =
     set_split us at x less ∙ ap (λ n. take at us ++ x ∷ drop n us) next ∙ sym (append_assoc (take at us) (x ∷ []) (drop (at + 1) us))
 
 -- ---- cells that are written slot by slot
-
-same_put : (m : FinMap nat_cmp Cell) (p : ℕ) (c : Cell) → map'.get m p ≡ Some c → map'.insert m p c ≡ m
-same_put m p c here = same_map nat_cmp_total nat_cmp-IsAntisymmetric _ _ (λ q. grind (gets, rules))
 
 put_twice : (m : FinMap nat_cmp Cell) (p : ℕ) (c d : Cell) → map'.insert (map'.insert m p c) p d ≡ map'.insert m p d
 put_twice m p c d = same_map nat_cmp_total nat_cmp-IsAntisymmetric _ _ (λ q. grind (gets, rules))

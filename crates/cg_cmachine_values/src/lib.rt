@@ -1,5 +1,8 @@
-//! Values of C programs: what stands in frames and cells, what is done with it, and where it is written (docs/LANGUAGE.md, "The C
-//! subset"). A frame is one row of slots here, and a place in it is a number.
+//! Stage: C. Values of C programs: what stands in frames and cells, what is done with it, where it is written.
+//! Role: part of `cg_cmachine`.
+//! Promises: `judge`, `judge_all`, `write`, `give`, `is_of`, `compute`, `convert`, `flip`, `word_in`, `address_in`, each exactly.
+//! May cite: anything below it, of its stage and of those below; no crate above.
+//! A frame is one row of slots here, and a place in it is a number (docs/LANGUAGE.md, "The C subset").
 #![tactic(auto)]
 
 mod assign;

@@ -1,2 +1,5 @@
 pub mod Erasures
 pub mod Views
+pub mod Forms
+pub mod FormGroups
+pub mod Operands

@@ -1,3 +1,4 @@
 pub mod Derivations
 pub mod Kernels
 pub mod Terms
+pub mod Groups

@@ -1,4 +1,7 @@
-//! Kernel terms, cores and derivations, what a checked source is made of, and the kernel term of a core, by [`erase`].
+//! Stage: ground. Kernel terms, cores and derivations.
+//! Role: public.
+//! Promises: `erase`, the kernel term of a core; `At` and `TyArg` copy to equal values.
+//! May cite: anything of its stage and of those below; no crate above.
 //! docs/LANGUAGE.md, "Terms", says what the terms stand for.
 #![tactic(auto)]
 

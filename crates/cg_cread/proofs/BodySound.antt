@@ -1,5 +1,5 @@
 -- What has been read of a function is what its state spells.
-use Rattle.std.proofs.Common.{◌≡◌, ℕ, zero, suc, List, [], ◌∷◌, refl, subst, true, false, Bool, Option, Some, None, arith}
+use Rattle.std.proofs.Common.{◌≡◌, ℕ, zero, suc, List, [], ◌∷◌, refl, subst, true, false, Option, Some, None, arith}
 use Rattle.std.specs.Prelude.{codes, ⊤, ◌&&◌, ◌==◌, ◌-◌, not}
 use Rattle.cg_base.proofs.Spans.{either_way}
 use Rattle.cg_ctree.specs.declared.tree.CDecl.{CDecl}
@@ -23,6 +23,7 @@ use Rattle.cg_cread_pieces.proofs.LineSound.{LineRead, LineIs, TestIs, begin_hol
 use Rattle.cg_cread.specs.Blocks.{Level, Opened, Yes, No, Loop, InCase, Frame, frame, Gap, gap_opens, gap_end}
 use Rattle.cg_cread.specs.Bodies.{Nest, Body, Locals, Statements, InLine, InGap, Closed, Stuck, nest, function_at, with_statement, opening, ended, opened, on_test, tested, on_line, on_gap, closes, on_end, on_statement, on_statements, on_locals, body_step}
 use Rattle.cg_cread.proofs.BlockSound.{GapRead, OpenedRead, StackRead, OpensIs, no_statement, no_case_read, stack_more, gap_holds, opens_is, gap_is}
+use Rattle.cg_base.proofs.Truths.{both_true}
 
 -- what is read of a function up to its statements, and with them
 abbrev pub DraftRead : Signature → List CDecl → Reading
@@ -47,10 +48,6 @@ room_left (suc k) e = omega arith
 pub whole_read : (m : Declaration) (all rest : List Lexeme) → is_whole m ≡ true → DeclarationRead m all rest → all ≡ rest
 whole_read Wanted all rest e r = r
 whole_read _ all rest e r = cc
-
-both_true : (a b : Bool) → (a && b) ≡ true → a ≡ true
-both_true true b e = refl
-both_true false b e = cc
 
 module _ (t : Lexeme) (rest all : List Lexeme) where
   -- a statement ends, and a block opens

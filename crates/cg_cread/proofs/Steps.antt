@@ -20,7 +20,7 @@ use Rattle.cg_cread_pieces.specs.declared.line.Line.{Line}
 use Rattle.cg_cread_parts.proofs.DeclarationComplete.{in_row, in_a_row, in_head}
 use Rattle.cg_cread_parts.proofs.Known.{Fits, back}
 use Rattle.cg_cread.specs.Blocks.{Frame}
-use Rattle.cg_cread.specs.Bodies.{Nest, Body, Locals, Statements, InLine, on_statements, on_statement, on_locals, nest}
+use Rattle.cg_cread.specs.Bodies.{Nest, Locals, Statements, InLine, on_statements, on_statement, nest}
 use Rattle.cg_cread.specs.Bodies as bodies
 use Rattle.cg_cread.specs.Machine.{State, InHead, InMembers, InBody, in_body, on_head, on_members, at, finish, reader}
 

@@ -29,9 +29,9 @@ use Rattle.cg_cread_parts.proofs.Viable.{Feeds, FeedsAt, row_viable, head_viable
 use Rattle.cg_cread_pieces.proofs.Shut.{line_none, no_test, line_shut}
 use Rattle.cg_cread_pieces.proofs.Viable.{line_viable}
 use Rattle.cg_cread.specs.Blocks as blocks
-use Rattle.cg_cread.specs.Blocks.{Level, Arms, Opened, Yes, No, Loop, InCase, Frame, frame, Gap, BehindYes, BehindElse, CaseWanted, CaseRead, Tagged, ColonRead, CaseClosed, BreakRead, with_case, switched, gap_is_open}
+use Rattle.cg_cread.specs.Blocks.{Level, Arms, Yes, No, Loop, InCase, Frame, frame, Gap, BehindYes, BehindElse, CaseWanted, CaseRead, Tagged, ColonRead, CaseClosed, BreakRead, with_case, switched, gap_is_open}
 use Rattle.cg_cread.specs.Bodies as bodies
-use Rattle.cg_cread.specs.Bodies.{Nest, Body, Locals, Statements, InLine, InGap, Closed, nest, ended, tested, on_test, on_line, on_gap, on_statements, on_locals, body_step, body_is_open}
+use Rattle.cg_cread.specs.Bodies.{Nest, Body, Locals, Statements, InLine, InGap, Closed, nest, ended, tested, on_line, on_gap, on_statements, on_locals, body_step, body_is_open}
 use Rattle.cg_cread.specs.Machine.{State, Start, First, Second, Between, InHead, InMembers, MembersClosed, InBody, Failed, defined, members, declared, on_head, structured, on_members, in_body, at, step, is_open, finish, reader}
 use Rattle.cg_cread.proofs.Complete.{complete}
 use Rattle.cg_cread.proofs.Sound.{sound}

@@ -1,4 +1,7 @@
-//! [`read_c`] reads a C text: from its bytes to the program that they spell, or to the first token that no program goes on with.
+//! Stage: C. C texts to the program that they spell, or to the first token that no program goes on with.
+//! Role: public.
+//! Promises: `read_c` answers exactly; law: `one_program`.
+//! May cite: anything of its stage and of those below; no crate above.
 //! docs/LANGUAGE.md, "The C text", says what is spelled.
 #![tactic(auto)]
 

@@ -1,6 +1,6 @@
 -- What stands before a token: the longest front of white space and closed comments, and it alone.
-use Rattle.std.proofs.Common.{◌≡◌, ℕ, suc, ◌+◌, ◌-◌, ◌<◌, ◌≤◌, Bool, true, false, List, [], ◌∷◌, ◌++◌, length, take, drop, get_or, codes, refl, sym, ap, ◌∙◌, subst, arith, append_assoc, length-append, add-one, drop-cons}
-use Rattle.std.specs.Prelude.{◌==◌, ◌||◌, ◌&&◌, nat_eq, nat_lt}
+use Rattle.std.proofs.Common.{◌≡◌, ℕ, suc, ◌+◌, ◌-◌, ◌<◌, ◌≤◌, true, false, List, [], ◌∷◌, ◌++◌, length, take, drop, get_or, codes, refl, sym, ap, ◌∙◌, subst, arith, append_assoc, length-append, add-one, drop-cons}
+use Rattle.std.specs.Prelude.{◌==◌, nat_eq, nat_lt}
 use Rattle.std.specs.List.{AllByRecursion, starts_with}
 use Rattle.std.specs.Str.{bytes_eq}
 use Rattle.std.proofs.lemmas.Bool.Decides.{nat_tests, same_from_decides}
@@ -11,8 +11,9 @@ use Rattle.cg_base.specs.Bytes.{white}
 use Rattle.cg_base.proofs.Spans.{either_way}
 use Rattle.cg_ctree.specs.Tokens.{Piece, blank, comment, piece_text, closes, IsPiece, gap_text}
 use Rattle.cg_ctree.proofs.Munch.{IsClear, either_false}
-use Rattle.cg_ctree.proofs.Division.{first_same, rest_same, first_false, one_comment, white_no_slash, clear_blank, clear_comment}
+use Rattle.cg_ctree.proofs.Division.{first_same, rest_same, one_comment, white_no_slash, clear_blank, clear_comment}
 use Rattle.cg_cread_lexer.specs.Front.{inside_length, closed_length, comment_length, piece_length, IsSpace}
+use Rattle.cg_base.proofs.Truths.{either_first as first_false, either_false as or_false, and_false}
 
 -- all that follows some bytes
 pub tail_whole : (bytes : List ℕ) (n : ℕ) → take (length bytes - n) (drop n bytes) ≡ drop n bytes
@@ -36,13 +37,6 @@ inside_more bytes i lt h =
     let within : suc i ≤ length bytes = omega arith in
     let e : drop i bytes ≡ get_or bytes i 0 ∷ drop (i + 1) bytes = rw add-one (drop-cons bytes i 0 within) in
     ap inside_length e ∙ inside_later (get_or bytes i 0) (drop (i + 1) bytes) (subst (λ (x : List ℕ). starts_with nat_eq x (codes "*/") ≡ false) e h)
-
-and_false : (a : Bool) → (a && false) ≡ false
-and_false true = refl
-and_false false = refl
-
-pub or_false : (a b : Bool) → a ≡ false → b ≡ false → (a || b) ≡ false
-or_false a b h k = rw (h, k) refl
 
 -- where bytes don't begin with `*/`, no front of them does
 front_open : (b : ℕ) (xs ys : List ℕ) → bytes_eq (take 2 (b ∷ (xs ++ ys))) (codes "*/") ≡ false → bytes_eq (take 2 (b ∷ xs)) (codes "*/") ≡ false

@@ -17,7 +17,8 @@ use Rattle.cg_cread_lexer.specs.declared.front.Found.{Found}
 use Rattle.cg_cread_lexer.specs.declared.token.TokenKind.{TokenKind}
 use Rattle.cg_cread_lexer.specs.declared.token.TokenKind.TheVariants.{Name, Word, Plain, Literal, Sign, Line, Unknown, End}
 use Rattle.cg_cread_lexer.specs.Front.{whole_found, name_found, number_found, line_found, short_found, sign_found, found}
-use Rattle.cg_cread_lexer.proofs.Gaps.{begins_same, or_false}
+use Rattle.cg_cread_lexer.proofs.Gaps.{begins_same}
+use Rattle.cg_base.proofs.Truths.{either_false as or_false, or_true as or_right}
 
 -- no token begins here
 abbrev pub NoToken : List ℕ → Type 0
@@ -173,10 +174,6 @@ short_front : (b : ℕ) (bytes : List ℕ) → IsOther b → list_any (bytes_eq 
 short_front b bytes o alone e = either_way (IsFront (b ∷ bytes)) (list_any (bytes_eq (b ∷ [])) short_signs) (whole_found Sign 1) (whole_found Unknown 0)
     (λ h. short_read b bytes h e)
     (λ h. unknown_front b bytes (no_sign b bytes o alone h))
-
-or_right : (a b : Bool) → b ≡ true → (a || b) ≡ true
-or_right true b h = refl
-or_right false b h = h
 
 long_read : (b c : ℕ) (rest : List ℕ) → list_any (bytes_eq (b ∷ c ∷ [])) long_signs ≡ true → IsFront (b ∷ c ∷ rest) (whole_found Sign 2)
 long_read b c rest h = record { text_within = omega arith; within = omega arith; means = (or_right _ _ h, pair_ends b c rest, refl) }

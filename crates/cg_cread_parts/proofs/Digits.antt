@@ -1,16 +1,14 @@
 -- Which digits a number is written with.
-use Rattle.std.proofs.Common.{◌≡◌, ℕ, ◌<◌, ◌^◌, zero, suc, List, [], ◌∷◌, length, get_or, true, false, Bool, cond, Some, None, refl, sym, ap, ◌∙◌, arith, rules, decimal, eq-eqb}
+use Rattle.std.proofs.Common.{◌≡◌, ℕ, ◌<◌, ◌^◌, zero, suc, List, [], ◌∷◌, length, get_or, true, false, Bool, cond, Some, None, refl, sym, ap, ◌∙◌, arith, decimal, eq-eqb}
 use Rattle.std.specs.Prelude.{◌&&◌, ◌==◌, not, codes}
 use Rattle.std.specs.List.{list_all}
 use Rattle.std.proofs.lemmas.Bool.Decides.{nat_tests}
 use Rattle.std.proofs.lemmas.Fmt.{digits_decimal, digits_value-decimal, decimal-digits_value, first_decimal, decimal_digit}
-use Rattle.std.proofs.lemmas.Str.Parse.{IsNumeralModel, numerals_by_fold}
 use Rattle.cg_base.specs.Bytes.{digit}
 use Rattle.cg_base.specs.Numbers.{number_from, word64, literal_of}
 use Rattle.cg_cread_parts.specs.Symbols.{leads, is_decimal, number_of}
-
-own : IsNumeralModel (λ ds. list_all digit ds ≡ true) (number_from 0)
-own = numerals_by_fold _ (search rules) number_from (search rules)
+use Rattle.cg_base.proofs.Counts.{own}
+use Rattle.cg_base.proofs.Options.{word_is, word_of}
 
 both : (a b : Bool) → (a && not b) ≡ true → (a ≡ true) × (b ≡ false)
 both true true e = cc
@@ -31,12 +29,6 @@ not_zero (b ∷ c ∷ ds) h = differs b h
   where
     differs : (x : ℕ) → 48 < x → (x == 48) ≡ false
     differs x h = grind (arith, nat_tests)
-
-word_is : (n m : ℕ) → word64 n ≡ Some m → (n ≡ m) × (m < 2 ^ 64)
-word_is n m e = grind (arith, nat_tests)
-
-word_of : (n : ℕ) → n < 2 ^ 64 → word64 n ≡ Some n
-word_of n h = grind (arith, nat_tests)
 
 -- what is taken for a number is written as one
 pub number_is : (ds : List ℕ) (n : ℕ) → number_of ds ≡ Some n → (n < 2 ^ 64) × (ds ≡ decimal n)

@@ -1,5 +1,8 @@
-//! The parts of C texts, each read one symbol at a time: symbols, operands, declarations and heads of functions. `cg_cread_pieces`
-//! reads right sides and statements over them. docs/LANGUAGE.md, "The C text", says what is spelled.
+//! Stage: C. The parts of C texts, one symbol at a time: symbols, operands, declarations, heads of functions.
+//! Role: part of `cg_cread`.
+//! Promises: `symbol_at`, `Operand`, `Declaration`, `Row`, `Head`, each the machine that is defined.
+//! May cite: anything below it, of its stage and of those below; no crate above.
+//! docs/LANGUAGE.md, "The C text", says what is spelled.
 #![tactic(auto)]
 
 mod declaration;

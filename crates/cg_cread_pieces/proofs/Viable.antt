@@ -10,11 +10,11 @@ use Rattle.cg_ctree.specs.declared.tree.CPath.{CPath}
 use Rattle.cg_ctree.specs.declared.tree.CRhs.{CRhs}
 use Rattle.cg_ctree.specs.Trees.{Stmt}
 use Rattle.cg_cread_pieces.specs.Lines as lines
-use Rattle.cg_cread_pieces.specs.Lines.{line_step, line_end, line_is_open, argued, on_argument, tested, on_tested, targeted, on_target, operand_line, assignment}
+use Rattle.cg_cread_pieces.specs.Lines.{line_step, line_end, line_is_open, argued, tested, operand_line, assignment}
 use Rattle.cg_cread_parts.specs.Operands.{operand_step, operand_end, operand_is_open}
 use Rattle.cg_cread_pieces.specs.Rights as rights
 use Rattle.cg_cread_pieces.specs.Rights.{allows, operand_right, right_step, right_end, right_is_open}
-use Rattle.cg_cread_parts.specs.Symbols.{Symbol, named, typed, keyed, number, count, opening, closing, semicolon, equals, tilde, operation, is_part, goes_on}
+use Rattle.cg_cread_parts.specs.Symbols.{Symbol, named, typed, keyed, number, count, opening, closing, equals, tilde, operation, is_part, goes_on}
 use Rattle.cg_cread_pieces.specs.declared.line.Test.{Test}
 use Rattle.cg_cread_pieces.specs.declared.line.Role.{Role}
 use Rattle.cg_cread_pieces.specs.declared.line.Role.TheVariants as role

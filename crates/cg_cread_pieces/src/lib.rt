@@ -1,5 +1,7 @@
-//! The pieces of C texts that stand on their parts, each read one symbol at a time: right sides, and statements up to their `;` or
-//! to the `{` behind a test. `cg_cread` reads blocks, bodies and files of them.
+//! Stage: C. The pieces of C texts: right sides, and statements up to their `;` or to the `{` behind a test.
+//! Role: part of `cg_cread`.
+//! Promises: `Right` and `Line`, each the machine that is defined.
+//! May cite: anything below it, of its stage and of those below; no crate above.
 //! docs/LANGUAGE.md, "The C text", says what is spelled.
 #![tactic(auto)]
 

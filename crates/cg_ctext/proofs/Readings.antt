@@ -18,7 +18,7 @@ use Rattle.cg_ctree.specs.Trees.{Stmt, assign, branch, while, switch, call, retu
 use Rattle.cg_ctext.specs.Printed.{deeper, line_at, struct_text, function_text, printed, BeginsWith}
 use Rattle.cg_ctext.proofs.Spaced.{Spaced, seen, lexes}
 use Rattle.cg_ctext.proofs.Shown.{put, apart, mark, keyword, show_struct_name, show_declared, show_decl, show_more, show_some, show_dots, show_members, show_path, show_opnd, show_to, show_cast, show_size, show_right, show_test, show_braced, show_stmt, show_block, show_cases, show_locals, show_struct, show_structs, show_body, show_function, show_functions, shown}
-use Rattle.cg_ctext.proofs.Standing.{stand_shown}
+use Rattle.cg_ctext.proofs.Standing.{stand_shown, some_all}
 use Rattle.cg_ctext.proofs.Texts.{text_shown}
 
 -- what is read of tokens with white space before them
@@ -195,10 +195,6 @@ read_locals (d ∷ ds) ss h = (_, read_decl (codes "\n    ") d (mark (codes ";")
 some_are : {A : Type 0} (P : A → Type 0) (xs : List A) → SomeAll P xs → xs ≢ []
 some_are P [] h = absurd h
 some_are P (x ∷ xs) h = λ e. cc
-
-some_all : {A : Type 0} (P : A → Type 0) (xs : List A) → SomeAll P xs → AllByRecursion P xs
-some_all P [] h = absurd h
-some_all P (x ∷ xs) h = h
 
 read_struct : (s : CStruct) (ss : List Spaced) → IsPrintableStruct s → Read (ReadsStruct s) (show_struct s ss) ss
 read_struct s ss h =

@@ -2,11 +2,11 @@
 use Rattle.std.proofs.Common.{◌≡◌, ℕ, zero, suc, ◌+◌, ◌<◌, ◌^◌, ◌%◌, true, false, List, [], ◌∷◌, ◌++◌, map, codes, decimal, refl, sym, ap, arith}
 use Rattle.std.specs.Prelude.{⊤}
 use Rattle.std.specs.List.{AllByRecursion}
-use Rattle.std.proofs.lemmas.Bool.Decides.{nat_tests}
 use Rattle.std.proofs.lemmas.Fmt.{decimal_by_steps}
 use Rattle.cg_base.specs.Bytes.{white, digit, Each, Starts, Stops}
 use Rattle.cg_ctree.specs.Tokens.{part_of_name, Token, literal, token_text, IsToken, goes_on, Ends, blank, IsPiece, gap_text, has_line_feed, Lexeme, Divides, Lexes}
 use Rattle.cg_ctext.specs.Printed.{spaces, line_at}
+use Rattle.cg_base.proofs.Counts.{one_digit}
 
 -- a token with the white space before it
 pub record Spaced : Type 0 where
@@ -64,9 +64,6 @@ lexes ss h = (blank 10 ∷ [], (refl, tt), divides ss h)
 abbrev IsNumber : List ℕ → Type 0
 IsNumber ds = Starts digit ds × Each digit ds
 
-one_digit : (n : ℕ) → n < 10 → digit (48 + n) ≡ true
-one_digit n h = grind (arith, nat_tests)
-
 digit_behind : (ds : List ℕ) (b : ℕ) → IsNumber ds → digit b ≡ true → IsNumber (ds ++ b ∷ [])
 digit_behind [] b h e = absurd h.0
 digit_behind (d ∷ ds) b h e = (h.0, (h.0, behind ds h.1.1))
@@ -93,20 +90,11 @@ either_rest x h (b ∷ rest) = h b rest
 pub opening_ends : (rest : List ℕ) → goes_on (codes "(") rest ≡ false
 opening_ends = either_rest (codes "(") (λ b rest. refl)
 
-pub closing_ends : (rest : List ℕ) → goes_on (codes ")") rest ≡ false
-closing_ends = either_rest (codes ")") (λ b rest. refl)
-
 pub begin_ends : (rest : List ℕ) → goes_on (codes "{") rest ≡ false
 begin_ends = either_rest (codes "{") (λ b rest. refl)
 
 pub end_ends : (rest : List ℕ) → goes_on (codes "}") rest ≡ false
 end_ends = either_rest (codes "}") (λ b rest. refl)
-
-pub comma_ends : (rest : List ℕ) → goes_on (codes ",") rest ≡ false
-comma_ends = either_rest (codes ",") (λ b rest. refl)
-
-pub semicolon_ends : (rest : List ℕ) → goes_on (codes ";") rest ≡ false
-semicolon_ends = either_rest (codes ";") (λ b rest. refl)
 
 pub flip_ends : (rest : List ℕ) → goes_on (codes "~") rest ≡ false
 flip_ends = either_rest (codes "~") (λ b rest. refl)

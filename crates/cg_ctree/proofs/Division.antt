@@ -1,5 +1,5 @@
 -- A C text is divided into one list of tokens at most.
-use Rattle.std.proofs.Common.{◌≡◌, ℕ, Bool, true, false, List, [], ◌∷◌, ◌++◌, take, codes, refl, sym, ap, ◌∙◌, subst, arith, append_assoc}
+use Rattle.std.proofs.Common.{◌≡◌, ℕ, true, false, List, [], ◌∷◌, ◌++◌, take, codes, refl, sym, ap, ◌∙◌, subst, arith, append_assoc}
 use Rattle.std.specs.Prelude.{◌||◌}
 use Rattle.std.specs.List.{AllByRecursion}
 use Rattle.std.specs.Str.{bytes_eq}
@@ -9,7 +9,9 @@ use Rattle.std.proofs.lemmas.Slice.Eq.{bytes_eq-Decides}
 use Rattle.std.proofs.lemmas.List.{append-nil}
 use Rattle.cg_base.specs.Bytes.{white, digit, Starts, Stops}
 use Rattle.cg_ctree.specs.Tokens.{letter, words, short_signs, long_signs, is_sign, first_line, second_line, Token, name, word, plain, literal, sign, line, token_text, IsToken, goes_on, Ends, Piece, blank, comment, piece_text, closes, IsPiece, gap_text, has_line_feed, Lexeme, Takes, Divides, Lexes}
-use Rattle.cg_ctree.proofs.Munch.{IsClear, IsNamed, among, words_named, either, either_false, front, found, one_front}
+use Rattle.cg_ctree.proofs.Munch.{IsClear, IsNamed, among, words_named, either_false, front, found, one_front}
+use Rattle.cg_base.proofs.Truths.{either, either_first as first_false}
+use Rattle.cg_base.proofs.Counts.{digit_dark}
 
 -- ---- what stands between tokens
 
@@ -89,9 +91,6 @@ no_slash b x h = false_from_ne_true _ (λ e. h (first_same b 47 (take 1 x) (42 �
 letter_no_slash : (b : ℕ) → letter b ≡ true → b ≡ 47 → ⊥
 letter_no_slash b h e = let no : letter 47 ≡ true = subst (λ x. letter x ≡ true) e h in absurd (cc)
 
-digit_dark : (b : ℕ) → digit b ≡ true → white b ≡ false
-digit_dark b h = grind (arith, nat_tests)
-
 digit_no_slash : (b : ℕ) → digit b ≡ true → b ≡ 47 → ⊥
 digit_no_slash b h e = let no : digit 47 ≡ true = subst (λ x. digit x ≡ true) e h in absurd (cc)
 
@@ -105,10 +104,6 @@ clear_digit (b ∷ x) rest h = (digit_dark b h, no_slash b (x ++ rest) (digit_no
 
 abbrev IsClearSign : List ℕ → Type 0
 IsClearSign x = (rest : List ℕ) → goes_on x rest ≡ false → IsClear (x ++ rest)
-
-pub first_false : (a b : Bool) → (a || b) ≡ false → a ≡ false
-first_false true b e = absurd (cc)
-first_false false b e = refl
 
 clear_slash : IsClearSign (codes "/")
 clear_slash [] e = (refl, refl)

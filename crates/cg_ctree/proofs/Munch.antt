@@ -9,6 +9,7 @@ use Rattle.std.proofs.Math.Seq.{take-append_seam, drop-append_seam}
 use Rattle.cg_base.proofs.Spans.{spans}
 use Rattle.cg_base.specs.Bytes.{white, digit, Each, Starts, Stops}
 use Rattle.cg_ctree.specs.Tokens.{letter, part_of_name, words, is_word, long_signs, short_signs, is_sign, first_line, second_line, Token, name, word, plain, literal, sign, line, token_text, IsToken, goes_on, Ends}
+use Rattle.cg_base.proofs.Truths.{either}
 
 -- ---- the token at the front, as a function
 
@@ -178,10 +179,6 @@ long_signs_found = (
     ),
   ),
 )
-
-pub either : {P : Type 0} (a b : Bool) → (a || b) ≡ true → (a ≡ true → P) → (b ≡ true → P) → P
-either true b e f g = f refl
-either false b e f g = g e
 
 sign_found : (x : List ℕ) → is_sign x ≡ true → SignFound x
 sign_found x e = either _ _ e (among SignFound short_signs x short_signs_found) (among SignFound long_signs x long_signs_found)

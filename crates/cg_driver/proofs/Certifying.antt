@@ -22,6 +22,7 @@ use Rattle.cg_driver_steps.specs.Steps.{Outcome, refuses, goes}
 use Rattle.cg_driver.specs.Commands.{certified, Judges, RefusesNode, broken_row, out_of_place, too_large}
 use Rattle.cg_driver.specs.Found.{Found, functions}
 use Rattle.cg_driver.specs.Lines.{limit_line, node_line}
+use Rattle.cg_certcheck.proofs.JudgeSteps.{all_hold}
 
 -- the status and the line of a certificate's fault
 abbrev status_of : CertFault → Status
@@ -60,11 +61,6 @@ none_failing : (xs : List Event) → AllHold xs → first_failing xs ≡ None
 none_failing [] h = refl
 none_failing (event fault true ∷ xs) h = none_failing xs h.1
 none_failing (event fault false ∷ xs) h = let e = h.0 in absurd (cc)
-
-all_hold : (xs : List Event) → first_failing xs ≡ None → AllHold xs
-all_hold [] h = tt
-all_hold (event fault true ∷ xs) h = (refl, all_hold xs h)
-all_hold (event fault false ∷ xs) h = absurd (cc)
 
 -- one that spells a derivation within the limit has none
 pub none_misfits : (file : List ℕ) (fs : List Function) (cert : Cert) (s : Status) (t : List ℕ) → IsLawfulKernel fs → RefusesNode file fs cert s t → SpellsDerivation fs cert → AreTypesWithin fs → ⊥

@@ -1,33 +1,21 @@
 -- The judgement of instances comes to one outcome: there is one list at most, and it passes one limit first or none.
-use Rattle.std.proofs.Common.{◌≡◌, ◌∙◌, ◌+◌, ◌≤◌, ℕ, zero, suc, Bool, true, false, cond, List, [], ◌∷◌, ◌++◌, Option, Some, None, length, length-append, sym, ap, subst, arith}
+use Rattle.std.proofs.Common.{◌≡◌, ◌∙◌, ◌+◌, ◌≤◌, ℕ, zero, suc, List, Option, Some, None, length, sym, ap, subst, arith}
 use Rattle.std.specs.Prelude.{slice_get}
-use Rattle.std.specs.List.{list_any}
 use Rattle.cg_base.specs.declared.limit.Limit.TheVariants as limits
 use Rattle.cg_lower.specs.Collected.{Copy}
 use Rattle.cg_core.specs.Kernels.{Function}
 use Rattle.cg_core.specs.Terms.{Note, Tree}
 use Rattle.cg_inst.specs.Judged.{AreTooMany, HaveLargeTypes, HaveTooManyNodes, IsWithin}
-use Rattle.cg_inst.specs.Lists.{Cores, HaveSmallTypes, IsList, after, gone_through, mentioned_by, most_instances, most_nodes, nodes_in, same_instance, with_instance, with_instances}
+use Rattle.cg_inst.specs.Lists.{Cores, HaveSmallTypes, IsList, after, gone_through, mentioned_by, most_instances, most_nodes, nodes_in}
 use Rattle.cg_inst_laws.proofs.Growth.{one_list, stays}
 use Rattle.cg_driver_laws.specs.Laws.{copies_over}
 use Rattle.cg_typing.specs.Instances.{Instance}
 use Rattle.cg_driver.specs.Instanced.{AreCores, HasInstances, PassesInstances, bodies_in, too_large, too_many, too_wide}
 use Rattle.cg_driver.specs.Lines.{limit_line, limit_name}
 use Rattle.cg_driver.proofs.Cores.{one_list as one_cores}
+use Rattle.cg_inst.proofs.ListSteps.{not_shorter as longer_all}
 
 -- ---- no list is longer than the whole one
-
-longer_one : (known : List Instance) (x : Instance) → length known ≤ length (with_instance known x)
-longer_one known x = go (list_any (same_instance x) known)
-  where
-    go : (b : Bool) → length known ≤ length (cond b known (known ++ x ∷ []))
-    go true = omega arith
-    go false = omega (arith, length-append known (x ∷ []))
-
-longer_all : (known xs : List Instance) → length known ≤ length (with_instances known xs)
-unfolding with_instances
-longer_all known [] = omega arith
-longer_all known (x ∷ xs) = omega (arith, longer_one known x, longer_all (with_instance known x) xs)
 
 module _ (functions : List Function) (cores : Cores) where
   longer_step : (n : ℕ) → length (after functions cores n) ≤ length (after functions cores (suc n))

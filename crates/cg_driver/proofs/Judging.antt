@@ -53,6 +53,7 @@ use Rattle.cg_driver.specs.Run.{table_in, budget, Evaluates, RunsOut, IsReport}
 use Rattle.cg_driver.proofs.Certifying.{one_node, none_misfits, node_ruling, node_not_usage}
 use Rattle.cg_driver.proofs.Cores.{one_list}
 use Rattle.cg_driver.proofs.Instancing.{not_passed, one_copies, one_passed}
+use Rattle.cg_resolve.proofs.One.{no_first as no_name, same_place as first_take, no_place as no_take}
 
 abbrev the_refusal : Status → List ℕ → Outcome Found
 the_refusal s t = refuses s t
@@ -95,16 +96,6 @@ same_reading file source a b x y = x.line ∙ ap (line_of file) (one_reading sou
 first_name : (f g : NameFault) (faults : List NameFault) → IsFirst f faults → IsFirst g faults → f ≡ g
 first_name f g [] a b = absurd a
 first_name f g (h ∷ faults) a b = sym a ∙ b
-
-no_name : (f : NameFault) (faults : List NameFault) → IsFirst f faults → faults ≡ [] → ⊥
-no_name f faults a none = subst (IsFirst f) none a
-
-first_take : (p q : Place) (places : List Place) → takes.IsFirst p places → takes.IsFirst q places → p ≡ q
-first_take p q [] a b = absurd a
-first_take p q (r ∷ places) a b = sym a ∙ b
-
-no_take : (p : Place) (places : List Place) → takes.IsFirst p places → places ≡ [] → ⊥
-no_take p places a none = subst (takes.IsFirst p) none a
 
 same_circle : (entries : List Entry) (p q : Place) → IsCircleAt entries p → IsCircleAt entries q → p ≡ q
 same_circle entries p q is also =

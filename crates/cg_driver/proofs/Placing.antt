@@ -13,7 +13,7 @@ use Rattle.cg_lower.specs.Collected.{Copy}
 use Rattle.cg_core.specs.declared.kernel.KFun.{KFun}
 use Rattle.cg_core.specs.declared.kernel.Kernel.{Kernel}
 use Rattle.cg_core.specs.Kernels.{Function, function_of}
-use Rattle.cg_inst.proofs.Names.{by_cases, never}
+use Rattle.cg_inst.proofs.Names.{by_cases}
 use Rattle.cg_inst.proofs.SameInstance.{instance_is}
 use Rattle.cg_inst.specs.Judged.{core_in}
 use Rattle.cg_inst.specs.Lists.{same_instance}
@@ -47,6 +47,8 @@ use Rattle.cg_driver.specs.Found.{Found, functions, with_place}
 use Rattle.cg_driver.specs.Judged.{functions_in, IsAllowed}
 use Rattle.cg_driver.specs.Lines.{not_built_line}
 use Rattle.cg_driver.proofs.Saying.{functions_seen, steps_judged}
+use Rattle.cg_base.proofs.Counts.{no_steps as never}
+use Rattle.cg_base.proofs.Options.{later}
 
 -- ---- the type of an entry
 
@@ -88,10 +90,6 @@ never_stuck law checked list at place arg steps ready small =
     law checked at steps f.0 (word U32) (word U32) (number arg) f.1 (entry_bare _ f.0 f.1 ready.allowed.typed) f.2 ready.allowed.concrete (word_fits arg small)
 
 -- ---- places
-
-later : (o : Option ℕ) (k : ℕ) → option_map suc o ≡ Some k → (j : ℕ) × (o ≡ Some j) × (suc j ≡ k)
-later None k e = absurd (cc)
-later (Some j) k e = (j, refl, cc)
 
 -- what the code tests of the function at a position
 pub words_seen : (checked : Checked) (kernel : Kernel) (fs : List KFun) (at : ℕ) (r : Bool) → kernel ≡ kernel_in checked → fs ≡ kernel.funs

@@ -18,12 +18,12 @@ use crate::recheck::CERTIFICATE_LIMIT;
 use cg_base::Memory;
 use cg_cert::print_cert;
 use cg_ctext::print_c;
+use cg_driver_laws::sources_print;
+use cg_driver_steps::{Report, Step, read_file, write_file};
 use cg_inst::{InstFault, Instances, instances};
 use cg_lower::lower;
 use cg_mono::mono;
 use cg_outside::Files;
-use cg_driver_laws::sources_print;
-use cg_driver_steps::{Report, Step, read_file, write_file};
 use cg_typing::Checked;
 use std::alloc::Global;
 

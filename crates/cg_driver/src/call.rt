@@ -13,8 +13,8 @@ ghost use Rattle.cg_driver.specs.Found.{Found};
 
 use crate::Status;
 use crate::plan::plan;
-use cg_outside::{Files, Sink};
 use cg_driver_steps::print_report;
+use cg_outside::{Files, Sink};
 use std::alloc::Global;
 
 /// A call, up to its exact answer.

@@ -10,13 +10,13 @@ ghost use Rattle.cg_driver.specs.Judged.{functions_in, IsAllowed, IsAllowedAt, I
 
 use crate::lines::{abstract_reached, no_entry, no_entry_type, not_built};
 use cg_base::{Fun, Items, Memory, Ty, Word};
-use cg_driver_cells::reaches_cells;
 use cg_core::KFun;
+use cg_driver_cells::reaches_cells;
 use cg_driver_entry::{is_first_order, reaches_abstract};
-use cg_inst::{Instance, Instances};
-use cg_mono::mono;
 use cg_driver_laws::functions_stand;
 use cg_driver_steps::Step;
+use cg_inst::{Instance, Instances};
+use cg_mono::mono;
 use cg_typing::Checked;
 use std::alloc::Global;
 

@@ -1,5 +1,9 @@
-//! The top call, [`cogent`]: words, the steps of a command, and one write. docs/LANGUAGE.md says what the commands do and print;
-//! `specs/Commands` has each command as a list of steps.
+//! Stage: command. The top call: words, the steps of a command, and one write.
+//! Role: public.
+//! Promises: `cogent`, `honest_cogent`; laws: `one_outcome`, `one_text`, `typing_decides`, `status_0_is_acceptance`.
+//! May cite: anything of its stage and of those below; no crate above.
+//! Promises also: `certificates_decide`, `only_build_writes`, `build_writes_both`, `status_0_is_a_derivation` and `printed_is_certified`.
+//! docs/LANGUAGE.md says what the commands do and print; `specs/Commands.antt` has each command as a list of steps.
 #![tactic(auto)]
 
 mod build;

@@ -7,8 +7,8 @@ ghost use Rattle.cg_driver_steps.specs.Parts.{IsLine};
 
 use cg_base::{Limit, Memory, Place};
 use cg_core::KFun;
-use cg_faults::Rule;
 use cg_driver_steps::{Report, Status};
+use cg_faults::Rule;
 use std::alloc::Global;
 
 /// The usage text.

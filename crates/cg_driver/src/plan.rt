@@ -9,9 +9,9 @@ use crate::lines::usage;
 use crate::recheck::recheck_file;
 use crate::run::{Asked, run_file};
 use cg_base::Memory;
-use cg_outside::Files;
 use cg_driver_steps::Report;
 use cg_driver_words::{Command, read_words};
+use cg_outside::Files;
 use std::alloc::Global;
 
 /// Does what the words ask for, up to what is printed.

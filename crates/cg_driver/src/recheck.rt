@@ -16,8 +16,8 @@ use cg_base::Memory;
 use cg_cert::{Cert, CertFault, read_cert};
 use cg_certcheck::recheck;
 use cg_core::Kernel;
-use cg_outside::Files;
 use cg_driver_steps::{Report, Step, read_file};
+use cg_outside::Files;
 use std::alloc::Global;
 
 /// No certificate has more bytes.

@@ -14,10 +14,10 @@ use crate::execute::{Entry, execute};
 use crate::judge::{SOURCE_LIMIT, judge};
 use crate::lines::{beyond, no_heap_text, out_of_range};
 use cg_base::Memory;
+use cg_driver_steps::{Report, Step, read_file};
 use cg_heaptext::{HeapFault, read_argument};
 use cg_inst::Instances;
 use cg_outside::Files;
-use cg_driver_steps::{Report, Step, read_file};
 use cg_typing::Checked;
 use std::alloc::Global;
 

@@ -9,13 +9,13 @@ use crate::kernel::kernel_text;
 use crate::limit::limit_name;
 use crate::store::store_text;
 use cg_base::{Name, Place};
-use cg_resolve_declared::Declarations;
 use cg_driver::cogent;
-use cg_resolve_names::{NamingFault, check_names};
+use cg_driver_words::{Command, read_words};
 use cg_outside::{MemoryFiles, MemorySink};
 use cg_parser::{ParseFault, parse};
 use cg_resolve::{Fault, resolve};
-use cg_driver_words::{Command, read_words};
+use cg_resolve_declared::Declarations;
+use cg_resolve_names::{NamingFault, check_names};
 use std::alloc::{AllocError, Global};
 
 /// What a call answers: a text, and the files afterwards, where the call may change any.

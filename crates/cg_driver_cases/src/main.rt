@@ -1,5 +1,8 @@
-//! The cases: what the program answers in thousands of calls, as files in `data/` that a person or a script writes
-//! (docs/CASES.md). Each file that the words name is gone through; a line is printed for each difference, and last how many there are.
+//! Stage: tests. The cases: what the program answers in thousands of calls, as files in `data/`.
+//! Role: tests.
+//! Promises: `main` goes through each file that the words name, prints a line for each difference, and last how many there are.
+//! May cite: all crates; no crate but tests cites it.
+//! docs/CASES.md says how a case is written.
 #![tactic(auto)]
 
 mod accepted;

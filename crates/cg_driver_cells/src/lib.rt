@@ -1,4 +1,7 @@
-//! Whether values of the instances that one reaches need cells, [`reaches_cells`].
+//! Stage: command. Whether what an instance reaches needs cells.
+//! Role: part of `cg_driver`.
+//! Promises: `reaches_cells`, exactly.
+//! May cite: anything below it, of its stage and of those below; no crate above.
 #![tactic(auto)]
 
 mod reach;

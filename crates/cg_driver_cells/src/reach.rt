@@ -14,10 +14,10 @@ ghost use Rattle.cg_typing.specs.Rules.{type_at};
 
 use cg_base::Memory;
 use cg_core::{Form, Term, Typed};
-use cg_lower_tables::Places;
 use cg_driver_entry::needs_cells;
-use cg_mono::{Copy, Mono};
 use cg_graphs::reached;
+use cg_lower_tables::Places;
+use cg_mono::{Copy, Mono};
 use cg_typing::nodes_in;
 use std::alloc::Global;
 

@@ -11,17 +11,13 @@ use Rattle.cg_driver_entry.specs.Laws.{EntriesAreClosed}
 use Rattle.cg_core_def.specs.Lawful.{body_mentions, kernel_mentions}
 use Rattle.cg_graphs.specs.Reach.{AreReached, IsReached}
 use Rattle.cg_graphs.proofs.Marked.{marks_are_there}
+use Rattle.cg_graphs.proofs.Found.{inside as high}
 
 -- a mark where nothing stands is one
-low : (marks : List Bool) (k : ℕ) → (k < length marks → get_or marks k false ≡ true) → get_or marks k true ≡ true
+pub low : (marks : List Bool) (k : ℕ) → (k < length marks → get_or marks k false ≡ true) → get_or marks k true ≡ true
 low [] k h = refl
 low (b ∷ marks) zero h = h (omega arith)
 low (b ∷ marks) (suc k) h = low marks k (λ lt. h (omega arith))
-
-high : (marks : List Bool) (k : ℕ) → k < length marks → get_or marks k true ≡ true → get_or marks k false ≡ true
-high [] k lt h = absurd (omega arith)
-high (b ∷ marks) zero lt h = h
-high (b ∷ marks) (suc k) lt h = high marks k (omega arith) h
 
 -- what holds of each element holds of all
 each_true : (p : ℕ → Bool) (xs : List ℕ) → ((j : ℕ) → Contains xs j → IsTrue (p j)) → IsTrue (list_all p xs)

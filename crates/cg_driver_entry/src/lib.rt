@@ -1,4 +1,7 @@
-//! What `run` asks of an entry: [`is_first_order`] of its type, and that no abstract function is reached from it, [`reaches_abstract`].
+//! Stage: command. What `run` asks of an entry: its type, and that no abstract function is reached from it.
+//! Role: part of `cg_driver`.
+//! Promises: `is_first_order`, `needs_cells` and `reaches_abstract`, exactly; law: `entries_are_closed`.
+//! May cite: anything below it, of its stage and of those below; no crate above.
 #![tactic(auto)]
 
 mod law;

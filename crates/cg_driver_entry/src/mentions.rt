@@ -14,8 +14,7 @@ ghost use Rattle.cg_driver_entry.specs.Entries.{IsMarkedAbstract, ReachesAbstrac
 use cg_base::{Fun, Memory};
 use cg_core::{Form, KFun, Term, Typed};
 use cg_graphs::reached;
-use cg_typing::Checked;
-use cg_typing::nodes_in;
+use cg_typing::{Checked, nodes_in};
 use std::alloc::Global;
 
 // The function of the source that a function is, where it is one.

@@ -14,7 +14,6 @@ use Rattle.cg_inst_laws.proofs.Bodies.{AreTyped, arities, mentions_good, user_th
 use Rattle.cg_inst_laws.proofs.Each.{Each, each_at, each_both, each_from, each_join, each_then}
 use Rattle.cg_inst_laws.proofs.Entries.{list_good}
 use Rattle.cg_inst_laws.proofs.Growth.{IsFront, each_after, front_is}
-use Rattle.cg_inst_laws.proofs.Mentions.{types_back}
 use Rattle.cg_inst_laws.proofs.Nodes.{IsLawfulNode, nodes_given, nodes_lawful}
 use Rattle.cg_inst_laws.specs.Laws.{entry_of}
 use Rattle.cg_core_def.specs.Lawful.{IsLawfulBody, IsLawfulTerm}
@@ -26,6 +25,7 @@ use Rattle.cg_typing.specs.Subst.{subst_core}
 use Rattle.cg_driver_laws.proofs.Fronts.{front_stays}
 use Rattle.cg_driver_laws.proofs.Proper.{IsProper, given_proper, lawful_proper, list_given, or_unit_proper}
 use Rattle.cg_driver_laws.proofs.ProperNodes.{HasProper, HaveProper, arguments_proper, function_proper, nodes_proper}
+use Rattle.cg_typing.proofs.Lists.{types_back}
 
 -- an instance is at proper types
 abbrev pub AtProper : Instance → Type 0

@@ -3,7 +3,6 @@ use Rattle.std.proofs.Common.{◌≡◌, ℕ, true, Some, List, [], ◌∷◌, m
 use Rattle.std.proofs.lemmas.Bool.{and_parts}
 use Rattle.cg_lower.specs.Collected.{entries_of, list_of}
 use Rattle.cg_core.specs.Kernels.{Function}
-use Rattle.cg_inst.proofs.Names.{never}
 use Rattle.cg_inst.specs.Lists.{Cores}
 use Rattle.cg_inst_laws.specs.Laws.{entry_of}
 use Rattle.cg_lower.specs.Promises.{IsProgramOf}
@@ -11,6 +10,7 @@ use Rattle.cg_eval_def.specs.Foreigns.{is_empty, is_known}
 use Rattle.cg_typing.specs.Instances.{AreInstances, Instance, IsGood}
 use Rattle.cg_value.specs.NoForeign.{no_foreign}
 use Rattle.cg_driver_laws.specs.Laws.{copies_over, program_over}
+use Rattle.cg_base.proofs.Counts.{no_steps as never}
 
 -- what knows no function knows none of the source
 none_known : (f : Function) → is_known no_foreign f ≡ true → ⊥

@@ -7,7 +7,6 @@ use Rattle.cg_base.specs.declared.fun.Lib.TheVariants.{New, Free, Create, FreeAr
 use Rattle.cg_base.specs.declared.kind.Word.{Word}
 use Rattle.cg_base.specs.declared.kind.Word.TheVariants.{U32, U64}
 use Rattle.cg_base.specs.Types.{Tau, var, seen, unit, word, bool, arrow, abs, variant, fields, Taus, none, more, Parts, end, part}
-use Rattle.cg_check_laws.proofs.Basics.{or_elim}
 use Rattle.cg_inst.proofs.Names.{either_way}
 use Rattle.cg_inst_laws.proofs.Each.{Each}
 use Rattle.cg_kinds.specs.Kinds.{bang, bang_all, bang_parts, or_unit, subst, subst_all, subst_parts, is_word}
@@ -15,6 +14,8 @@ use Rattle.cg_core_def.specs.Lawful.{AreApart, AreLawfulParts, AreLawfulTypes, A
 use Rattle.cg_typing.specs.Library.{array, given, library_type, loop, maybe, over_array, pair, state, stopped, triple, turn_of_array, turn_of_loop}
 use Rattle.cg_typing.specs.Operators.{Sort, arithmetic, equality, order, logic, gives, operand, takes}
 use Rattle.cg_typing.specs.Parts.{all_parts_taken, all_taken, alternative_in, field_in, held, is_bool, part_named, parts_with, with_part}
+use Rattle.cg_resolve_def.proofs.PartNames.{bang_names as names_observed}
+use Rattle.cg_base.proofs.Truths.{either as or_elim}
 
 -- ---- the types
 
@@ -71,11 +72,6 @@ mutual
   parts_lawful n (part name t taken ps) h = (lawful_proper n t h.0, parts_lawful n ps h.1)
 
 -- ---- observed
-
-names_observed : (ps : Parts) → part_names (bang_parts ps) ≡ part_names ps
-unfolding bang
-names_observed end = refl
-names_observed (part name t taken ps) = ap (λ ns. name ∷ ns) (names_observed ps)
 
 mutual
   unfolding bang

@@ -1,5 +1,5 @@
 -- What an entry reaches by mentions: it stands in the list, and without abstract functions and cells it has bodies without cells.
-use Rattle.std.proofs.Common.{◌≡◌, inl, inr, ℕ, zero, suc, ◌<◌, Bool, true, false, IsTrue, Option, Some, None, List, [], ◌∷◌, length, get_or, map, slice_get, refl, sym, ap, ◌∙◌, arith, subst as at}
+use Rattle.std.proofs.Common.{◌≡◌, inl, inr, ℕ, suc, ◌<◌, Bool, true, false, IsTrue, Option, Some, None, List, [], ◌∷◌, length, get_or, map, slice_get, refl, sym, ap, ◌∙◌, arith, subst as at}
 use Rattle.std.proofs.lemmas.Bool.{and_parts}
 use Rattle.std.proofs.lemmas.List.Elements.{All-contains}
 use Rattle.std.proofs.lemmas.Option.{slice_get-map}
@@ -34,8 +34,12 @@ use Rattle.cg_typing.specs.Rules.{type_at}
 use Rattle.cg_typing.specs.Subst.{subst_core}
 use Rattle.cg_driver_cells.specs.WithoutCells.{HasBodyWithoutCells, IsAmong, IsNodeWithoutCells, IsWithoutCells}
 use Rattle.cg_driver_laws.specs.Laws.{copies_over}
-use Rattle.cg_driver_laws.proofs.Unboxed.{neither}
-use Rattle.cg_driver_laws.proofs.Without.{HasClosedArguments, IsClosedNode, nodes_closed, place_is, types_stay}
+use Rattle.cg_driver_laws.proofs.Without.{HasClosedArguments, IsClosedNode, nodes_closed, place_is}
+use Rattle.cg_graphs.proofs.Found.{inside as high}
+use Rattle.cg_check_laws.proofs.Basics.{or_false as neither}
+use Rattle.cg_typing_laws.proofs.Positions.{no_truth as not_true}
+use Rattle.cg_update_laws.proofs.Whole.{all_stay as types_stay}
+use Rattle.cg_driver_entry.proofs.Closed.{low}
 
 -- ---- lists
 
@@ -61,24 +65,9 @@ all_each : (p : ℕ → Bool) (xs : List ℕ) → IsTrue (list_all p xs) → Eac
 all_each p [] h = tt
 all_each p (x ∷ xs) h = let b = and_parts (p x) _ h in (b.0, all_each p xs b.1)
 
--- a mark where nothing stands is one
-low : (marks : List Bool) (k : ℕ) → (k < length marks → get_or marks k false ≡ true) → get_or marks k true ≡ true
-low [] k h = refl
-low (b ∷ marks) zero h = h (omega arith)
-low (b ∷ marks) (suc k) h = low marks k (λ lt. h (omega arith))
-
-high : (marks : List Bool) (k : ℕ) → k < length marks → get_or marks k true ≡ true → get_or marks k false ≡ true
-high [] k lt h = absurd (omega arith)
-high (b ∷ marks) zero lt h = h
-high (b ∷ marks) (suc k) lt h = high marks k (omega arith) h
-
 next : (edges : List (List ℕ)) (from i j : ℕ) → IsReached edges from i → Mentions edges i j → IsReached edges from j
 next edges from i j (inl e) m = inr (once j (at (λ k. Mentions edges k j) e m))
 next edges from i j (inr r) m = inr (onward i j r m)
-
-not_true : (b : Bool) → (b ≡ true → ⊥) → b ≡ false
-not_true true h = absurd (h refl)
-not_true false h = refl
 
 -- ---- what nodes mention
 

@@ -1,5 +1,5 @@
 -- Proper types without type variables that need no cells are unboxed.
-use Rattle.std.proofs.Common.{◌≡◌, ℕ, zero, suc, max, Bool, true, false, ◌||◌, IsTrue, List, [], ◌∷◌, refl, sym, ap, ◌∙◌, arith, eqb-true, subst as at, if◌then◌else◌}
+use Rattle.std.proofs.Common.{◌≡◌, ℕ, zero, suc, true, false, ◌||◌, IsTrue, List, [], ◌∷◌, refl, sym, ap, ◌∙◌, arith, eqb-true, subst as at, if◌then◌else◌}
 use Rattle.std.proofs.lemmas.Bool.{and_from, and_parts}
 use Rattle.std.specs.List.{list_all, list_any}
 use Rattle.std.specs.Prelude.{not, Some}
@@ -11,8 +11,7 @@ use Rattle.cg_base.specs.declared.kind.Word.{Word}
 use Rattle.cg_base.specs.declared.kind.Word.TheVariants.{U32, U64}
 use Rattle.cg_base.specs.Types.{Tau, var, seen, unit, word, bool, arrow, abs, variant, fields, Parts, end, part}
 use Rattle.cg_driver_entry.specs.Types.{needs_cells, parts_need_cells}
-use Rattle.cg_inst.proofs.Names.{never}
-use Rattle.cg_inst_laws.proofs.Closed.{closed_stays, closed_subst}
+use Rattle.cg_inst_laws.proofs.Closed.{closed_stays, closed_subst, left_zero, right_zero}
 use Rattle.cg_inst_laws.proofs.Each.{Each}
 use Rattle.cg_kinds.specs.Kinds.{bang, width, width_parts}
 use Rattle.cg_core_def.specs.Lawful.{AreApart, part_names}
@@ -22,10 +21,8 @@ use Rattle.cg_typing.specs.Parts.{is_there, part_named, taken_by}
 use Rattle.cg_typing_laws.proofs.Types.{subst_bang}
 use Rattle.cg_update.specs.Unboxed.{are_apart, are_unboxed, is_sequence, is_unboxed}
 use Rattle.cg_driver_laws.proofs.Proper.{AreProperParts, IsProper, observed_proper, type_proper}
-
-pub neither : (a b : Bool) → (a || b) ≡ false → (a ≡ false) × (b ≡ false)
-neither true b h = never (sym h)
-neither false b h = (refl, h)
+use Rattle.cg_check_laws.proofs.Basics.{or_false as neither}
+use Rattle.cg_base.proofs.Counts.{no_steps as never}
 
 -- ---- names apart
 
@@ -41,12 +38,6 @@ apart_is end h = refl
 apart_is (part name t taken ps) h = and_from (not (is_there (part_named name ps))) _ (ap not (none_named name ps h.0)) (apart_is ps h.1)
 
 -- ---- types
-
-left_zero : (a b : ℕ) → max a b ≡ 0 → a ≡ 0
-left_zero a b h = omega arith
-
-right_zero : (a b : ℕ) → max a b ≡ 0 → b ≡ 0
-right_zero a b h = omega arith
 
 mutual
   unfolding is_unboxed width

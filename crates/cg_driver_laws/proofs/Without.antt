@@ -13,15 +13,15 @@ use Rattle.cg_core.specs.Derivations.{Derivation}
 use Rattle.cg_core.specs.Kernels.{Function}
 use Rattle.cg_core.specs.Terms.{Arg, Note, Tree, term, fun}
 use Rattle.cg_driver_entry.specs.Types.{needs_cells}
-use Rattle.cg_inst.proofs.Names.{by_cases, never}
+use Rattle.cg_inst.proofs.Names.{by_cases}
 use Rattle.cg_inst.proofs.SameInstance.{instance_is, instance_same}
 use Rattle.cg_inst.specs.Lists.{Cores, IsList, same_instance}
 use Rattle.cg_inst_laws.proofs.Bodies.{AreTyped}
-use Rattle.cg_inst_laws.proofs.Closed.{closed_all, closed_stays, closed_subst}
+use Rattle.cg_inst_laws.proofs.Closed.{closed_all, closed_subst}
 use Rattle.cg_inst_laws.proofs.Each.{Each, each_at}
 use Rattle.cg_inst_laws.proofs.Entries.{list_derived}
 use Rattle.cg_inst_laws.proofs.Growth.{IsApart, no_instance_twice}
-use Rattle.cg_inst_laws.proofs.Mentions.{arguments_given, types_back}
+use Rattle.cg_inst_laws.proofs.Mentions.{arguments_given}
 use Rattle.cg_inst_laws.proofs.Nodes.{IsDerivedNode, nodes_derived, nodes_given}
 use Rattle.cg_inst_laws.specs.Laws.{entry_of}
 use Rattle.cg_kinds.specs.Kinds.{or_unit, subst, width}
@@ -39,6 +39,9 @@ use Rattle.cg_driver_laws.specs.Laws.{copies_over, program_over}
 use Rattle.cg_driver_laws.proofs.Instances.{HaveProperNodes, IsFine, entry_proper, list_fine}
 use Rattle.cg_driver_laws.proofs.ProperNodes.{HasProper}
 use Rattle.cg_driver_laws.proofs.Unboxed.{closed_unboxed, library_unboxed, taken_unboxed}
+use Rattle.cg_update_laws.proofs.Whole.{all_stay as types_stay}
+use Rattle.cg_base.proofs.Counts.{no_steps as never}
+use Rattle.cg_typing.proofs.Lists.{types_back}
 
 -- ---- places
 
@@ -59,11 +62,6 @@ place_is (y ∷ ys) (suc k) x e once =
     (λ _. ap (option_map suc) (place_is ys k x e (λ i j p q. suc_same i j (once (suc i) (suc j) p q))))
 
 -- ---- what has no type variables
-
-pub types_stay : (ts : List Tau) → IsTrue (list_all is_closed ts) → map (subst []) ts ≡ ts
-types_stay [] h = refl
-types_stay (t ∷ ts) h =
-    let b = and_parts (is_closed t) _ h in let p = closed_stays [] t b.0 in let q = types_stay ts b.1 in cc
 
 -- a node mentions something at types without type variables, or nothing
 abbrev pub HasClosedArguments : Tree Note → Type 0

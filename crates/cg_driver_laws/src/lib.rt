@@ -1,5 +1,8 @@
-//! Laws of the C of the instances of a source (docs/LANGUAGE.md, "The C of instances"): that it can be printed, and that it runs to what
-//! evaluation gives.
+//! Stage: command. The C of the instances of any source can be printed, and runs to what evaluation gives.
+//! Role: laws.
+//! Promises: `functions_stand`, `sources_print`, `sources_are_programs`, `unboxed_run`, `entries_are_sound`, `entries_run`.
+//! May cite: definitions, laws and public crates below; no code above.
+//! docs/LANGUAGE.md, "The C of instances", says it in words.
 #![tactic(auto)]
 
 mod law;

@@ -1,5 +1,8 @@
-//! Commands as lists of steps: what a read, a write and the one print of a command do, [`read_file`], [`write_file`] and
-//! [`print_report`], and in specs/ what a command says, answers and leaves. docs/LANGUAGE.md, "Commands", says it in words.
+//! Stage: command. Commands as lists of steps: what a read, a write and the one print of a command do.
+//! Role: part of `cg_driver`.
+//! Promises: `read_file`, `write_file`, `print_report`, exactly; law: `clauses_hold_of_other_commands`.
+//! May cite: anything below it, of its stage and of those below; no crate above.
+//! `specs/` has what a command says, answers and leaves (docs/LANGUAGE.md, "Commands").
 #![tactic(auto)]
 
 mod law;

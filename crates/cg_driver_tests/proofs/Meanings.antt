@@ -1,5 +1,5 @@
 -- Kernels all of whose functions have bodies or are known to the table of one abstract function.
-use Rattle.std.proofs.Common.{◌≡◌, ◌<◌, ◌≤◌, ◌+◌, ◌&&◌, ◌||◌, ◌^◌, ℕ, zero, suc, Bool, true, IsTrue, List, [], ◌∷◌, Some, None, get_or, length, map, take, refl, sym, ap, ◌∙◌, arith}
+use Rattle.std.proofs.Common.{◌≡◌, ◌<◌, ◌≤◌, ◌+◌, ◌&&◌, ◌||◌, ◌^◌, ℕ, zero, suc, Bool, true, IsTrue, List, [], ◌∷◌, Some, None, get_or, length, map, take, refl, sym, ap, ◌∙◌}
 use Rattle.std.specs.List.{list_all}
 use Rattle.std.specs.Option.{is_some}
 use Rattle.std.specs.Prelude.{slice_get}
@@ -13,10 +13,10 @@ use Rattle.cg_core_def.specs.Lawful.{body_mentions}
 use Rattle.cg_base.specs.Types.{word}
 use Rattle.cg_base.specs.declared.kind.Word.TheVariants.{U32}
 use Rattle.cg_value.specs.Fits.{World, fits}
-use Rattle.cg_value.specs.declared.value.Value.{the_lemmas}
 use Rattle.cg_value.specs.declared.value.Value.TheVariants.{Num}
 use Rattle.cg_value.specs.Values.{number, value_of}
 use Rattle.cg_driver_tests.specs.Halving.{halving}
+use Rattle.cg_driver.proofs.Executing.{word_value as number_is}
 
 abbrev pub has_meaning : KFun → Bool
 has_meaning f = is_some (function_of f).body || is_known halving (function_of f)
@@ -53,9 +53,6 @@ closed fs i h e = record {
 word_fits : (world : World) (n : ℕ) → n < 2 ^ 32 → IsTrue (fits world (word U32) (number n))
 unfolding fits
 word_fits world n h = lt-ltb n (2 ^ 32) h
-
-number_is : (n : ℕ) → value_of (Num n) ≡ number n
-number_is n = grind (arith, the_lemmas)
 
 pub value_fits : (world : World) (n : ℕ) → n < 2 ^ 32 → IsTrue (fits world (word U32) (value_of (Num n)))
 value_fits world n h = ap (fits world (word U32)) (number_is n) ∙ word_fits world n h

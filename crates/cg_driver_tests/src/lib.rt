@@ -1,5 +1,9 @@
-//! Tests that cross crates and that a case (docs/CASES.md) can't say: the two evaluations, texts of values and of C, orders of graphs, an
-//! outside that fails at some calls, and each call that takes memory once where there is plenty.
+//! Stage: tests. Tests that cross crates and that a case cannot say: texts, orders, faults, want of memory.
+//! Role: tests.
+//! Promises: nothing: tests alone.
+//! May cite: all crates; no crate but tests cites it.
+//! The two evaluations, texts of values and of C, orders of graphs, an outside that fails at some calls, and each call that takes
+//! memory once where there is plenty.
 #![tactic(auto)]
 
 #[cfg(test)]

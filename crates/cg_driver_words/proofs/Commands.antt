@@ -1,5 +1,5 @@
 -- The commands: what each expects of its words. A command that joins has its lines here, in `Apps`, `Matches` and `Top`.
-use Rattle.std.proofs.Common.{◌≡◌, ◌∙◌, true, false, true≢false, refl, sym, ap, ap₂, List, [], ◌∷◌, Option, Some, None, option_map, codes}
+use Rattle.std.proofs.Common.{◌≡◌, ◌∙◌, true, false, true≢false, refl, ap, ap₂, List, [], ◌∷◌, Option, Some, None, option_map, codes}
 use Rattle.clap.specs.Words.{Row, Rule, Text, first_of}
 use Rattle.clap.specs.Simple.{built_leaf, inherited}
 use Rattle.cg_driver_words.specs.Apps.{bare_app, build_app, check_app, recheck_app, run_app}
@@ -7,9 +7,7 @@ use Rattle.cg_driver_words.specs.Matches.{build_by, build_in, check_in, recheck_
 use Rattle.cg_driver_words.specs.Words.{build_names, check, check_names, recheck_names, run_names}
 use Rattle.cg_driver_words.proofs.Rows.{Slot, value_in}
 use Rattle.cg_driver_words.proofs.Rules.{Allowed, Expects, Given, IsLeaf, as_many, listed}
-
-no_steps : {X : Type 0} → false ≡ true → X
-no_steps e = absurd (true≢false (sym e))
+use Rattle.cg_base.proofs.Counts.{no_steps}
 
 -- ---- `check FILE`
 

@@ -9,7 +9,7 @@ use Rattle.clap.specs.Walk.{action_of, at_row, has_row, more_values, reading_by,
 use Rattle.clap.specs.declared.builder.action.ArgAction.TheVariants.{Set}
 use Rattle.clap.specs.declared.parser.matches.ValueSource.TheVariants.{CommandLine}
 use Rattle.cg_driver_words.specs.Apps.{steps_rule}
-use Rattle.cg_driver_words.proofs.Bools.{and_left, and_right, not_true}
+use Rattle.cg_base.proofs.Truths.{both_true as and_left, and_right, not_true}
 
 abbrev pub look : Text → List Row → Option Row
 look id rows = find (λ r. bytes_eq r.id id) rows

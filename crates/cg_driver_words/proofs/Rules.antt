@@ -11,8 +11,9 @@ use Rattle.clap.specs.Takes.{is_given}
 use Rattle.clap.specs.Walk.{arg_by_id, arg_by_index, arg_by_long, arg_by_short, has_row, with_default}
 use Rattle.cg_driver_words.specs.Apps.{bare_app, named, name_rule, steps_rule}
 use Rattle.cg_driver_words.specs.Words.{Command}
-use Rattle.cg_driver_words.proofs.Bools.{and_left, and_right, same_if}
+use Rattle.cg_driver_words.proofs.Bools.{same_if}
 use Rattle.cg_driver_words.proofs.Rows.{Slot, Known, are_apart, differs, look, row}
+use Rattle.cg_base.proofs.Truths.{both_true as and_left, and_right}
 
 -- a name at its position
 abbrev pub name_at : ℕ → Text → Rule

@@ -4,14 +4,15 @@ use Rattle.std.specs.Str.{bytes_eq}
 use Rattle.clap.specs.Words.{Kinds, Row, Rule, Shape, Text}
 use Rattle.clap.specs.Faults.{check_fault, defaults_fault, flags_fault, settle_fault, turn_fault, walk_fault}
 use Rattle.clap.specs.Kinds.{or_else}
-use Rattle.clap.specs.Lexer.{long_of, short_of, usize_max}
+use Rattle.clap.specs.Lexer.{usize_max}
 use Rattle.clap.specs.Walk.{Held, Waiting, Walk, arg_by_id, finished, idle, is_pending, nothing_held, option, settled, used, walked}
 use Rattle.cg_driver_words.specs.Matches.{command_from, command_in}
 use Rattle.cg_driver_words.specs.Words.{Command, Sorted, called, all_names, sorted, with_name, with_value}
-use Rattle.cg_driver_words.proofs.Bools.{and_left, never, same_if}
+use Rattle.cg_driver_words.proofs.Bools.{never, same_if}
 use Rattle.cg_driver_words.proofs.Rows.{HasRows, a_row, are_apart, differs, fresh_nothing, no_row, row, used_is, with_name_row, with_steps_row}
 use Rattle.cg_driver_words.proofs.Rules.{Allowed, Expects, IsLeaf, Meaning, Numbered, behind, expects_next, leaf, listed, name_at, no_default, no_default_fault, steps_arg}
 use Rattle.cg_driver_words.proofs.Sorts.{AllUtf8, Sort, dashes, first_char, other, plain, short, sort_of, steps, steps_is}
+use Rattle.cg_base.proofs.Truths.{both_true as and_left}
 
 -- what is read, where there is no fault
 abbrev unless : Kinds → Option Command → Option Command

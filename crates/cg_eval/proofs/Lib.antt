@@ -3,4 +3,3 @@ pub mod Begins
 pub mod Costs
 mod Ends
 mod EvaluationRows
-mod GroupSteps

@@ -1,6 +1,8 @@
-//! Evaluation, [`eval`]: what a function gives on a value, without a heap, and at what cost. docs/LANGUAGE.md, "Evaluation", says
-//! it in words. It takes every form, over a table of abstract functions, [`eval_with`], or over none. Its callers know that a call
-//! isn't stuck, as a law says of plain sources. The definition, and the stack that it goes over, stand in `cg_eval_machine`.
+//! Stage: evaluation. Evaluation: what a function gives on a value, without a heap, and at what cost.
+//! Role: public.
+//! Promises: `eval` and `eval_with`, exactly as defined; laws: `more_budget`, `fuel_is_free`.
+//! May cite: anything of its stage and of those below; no crate above.
+//! docs/LANGUAGE.md, "Evaluation", says it in words. Its callers know that a call is not stuck.
 #![tactic(auto)]
 
 mod asking;

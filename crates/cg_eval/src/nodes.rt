@@ -6,7 +6,7 @@ ghost use Rattle.cg_base.specs.declared.place.Place.{Place as Spot};
 ghost use Rattle.cg_core.specs.Kernels.{the_core, the_core_form};
 ghost use Rattle.cg_core.specs.declared.at.At.{At as Named};
 ghost use Rattle.cg_core.specs.Terms.{Note, app, arg_of, case_of, con, esac, fun, if_else, lets, member, op as op_of, put, take_field, to_trees, var};
-ghost use Rattle.cg_eval.specs.Groups.{is_data, is_leaf};
+ghost use Rattle.cg_core.specs.Groups.{is_data, is_leaf};
 ghost use Rattle.cg_eval_def.specs.Evaluation.{Table, bind, evaluate, node, node_shape};
 ghost use Rattle.cg_eval_machine.specs.Machine.{rest, context_of, Went, weight};
 

@@ -37,11 +37,12 @@ use Rattle.cg_eval_laws.proofs.FitContexts.{only_fits}
 use Rattle.cg_eval_laws.proofs.FitLibrary.{library_fits}
 use Rattle.cg_eval_laws.proofs.Iterators.{is_turn, iterators_sound, no_turn}
 use Rattle.cg_eval_laws.proofs.Mentions.{IsValueOf, value_made, value_parts}
-use Rattle.cg_inst_laws.proofs.Mentions.{types_back}
-use Rattle.cg_inst.proofs.Names.{by_cases, never}
+use Rattle.cg_inst.proofs.Names.{by_cases}
 use Rattle.cg_eval_laws.proofs.Nodes.{CallsSound, MentionsFit, SoundRun}
 use Rattle.cg_eval_laws.proofs.Outcomes.{cost_sound}
 use Rattle.cg_eval_laws.proofs.Reached.{arities, reached}
+use Rattle.cg_base.proofs.Counts.{no_steps as never}
+use Rattle.cg_typing.proofs.Lists.{types_back}
 
 -- each function is lawful, its type is an arrow, and where it has a body there is a core of it with a derivation
 pub record AreTyped (functions : List Function) (core : ℕ → Option (Tree Note)) (tree : ℕ → Option Derivation) : Type 0 where

@@ -7,7 +7,7 @@ use Rattle.cg_value.specs.Fits.{World, fits, fits_abstract, fits_alternative, fi
 use Rattle.cg_value.specs.Foreign.{is_plain_type, are_plain_parts}
 use Rattle.cg_value.specs.Values as values
 use Rattle.cg_value.specs.Values.{Val, chosen, parts, Vals}
-use Rattle.cg_inst.proofs.Names.{never}
+use Rattle.cg_base.proofs.Counts.{no_steps as never}
 
 module _ (owns : List ℕ → Bool) where
   mutual

@@ -1,5 +1,5 @@
 -- Numbers in arrays are words, and what is changed in an array keeps it one.
-use Rattle.std.proofs.Common.{◌≡◌, ℕ, zero, suc, ◌^◌, ◌<◌, ◌≤◌, IsTrue, List, [], ◌∷◌, length, get_or, refl, ap, ◌∙◌, nat_lt, nat_le, lt-ltb, ltb-true}
+use Rattle.std.proofs.Common.{ℕ, zero, suc, ◌^◌, ◌<◌, ◌≤◌, IsTrue, List, [], ◌∷◌, length, get_or, refl, ap, ◌∙◌, nat_lt, nat_le, lt-ltb, ltb-true}
 use Rattle.std.proofs.lemmas.Bool.{and_parts, and_from, leb-true}
 use Rattle.std.proofs.lemmas.Nat.{pow_pos}
 use Rattle.std.specs.List.{list_all}
@@ -12,7 +12,8 @@ use Rattle.cg_typing.specs.Library.{array}
 use Rattle.cg_value.specs.Fits.{World, fits, most_elements}
 use Rattle.cg_value.specs.Forms.{elements_in, number_in, with_element}
 use Rattle.cg_value.specs.Values.{Val, number, elements}
-use Rattle.cg_inst.proofs.Names.{never}
+use Rattle.cg_base.proofs.Counts.{no_steps as never}
+use Rattle.cg_base.proofs.Sequences.{length_set}
 
 module _ (m : ℕ) where
   abbrev Below : List ℕ → Type 0
@@ -31,11 +32,6 @@ module _ (m : ℕ) where
   below_zeros : (k : ℕ) → 0 < m → Below (replicate k 0)
   below_zeros zero p = refl
   below_zeros (suc k) p = and_from (nat_lt 0 m) _ (lt-ltb 0 m p) (below_zeros k p)
-
-length_set : (ns : List ℕ) (i k : ℕ) → length (slice_set ns i k) ≡ length ns
-length_set [] i k = refl
-length_set (n ∷ ns) zero k = refl
-length_set (n ∷ ns) (suc i) k = ap suc (length_set ns i k)
 
 module _ (world : World) (w : Word) where
   -- an element, and 0 past the end

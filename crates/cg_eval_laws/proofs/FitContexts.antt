@@ -11,9 +11,10 @@ use Rattle.cg_kinds.specs.Kinds.{bang, subst}
 use Rattle.cg_typing.specs.Contexts.{Context as Entries, look, mark_at, push, first_side, second_side, first, second, Splits}
 use Rattle.cg_value.specs.Fits.{World, fits}
 use Rattle.cg_value.specs.Values.{Val, gone}
-use Rattle.cg_check_laws.proofs.Basics.{look_first, look_second, length_first, length_second, length_push, look_old, look_new, look_within, below_suc}
+use Rattle.cg_check_laws.proofs.Basics.{look_first, look_second, length_push, look_old, look_new, look_within, below_suc}
 use Rattle.cg_typing_laws.proofs.Types.{subst_bang}
 use Rattle.cg_eval_laws.proofs.FitObserved.{fits_observed}
+use Rattle.cg_typing.proofs.Lists.{first_as_many as length_first, second_as_many as length_second}
 
 module _ (world : World) (given : List Tau) where
   -- as many values as entries, of which each fits where its entry is present

@@ -9,7 +9,7 @@ use Rattle.cg_value.specs.Fits.{World, fits, fits_fields, is_gone}
 use Rattle.cg_value.specs.Forms.{field, pair as pair_of}
 use Rattle.cg_value.specs.Values as values
 use Rattle.cg_value.specs.Values.{Val, gone, parts, Vals, val_list}
-use Rattle.cg_inst.proofs.Names.{never}
+use Rattle.cg_base.proofs.Counts.{no_steps as never}
 
 -- the part at a position
 abbrev pub part_at : ℕ → Parts → Option Piece

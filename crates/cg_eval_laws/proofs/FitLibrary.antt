@@ -21,7 +21,7 @@ use Rattle.cg_value.specs.Values.{Val, number, answers, elements, gone, to_vals}
 use Rattle.cg_eval_laws.proofs.FitArrays.{changed_fits, element_fits, few_elements, zeros_fit}
 use Rattle.cg_eval_laws.proofs.FitFields.{field_fits, pair_fits}
 use Rattle.cg_eval_laws.proofs.FitObserved.{fits_observed}
-use Rattle.cg_inst.proofs.Names.{never}
+use Rattle.cg_base.proofs.Counts.{no_steps as never}
 
 -- ---- the parts of tuples
 

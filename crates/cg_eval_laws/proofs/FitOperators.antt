@@ -14,7 +14,8 @@ use Rattle.cg_kinds.specs.Kinds.{subst}
 use Rattle.cg_typing.specs.Operators.{Sort, arithmetic, equality, order, logic, sort_of, takes, gives}
 use Rattle.cg_value.specs.Fits.{World, fits}
 use Rattle.cg_value.specs.Values.{Val, number}
-use Rattle.cg_inst.proofs.Names.{by_cases, never}
+use Rattle.cg_inst.proofs.Names.{by_cases}
+use Rattle.cg_base.proofs.Counts.{no_steps as never}
 
 -- ---- numbers
 

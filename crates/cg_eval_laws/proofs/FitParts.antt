@@ -12,7 +12,9 @@ use Rattle.cg_value.specs.Forms.{field, has_name, payload_in, with_field, withou
 use Rattle.cg_value.specs.Values as values
 use Rattle.cg_value.specs.Values.{Val, gone, chosen, parts, Vals, to_vals, val_list}
 use Rattle.cg_typing_laws.proofs.Named.{left_is_there}
-use Rattle.cg_inst.proofs.Names.{either_way, by_cases, name_is, name_same, never}
+use Rattle.cg_inst.proofs.Names.{either_way, by_cases}
+use Rattle.cg_base.proofs.Sequences.{itself as name_same, is_name as name_is}
+use Rattle.cg_base.proofs.Counts.{no_steps as never}
 
 pub vals_back : (vs : Vals) → to_vals (val_list vs) ≡ vs
 unfolding to_vals val_list

@@ -24,8 +24,8 @@ use Rattle.cg_value.specs.Values.{Val, number, nothing, chosen, parts, to_vals}
 use Rattle.cg_eval_laws.specs.Laws.{IsSound}
 use Rattle.cg_eval_laws.proofs.FitFields.{field_fits, pair_fits}
 use Rattle.cg_eval_laws.proofs.FitLibrary.{first_is_word, get_fits, pair_parts, seen_array, set_fits}
-use Rattle.cg_inst.proofs.Names.{never}
 use Rattle.cg_eval_laws.proofs.Turns.{Each, any_of, each_so, indices_below, TurnsFit, turns_sound}
+use Rattle.cg_base.proofs.Counts.{no_steps as never}
 
 -- ---- the function of a turn
 

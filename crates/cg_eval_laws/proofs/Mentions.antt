@@ -18,9 +18,10 @@ use Rattle.cg_typing.specs.Library.{library_type}
 use Rattle.cg_typing_laws.specs.Laws.{AreInstance}
 use Rattle.cg_typing.specs.Subst.{subst_arg}
 use Rattle.cg_typing_laws.proofs.Functions.{fun_type_subst}
-use Rattle.cg_inst.proofs.Names.{never}
-use Rattle.cg_inst_laws.proofs.Mentions.{arguments_given, mention_is_good, types_back}
+use Rattle.cg_inst_laws.proofs.Mentions.{arguments_given, mention_is_good}
 use Rattle.cg_inst.proofs.SameType.{same_is, same_self}
+use Rattle.cg_base.proofs.Counts.{no_steps as never}
+use Rattle.cg_typing.proofs.Lists.{types_back}
 
 -- what a value of a type that is a function is, part by part
 pub record IsValueOf (functions : List Function) (f : Fun) (types : List Tau) (t : Tau) : Type 0 where

@@ -29,7 +29,7 @@ use Rattle.cg_typing.specs.Operators.{along}
 use Rattle.cg_value.specs.Fits.{World, fits, fits_fields}
 use Rattle.cg_value.specs.Forms.{has_name, is_true, payload_in}
 use Rattle.cg_value.specs.Values as values
-use Rattle.cg_value.specs.Values.{Val, function, gone, number, parts, to_vals}
+use Rattle.cg_value.specs.Values.{Val, function, number, parts, to_vals}
 use Rattle.cg_typing_laws.specs.Laws.{AreInstance}
 use Rattle.cg_eval_laws.specs.Laws.{IsSound}
 use Rattle.cg_eval_laws.proofs.Checked.{has_checked_type}
@@ -37,9 +37,10 @@ use Rattle.cg_eval_laws.proofs.FitContexts.{FitContext, first_fits, second_fits,
 use Rattle.cg_eval_laws.proofs.FitOperators.{operated_fits, operated_both_fit}
 use Rattle.cg_eval_laws.proofs.FitParts.{con_fits, last_fits, member_fits, others_fit, payload_fits, put_fits, without_fits}
 use Rattle.cg_eval_laws.proofs.Mentions.{IsValueOf, mention_is_value}
-use Rattle.cg_inst.proofs.Names.{by_cases, either_way, never}
+use Rattle.cg_inst.proofs.Names.{by_cases, either_way}
 use Rattle.cg_eval_laws.proofs.Outcomes.{bind_sound, pay_sound}
 use Rattle.cg_eval_laws.proofs.Reached.{Reaches, ReachesIn, ReachesFields}
+use Rattle.cg_base.proofs.Counts.{no_steps as never}
 
 -- ---- values that a node makes by itself
 

@@ -1,16 +1,11 @@
 -- Type soundness: evaluation of what is typed is sound with any fuel, and so are calls in a checked source.
-use Rattle.std.proofs.Common.{◌≡◌, ℕ, zero, suc, Bool, IsTrue, Option, Some, List, [], ◌∷◌, length, map, refl, ap, ◌∙◌, eq-eqb, subst as at}
+use Rattle.std.proofs.Common.{◌≡◌, ℕ, zero, suc, Bool, IsTrue, Option, Some, List, [], length, map, refl, ap, ◌∙◌, eq-eqb, subst as at}
 use Rattle.std.proofs.Math.Logic.{∥∥₁_elim}
 use Rattle.std.proofs.Props.{props}
-use Rattle.std.proofs.lemmas.Option.{slice_get_within, get_or_from_slice_get}
-use Rattle.std.specs.List.{All}
 use Rattle.std.specs.Option.{option_map}
 use Rattle.std.specs.Prelude.{slice_get}
 use Rattle.cg_base.specs.declared.fun.Fun.TheVariants.{User}
 use Rattle.cg_base.specs.Types.{Tau}
-use Rattle.cg_core.specs.declared.derivation.Deriv.{Deriv}
-use Rattle.cg_core.specs.declared.term.Term.{Term}
-use Rattle.cg_core.specs.declared.term.Typed.{Typed}
 use Rattle.cg_core.specs.Derivations.{Derivation}
 use Rattle.cg_core.specs.Kernels.{Function, kernel_of}
 use Rattle.cg_core.specs.Terms.{Note, Tree, term}
@@ -21,7 +16,7 @@ use Rattle.cg_kinds.specs.Kinds.{subst}
 use Rattle.cg_core_def.specs.Lawful.{IsLawfulFunction, IsLawfulType}
 use Rattle.cg_typing.specs.declared.checked.Checked.{Checked}
 use Rattle.cg_typing.specs.Holds.{cores_in, kept_at, kernel_in, trees_in}
-use Rattle.cg_typing.specs.Kept.{AreKept, IsKept, maybe_core, maybe_tree}
+use Rattle.cg_typing.specs.Kept.{AreKept, maybe_core, maybe_tree}
 use Rattle.cg_value.specs.Fits.{World, fits}
 use Rattle.cg_value.specs.Foreign.{Foreign, IsLawful}
 use Rattle.cg_value.specs.Values.{function}
@@ -31,6 +26,7 @@ use Rattle.cg_inst_laws.proofs.Closed.{lawful_stays}
 use Rattle.cg_eval_laws.proofs.Nodes.{CallsSound, SoundRun, node_sound}
 use Rattle.cg_eval_laws.proofs.Outcomes.{pay_sound}
 use Rattle.cg_eval_laws.proofs.Reached.{arities}
+use Rattle.cg_inst_laws.proofs.Bodies.{kept_of, one_of_all}
 
 -- ---- any functions that are typed
 
@@ -56,17 +52,6 @@ module _ (x : Foreign) (functions : List Function) (among : ℕ → Bool) (core 
   evaluated_calls_sound = calls_sound x functions among core tree typed lawful closed (evaluate (table_over x functions core)) evaluation_sound
 
 -- ---- a checked source
-
-kept_of : (functions fs : List Function) (cores : List (Option (Term Typed))) (trees : List (Option Deriv)) (i : ℕ) (f : Function)
-    → AreKept functions fs (map maybe_core cores) (map maybe_tree trees) → slice_get fs i ≡ Some f → IsKept functions f (maybe_core (kept_at cores i)) (maybe_tree (kept_at trees i))
-kept_of functions [] cores trees i f k e = absurd (cc)
-kept_of functions (g ∷ fs) [] trees i f k e = absurd k
-kept_of functions (g ∷ fs) (c ∷ cores) [] i f k e = absurd k
-kept_of functions (g ∷ fs) (c ∷ cores) (d ∷ trees) zero f k e = let q : g ≡ f = cc in at (λ f. IsKept functions f (maybe_core c) (maybe_tree d)) q k.0
-kept_of functions (g ∷ fs) (c ∷ cores) (d ∷ trees) (suc i) f k e = kept_of functions fs cores trees i f k.1 e
-
-one_of_all : (P : Function → Type 0) (fs : List Function) (i : ℕ) (f : Function) → All P fs → slice_get fs i ≡ Some f → P f
-one_of_all P fs i f h e = at P (get_or_from_slice_get fs i f f e) (h i f (slice_get_within fs i f e))
 
 -- the functions of a checked source are typed
 pub source_typed : (checked : Checked)

@@ -7,7 +7,7 @@ use Rattle.cg_base.specs.Types.{Tau, unit, word, bool, arrow, abs, variant, fiel
 use Rattle.cg_value.specs.Fits.{World, fits, fits_abstract, fits_alternative, fits_fields, is_gone}
 use Rattle.cg_value.specs.Values as values
 use Rattle.cg_value.specs.Values.{Val, number, nothing, function, chosen, parts, Vals}
-use Rattle.cg_inst.proofs.Names.{never}
+use Rattle.cg_base.proofs.Counts.{no_steps as never}
 
 both : (a b : Bool) → IsTrue a → IsTrue b → IsTrue (a && b)
 both true b h k = k

@@ -1,4 +1,8 @@
-//! Laws of evaluation that need the typing rules: type soundness. docs/LANGUAGE.md, "Evaluation", says it in words.
+//! Stage: evaluation. Type soundness of evaluation.
+//! Role: laws.
+//! Promises: `calls_are_sound`, `functions_fit`.
+//! May cite: definitions, laws and public crates below; no code above.
+//! docs/LANGUAGE.md, "Evaluation", says it in words.
 #![tactic(auto)]
 
 mod law;

@@ -21,11 +21,11 @@ use crate::halt::Halt;
 use crate::machine::{Focus, Machine, descend, fields, with_one, with_two};
 use cg_base::{Fun, Items, Lib, Memory, Name, Ty, copy_types};
 use cg_core::{FieldTerm, Term, Typed};
-use cg_lib_value::{lib_cost, lib_value};
 use cg_eval_operations::{
     Turns, asked, carried, changed, ended, first_index, first_turn, is_iterator, next_turn,
     started, stops,
 };
+use cg_lib_value::{lib_cost, lib_value};
 use cg_typing::Checked;
 use cg_value::Value;
 use std::alloc::Global;

@@ -1,6 +1,7 @@
-//! The definition of evaluation, and the evaluator's own stack ([`Machine`]): its frames ([`Frame`]), what a value does to a frame
-//! ([`Frame::resume`]), and calls ([`apply`]). How the evaluation of a term begins, and the evaluator, stand in `cg_eval`.
-//! docs/LANGUAGE.md, "Evaluation", says it in words.
+//! Stage: evaluation. The stack of the evaluator: its frames, what a value does to a frame, and calls.
+//! Role: part of `cg_eval`.
+//! Promises: `Machine`, `Frame`, `apply`, `descend` and `fields` go on with just what the definition says is still to come.
+//! May cite: anything below it, of its stage and of those below; no crate above.
 #![tactic(auto)]
 
 mod calls;

@@ -1,4 +1,4 @@
 mod OperationRows
-mod PartSteps
+pub mod PartSteps
 mod TurnSteps
 mod WordSums

@@ -1,23 +1,12 @@
 -- Positions of fields, and type arguments.
-use Rattle.std.proofs.Common.{◌≡◌, ℕ, zero, suc, ◌+◌, ◌<◌, ◌≤◌, Bool, true, false, if◌then◌else◌, List, [], ◌∷◌, drop, get_or, length, map, refl, sym, ap, ◌∙◌, arith}
-use Rattle.std.specs.Str.{bytes_eq}
+use Rattle.std.proofs.Common.{◌≡◌, ℕ, zero, suc, ◌+◌, ◌<◌, ◌≤◌, if◌then◌else◌, List, [], ◌∷◌, drop, get_or, length, map, refl, sym, ap, ◌∙◌, arith}
 use Rattle.cg_base.specs.declared.ty.Part.{Part}
 use Rattle.cg_base.specs.declared.ty.Ty.{the_lemmas as type_lemmas}
-use Rattle.std.proofs.lemmas.Slice.Eq.{bytes_eq-Decides}
 use Rattle.cg_base.proofs.Views.{piece_of}
 use Rattle.cg_base.specs.Types.{part_of, to_parts}
 use Rattle.cg_value.specs.declared.value.Value.{the_lemmas as value_lemmas}
 use Rattle.cg_eval_operations.specs.Positions.{position_among}
-
-same_name : (n m : List ℕ) → n ≡ m → bytes_eq n m ≡ true
-same_name n m e = (bytes_eq-Decides n m).1 e
-
-other_name : (n m : List ℕ) → (n ≡ m → ⊥) → bytes_eq n m ≡ false
-other_name n m h = go (bytes_eq n m) refl
-  where
-    go : (b : Bool) → bytes_eq n m ≡ b → bytes_eq n m ≡ false
-    go true e = absurd (h ((bytes_eq-Decides n m).0 e))
-    go false e = e
+use Rattle.cg_base.proofs.Sequences.{same_when as same_name, same_unless as other_name}
 
 pub past_all : (n : List ℕ) (ps : List Part) (i : ℕ) → length ps ≤ i → position_among n (to_parts (map part_of (drop i ps))) ≡ 0
 unfolding position_among to_parts
@@ -26,7 +15,7 @@ past_all n [] (suc i) h = refl
 past_all n (p ∷ ps) zero h = absurd (omega arith)
 past_all n (p ∷ ps) (suc i) h = past_all n ps i (omega arith)
 
-part_name : (p : Part) → (part_of p).name ≡ p.name
+pub part_name : (p : Part) → (part_of p).name ≡ p.name
 part_name p = ap (λ q. q.name) (piece_of p)
 
 -- the next part is of this name, or it isn't

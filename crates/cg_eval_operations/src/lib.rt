@@ -1,5 +1,8 @@
-//! What evaluation does on values alone: literals and operators, [`operated`] and [`operated_both`], where a field stands, and the
-//! turns of iterators. docs/LANGUAGE.md, "Evaluation", says the lines.
+//! Stage: evaluation. What evaluation does on values alone: literals, operators, positions of fields, turns of iterators.
+//! Role: part of `cg_eval`.
+//! Promises: `literal`, `operated`, `operated_both`, `position`, `first_turn`, `next_turn`, `asked`, `ended` and so on, each exactly.
+//! May cite: anything below it, of its stage and of those below; no crate above.
+//! docs/LANGUAGE.md, "Evaluation", says the lines.
 #![tactic(auto)]
 
 mod operators;

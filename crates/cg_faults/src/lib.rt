@@ -1,6 +1,8 @@
-//! The rules of kinds and types that a source may break, and which of them fails first, said twice: in its own words, by occurrences
-//! with their paths in the whole body (`specs/Fails.antt`), and as a list of events in reading order (`specs/Events.antt`).
-//! docs/LANGUAGE.md, "Typing", says the rules.
+//! Stage: types. The rules of kinds and types that a source may break, and which of them fails first, said twice.
+//! Role: public.
+//! Promises: `Rule` and its `text`; definitions: in their own words `specs/Fails.antt`, as a list in reading order `specs/Events.antt`.
+//! May cite: anything of its stage and of those below; no crate above.
+//! The first goes by occurrences with their paths in the whole body. docs/LANGUAGE.md, "Typing", says the rules.
 #![tactic(auto)]
 
 mod rule;

@@ -15,12 +15,12 @@ use Rattle.cg_faults.specs.Occurrences.{used}
 use Rattle.cg_typing.specs.Rules.{note_at}
 use Rattle.cg_faults.specs.Sites.{Path, Entry, Site, scope_types, place_inside, parts}
 use Rattle.cg_faults.specs.Touches.{HasUse}
-use Rattle.cg_check_laws.proofs.Basics.{apart}
 use Rattle.cg_faults_laws.proofs.Paths.{part_follows}
 use Rattle.cg_faults_laws.proofs.Standing.{Stand, Extends}
 use Rattle.cg_faults_laws.proofs.Tells.{Tells, tells_append, tells_nothing}
 use Rattle.cg_faults_laws.proofs.Uses.{uses_agree}
 use Rattle.cg_typing.specs.Contexts.{push, drops}
+use Rattle.cg_check_uses.proofs.Numbers.{apart}
 
 module _ (functions : List Function) (root : Site) (vars : List Kinds) (x y : Place) (one other : Path) where
   -- the two conditions of an entry

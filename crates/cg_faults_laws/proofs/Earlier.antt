@@ -7,12 +7,13 @@ use Rattle.cg_faults.specs.Fails.{root_of}
 use Rattle.cg_check_laws.specs.Laws.{IsLawfulIn}
 use Rattle.cg_faults.specs.Sites.{Path, Variable, Site, observe, shape_inside, part_in, parts_of, parts, down}
 use Rattle.cg_faults.specs.Touches.{Touch, PathBefore, NumberBefore, IsChoice, IsTouchAt, IsTouch, AreInBranches, Clash, IsClashing}
-use Rattle.cg_check_laws.proofs.Basics.{or_left}
-use Rattle.cg_faults_laws.proofs.Scopes.{some_is, Has, keeps_observed}
+use Rattle.cg_faults_laws.proofs.Scopes.{Has, keeps_observed}
 use Rattle.cg_faults_laws.proofs.Parts.{IsWell, part_is}
 use Rattle.cg_faults_laws.proofs.Uses.{below, root_well}
 use Rattle.cg_faults_laws.proofs.Standing.{IsTouchedBefore}
 use Rattle.cg_faults_laws.proofs.Touches.{among_at, touch_from, into_part, to_root, touch_tells}
+use Rattle.cg_check_laws.proofs.OneFault.{some_is}
+use Rattle.cg_base.proofs.Truths.{or_left}
 
 -- ---- paths
 

@@ -10,9 +10,11 @@ use Rattle.cg_faults.specs.Occurrences.{touched}
 use Rattle.cg_faults.specs.Sites.{Entry, Site, shape_inside, observe, parts}
 use Rattle.cg_faults.specs.Touches.{IsChoice}
 use Rattle.cg_typing.specs.Contexts.{push, among}
-use Rattle.cg_check_laws.proofs.Basics.{or_left, or_right, or_cases, and_both, lt_test, lt_test_is, below_suc}
-use Rattle.cg_faults_laws.proofs.Scopes.{some_is, of_push, of_observed, to_observed, seen_if}
+use Rattle.cg_check_laws.proofs.Basics.{lt_test, lt_test_is, below_suc}
+use Rattle.cg_faults_laws.proofs.Scopes.{of_push, of_observed, to_observed, seen_if}
 use Rattle.cg_faults_laws.proofs.Standing.{IsTouchedPart, IsFlagged}
+use Rattle.cg_check_laws.proofs.OneFault.{some_is}
+use Rattle.cg_base.proofs.Truths.{both as and_both, or_true as or_right, or_left, or_cases}
 
 -- what stands in a later scope at a position of the first stands there too
 abbrev pub Back : List Entry → List Entry → Type 0

@@ -11,7 +11,7 @@ use Rattle.cg_faults.specs.Fails.{root_of}
 use Rattle.cg_check_laws.specs.Laws.{IsLawfulIn}
 use Rattle.cg_faults.specs.Sites.{Path, Variable, bound_at, Entry, Site, shape_inside, parts, down}
 use Rattle.cg_faults.specs.Touches.{IsChoice, IsTouchAt}
-use Rattle.cg_faults_laws.proofs.Scopes.{some_is, push_append, fresh_bound}
+use Rattle.cg_faults_laws.proofs.Scopes.{push_append, fresh_bound}
 use Rattle.cg_faults_laws.proofs.Parts.{part_is}
 use Rattle.cg_faults_laws.proofs.Paths.{part_follows, path_is, IsIn, IsBoundBetween, origin}
 use Rattle.cg_faults_laws.proofs.Binders.{bound_in}
@@ -21,6 +21,7 @@ use Rattle.cg_faults_laws.proofs.Touches.{touch_from, into_part, out_of_part, fr
 use Rattle.cg_faults_laws.proofs.Standing.{IsTouchedBefore, IsTouchedPart, IsFlagged, Stand}
 use Rattle.cg_faults_laws.proofs.Earlier.{no_lead, touch_stands}
 use Rattle.cg_faults_laws.proofs.Exact.{IsOld, IsNew, entry_is, part_exact}
+use Rattle.cg_check_laws.proofs.OneFault.{some_is}
 
 -- ---- paths
 

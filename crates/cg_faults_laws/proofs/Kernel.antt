@@ -16,10 +16,9 @@ use Rattle.cg_typing.specs.Parts.{is_arrow, taken_by, given_by, has_word_arrays}
 use Rattle.cg_faults.specs.Rule.{Test, rule}
 use Rattle.cg_faults.specs.Sites.{Path, argument, Site, down}
 use Rattle.cg_check_laws.proofs.Limits.{within_limits}
-use Rattle.cg_check_laws.proofs.OneFault.{one_fault}
+use Rattle.cg_check_laws.proofs.OneFault.{one_fault, some_is}
 use Rattle.cg_faults_laws.specs.Laws.{KernelsAreAcceptedOrAtFault}
 use Rattle.cg_faults_laws.proofs.Moments.{ClearFrom, FirstFrom, Outcome, from_first}
-use Rattle.cg_faults_laws.proofs.Scopes.{some_is}
 use Rattle.cg_faults_laws.proofs.Standing.{OccurrenceRows}
 use Rattle.cg_faults_laws.proofs.Tells.{either_fault, fault_append, Clear, FirstOf, Result, Tells, FirstAt, first_at, clear_at, tells_one, tells_cons}
 use Rattle.cg_faults_laws.proofs.Trees.{tells}

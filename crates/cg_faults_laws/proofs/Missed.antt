@@ -9,9 +9,9 @@ use Rattle.cg_faults.specs.Occurrences.{Sighting}
 use Rattle.cg_faults.specs.Sites.{Path, Variable, Site, shape_inside, parts, down}
 use Rattle.cg_faults.specs.Touches.{TouchBefore, PathBefore, IsSighting, IsTouchAt, HasUse}
 use Rattle.cg_typing.specs.Contexts.{push}
-use Rattle.cg_faults_laws.proofs.Scopes.{some_is}
 use Rattle.cg_faults_laws.proofs.Touches.{sighting_from, into_part, out_of_part}
 use Rattle.cg_faults_laws.proofs.Uses.{use_in_part, use_of_part}
+use Rattle.cg_check_laws.proofs.OneFault.{some_is}
 
 -- the earlier of two places
 abbrev pub sooner : Option Place → Option Place → Option Place

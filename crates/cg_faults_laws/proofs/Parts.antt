@@ -13,8 +13,8 @@ use Rattle.cg_faults.specs.Occurrences.{touched, touched_fields, used, used_fiel
 use Rattle.cg_typing.specs.Operators.{Sort, arithmetic, equality, order, logic, sort_of}
 use Rattle.cg_typing.specs.Rules.{is_literal}
 use Rattle.cg_faults.specs.Sites.{Path, bound_at, Entry, Site, observe, binding, part_in, part_at, operands, field_parts, next_part, parts_behind, parts}
-use Rattle.cg_check_laws.proofs.Basics.{or_left, or_right}
 use Rattle.cg_faults_laws.proofs.Scopes.{IsScope, Keeps, no_one, keeps_all, keeps_push, keeps_observed, in_part, below_all, fresh_bound, lacks_bound, lacks_second, distinct_push, fresh_push, observed_scope}
+use Rattle.cg_base.proofs.Truths.{or_true as or_right, or_left}
 
 -- each of these, by its number
 abbrev pub Every : {A : Type 0} → (A → Type 0) → List A → Type 0

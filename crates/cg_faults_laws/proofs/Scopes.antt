@@ -1,14 +1,10 @@
 -- Scopes along a path: no variable stands twice in one, and each is bound above. What a part's scope has is what its node's has,
 -- with some entries observed and new ones behind.
-use Rattle.std.proofs.Common.{◌≡◌, ◌⊎◌, ℕ, zero, suc, Bool, true, false, ◌||◌, cond, Option, Some, None, List, [], ◌∷◌, ◌++◌, length, slice_get, inl, inr, ⊎_elim, refl, sym, ap, ◌∙◌, subst, arith, append-nil, length-append}
+use Rattle.std.proofs.Common.{◌≡◌, ◌⊎◌, ℕ, zero, suc, Bool, true, false, ◌||◌, cond, Some, List, [], ◌∷◌, ◌++◌, length, slice_get, inl, inr, ⊎_elim, refl, sym, ap, ◌∙◌, subst, arith, append-nil, length-append}
 use Rattle.cg_kinds.specs.Kinds.{bang}
 use Rattle.cg_typing.specs.Contexts.{push}
 use Rattle.cg_faults.specs.Sites.{Path, Variable, argument, bound_at, Entry, observe}
 use Rattle.cg_check_laws.proofs.Basics.{length_push}
-
-pub some_is : {X : Type 0} (o : Option X) (x y : X) → o ≡ Some x → o ≡ Some y → x ≡ y
-some_is None x y e f = absurd (cc)
-some_is (Some z) x y e f = cc
 
 -- ---- lists
 

@@ -14,13 +14,16 @@ use Rattle.cg_faults.specs.Plain.{plain}
 use Rattle.cg_typing.specs.Rules.{is_literal}
 use Rattle.cg_faults.specs.Sites.{Path, Variable, Entry, Site, observe, scope_types, shape_inside, part_at, operands, field_parts, next_part, parts_behind, parts_against, parts}
 use Rattle.cg_faults.specs.Touches.{TouchBefore}
-use Rattle.cg_check_laws.proofs.Basics.{apart, or_false, none_or}
+use Rattle.cg_check_laws.proofs.Basics.{or_false}
 use Rattle.cg_check_laws.proofs.Clash.{at_most_two}
 use Rattle.cg_faults_laws.proofs.Missed.{first_missed, missed_append, Own, Anywhere, IsSightedAt, IsUsedBehind, IsNoLetBang, Outcome, Rows, more_rows, last_row, two_rows, whole, parted}
 use Rattle.cg_faults_laws.proofs.Parts.{IsWell, part_is, site_of, LawfulSome}
-use Rattle.cg_faults_laws.proofs.Scopes.{some_is, Has, keeps_all, keeps_push, keeps_observed, in_part}
+use Rattle.cg_faults_laws.proofs.Scopes.{Has, keeps_all, keeps_push, keeps_observed, in_part}
 use Rattle.cg_faults_laws.proofs.Touches.{here, touch_tells}
 use Rattle.cg_faults_laws.proofs.Uses.{use_in_part, use_of_part, use_tells, find}
+use Rattle.cg_check_uses.proofs.Numbers.{apart}
+use Rattle.cg_check_laws.proofs.OneFault.{some_is}
+use Rattle.cg_base.proofs.Truths.{either_false as none_or}
 
 -- ---- the observers of one `let!`
 

@@ -16,11 +16,11 @@ use Rattle.cg_faults.specs.Plain.{plain_at}
 use Rattle.cg_faults.specs.Rule.{Test, rule}
 use Rattle.cg_faults.specs.Sites.{Variable, Entry, Site, scope_types, shape_inside}
 use Rattle.cg_faults.specs.Touches.{Touch, IsTouch, IsClashing}
-use Rattle.cg_check_laws.proofs.Basics.{or_right}
 use Rattle.cg_faults_laws.proofs.Parts.{Lawful}
 use Rattle.cg_faults_laws.proofs.Tells.{Tells, tells_append, tells_nothing}
 use Rattle.cg_faults_laws.proofs.Standing.{Stand}
 use Rattle.cg_faults_laws.proofs.Earlier.{clashing}
+use Rattle.cg_base.proofs.Truths.{or_true as or_right}
 
 plain_is : (scope : List Entry) (i : ℕ) (e : Entry) → slice_get scope i ≡ Some e → plain_at (map (λ e. e.ty) scope) i ≡ e.ty
 plain_is [] i e h = absurd (cc)

@@ -14,12 +14,15 @@ use Rattle.cg_faults.specs.Plain.{plain}
 use Rattle.cg_typing.specs.Rules.{is_literal}
 use Rattle.cg_faults.specs.Sites.{Path, Variable, Entry, Site, observe, scope_types, shape_inside, part_at, field_parts, next_part, parts_behind, parts_against, parts, down}
 use Rattle.cg_faults.specs.Touches.{IsUnobserved, IsSighting, IsTouchAt}
-use Rattle.cg_check_laws.proofs.Basics.{bool_is, apart, or_left, or_right, or_false, or_elim, none_or}
+use Rattle.cg_check_laws.proofs.Basics.{or_false}
 use Rattle.cg_check_laws.proofs.Clash.{at_most_two}
 use Rattle.cg_faults_laws.specs.Laws.{TouchesAgree}
-use Rattle.cg_faults_laws.proofs.Scopes.{some_is, Has, keeps_all, keeps_push, keeps_observed}
+use Rattle.cg_faults_laws.proofs.Scopes.{Has, keeps_all, keeps_push, keeps_observed}
 use Rattle.cg_faults_laws.proofs.Uses.{moved, down_append, below, root_well}
 use Rattle.cg_faults_laws.proofs.Parts.{IsWell, InOrder, left_first, right_first, operands_are, part_is, site_of, LawfulSome}
+use Rattle.cg_check_uses.proofs.Numbers.{apart}
+use Rattle.cg_check_laws.proofs.OneFault.{some_is}
+use Rattle.cg_base.proofs.Truths.{either_bool as bool_is, either as or_elim, either_false as none_or, or_true as or_right, or_left}
 
 pub among_at : (os : List Seen) (n : ℕ) (o : Seen) (i : ℕ) → slice_get os n ≡ Some o → i ≡ o.var → among i os ≡ true
 among_at [] n o i h e = absurd (cc)

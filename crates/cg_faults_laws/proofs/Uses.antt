@@ -14,11 +14,13 @@ use Rattle.cg_faults.specs.Plain.{plain}
 use Rattle.cg_typing.specs.Rules.{is_literal}
 use Rattle.cg_faults.specs.Sites.{Path, Variable, argument, bound_at, Entry, Site, observe, scope_types, shape_inside, part_at, field_parts, next_part, parts_behind, parts_against, parts, down}
 use Rattle.cg_faults.specs.Touches.{IsUnobserved, IsUse}
-use Rattle.cg_check_laws.proofs.Basics.{or_false, or_elim, none_or}
+use Rattle.cg_check_laws.proofs.Basics.{or_false}
 use Rattle.cg_check_laws.proofs.Clash.{at_most_two}
 use Rattle.cg_faults_laws.specs.Laws.{UsesAgree}
-use Rattle.cg_faults_laws.proofs.Scopes.{some_is, Has, Distinct, AreFresh, keeps_all, keeps_push, keeps_observed}
+use Rattle.cg_faults_laws.proofs.Scopes.{Has, Distinct, AreFresh, keeps_all, keeps_push, keeps_observed}
 use Rattle.cg_faults_laws.proofs.Parts.{IsWell, InOrder, left_first, right_first, operands_are, part_is, site_of, LawfulSome}
+use Rattle.cg_check_laws.proofs.OneFault.{some_is}
+use Rattle.cg_base.proofs.Truths.{either as or_elim, either_false as none_or}
 
 var_used : (e : Tree Place) (i j : ℕ) → shape_inside e ≡ var j → i ≡ j → used i e ≡ true
 var_used (term a shape) i j h same = subst (λ s. used i (term a s) ≡ true) (sym h) (eq-eqb i j same)

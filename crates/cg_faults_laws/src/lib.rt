@@ -1,6 +1,7 @@
-//! What joins the two definitions of a source's fault, `Fails` in its own words and the events: both name one fault, the same rule at
-//! the same place, and where no event fails, no condition does. On the way there: the events' tests of uses and of touches say what
-//! `Fails` says of them by their paths, and what is bound at a node is touched only below it.
+//! Stage: types. The two definitions of the fault of a source name one fault.
+//! Role: laws.
+//! Promises: `kernels_are_accepted_or_at_fault`, `uses_agree`, `touches_agree`, `bound_variables_stand_below`.
+//! May cite: definitions, laws and public crates below; no code above.
 #![tactic(auto)]
 
 mod law;

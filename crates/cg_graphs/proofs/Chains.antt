@@ -7,7 +7,8 @@ use Rattle.std.proofs.lemmas.Map.Steps.{length-le_from_distinct_below}
 use Rattle.cg_graphs.specs.Circles.{Mentions, Reaches, mentioned, onward, Closed, NoCircle}
 use Rattle.cg_graphs.proofs.Places.{is_mention, mention_of, mentioned_within, reaches_in}
 use Rattle.cg_graphs.specs.Ranks.{above, rank}
-use Rattle.cg_graphs.proofs.Standing.{In, in_contains, contains_in, are_equal, are_apart}
+use Rattle.cg_graphs.proofs.Standing.{In, in_contains, contains_in, are_equal}
+use Rattle.cg_base.proofs.Counts.{is_other as are_apart}
 
 -- what gives the rank above some nodes
 above_from : (f : ℕ → ℕ) (xs : List ℕ) → (above f xs ≡ 0) ⊎ ((x : ℕ) × In xs x × (above f xs ≡ suc (f x)))

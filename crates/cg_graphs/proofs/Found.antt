@@ -8,7 +8,7 @@ use Rattle.cg_graphs.specs.Reached.{reached, IsSearch}
 use Rattle.cg_graphs.proofs.Places.{place}
 use Rattle.cg_graphs.specs.Reach.{AreReached, IsReached}
 
-inside : (marks : List Bool) (k : ℕ) → k < length marks → get_or marks k true ≡ true → get_or marks k false ≡ true
+pub inside : (marks : List Bool) (k : ℕ) → k < length marks → get_or marks k true ≡ true → get_or marks k false ≡ true
 inside [] k lt h = absurd (omega arith)
 inside (b ∷ marks) zero lt h = h
 inside (b ∷ marks) (suc k) lt h = inside marks k (omega arith) h

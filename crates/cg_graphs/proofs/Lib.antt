@@ -3,10 +3,10 @@ pub mod NumberSteps
 pub mod Places
 pub mod ReachSteps
 pub mod WalkSteps
-mod Found
+pub mod Found
 pub mod Marked
 mod Before
-mod BucketSteps
+pub mod BucketSteps
 mod Chains
 pub mod OrderSteps
 pub mod Standing

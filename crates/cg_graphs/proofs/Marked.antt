@@ -3,7 +3,6 @@ use Rattle.std.proofs.Common.{◌≡◌, ◌⊎◌, inl, inr, ⊎_elim, ℕ, zer
 use Rattle.cg_graphs.specs.Reached.{Reached, reached, mark_all, IsSearch}
 use Rattle.cg_graphs.proofs.ReachSteps.{goes_on, left, lessens, search_start}
 use Rattle.cg_graphs.specs.ReachLaws.{MarksAreThere}
-use Rattle.cg_graphs.specs.Reach.{AreReached}
 use Rattle.cg_graphs.proofs.Found.{found}
 
 -- a list is empty or has a last element

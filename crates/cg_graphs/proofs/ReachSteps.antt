@@ -8,6 +8,7 @@ use Rattle.std.specs.List.{Contains, sum_by}
 use Rattle.cg_graphs.specs.Circles.{Mentions, Reaches, mentioned, onward}
 use Rattle.cg_graphs.specs.Reached.{Reached, reached, mark, mark_all, IsMarked, IsClosed, IsSearch}
 use Rattle.cg_graphs.proofs.Places.{place, is_mention, mention_of}
+use Rattle.cg_base.proofs.Truths.{either_bool}
 
 -- how much is left: what isn't marked, and what is to be followed
 abbrev pub left : Reached → ℕ
@@ -27,10 +28,6 @@ in_range : (marks : List Bool) (j : ℕ) (d : Bool) → get_or marks j true ≡ 
 in_range [] j d e = absurd (true≢false e)
 in_range (b ∷ marks) zero d e = (omega arith, e)
 in_range (b ∷ marks) (suc j) d e = let h = in_range marks j d e in (let lt = h.0 in omega arith, h.1)
-
-either_bool : (b : Bool) → (b ≡ true) ⊎ (b ≡ false)
-either_bool true = inl refl
-either_bool false = inr refl
 
 -- what one mark keeps, for a predicate on states
 one : (r : Reached) (j : ℕ) (P : Reached → Type 0) → (get_or r.marks j true ≡ true → P r) → (get_or r.marks j true ≡ false → P (reached (set r.marks j true) (r.work ++ j ∷ []))) → P (mark r j)

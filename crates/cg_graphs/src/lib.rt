@@ -1,5 +1,8 @@
-//! Graphs: orders in which each node stands behind all that it mentions ([`order`], [`by_rank`]), circles of mentions, and what is reached
-//! from a node ([`reached`]).
+//! Stage: ground. Graphs: orders, circles, ranks, and what is reached from a node.
+//! Role: public.
+//! Promises: `order`, `by_rank` and `reached`, each exactly; laws: `ordered_has_no_circle`, `circle_is_at_node`.
+//! May cite: anything of its stage and of those below; no crate above.
+//! Promises also: laws of ranks, `order_has_nodes`, `mentions_stand_before`; of marks of what is reached, `marks_are_there`.
 #![tactic(auto)]
 
 ghost use Rattle.cg_graphs.specs.Circles.{Closed};

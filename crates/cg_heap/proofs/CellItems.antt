@@ -1,7 +1,7 @@
 -- What a store gives of a cell, slot by slot.
 use Rattle.std.proofs.Common.{rules, ◌≡◌, ◌+◌, ℕ, zero, suc, Bool, List, [], ◌∷◌, ◌++◌, length, map, take, slice_get, refl, sym, ap, ◌∙◌, arith}
-use Rattle.std.proofs.lemmas.List.{take_more, take_all, length-map}
-use Rattle.std.proofs.lemmas.Option.{slice_get-map, slice_get_within, get_or_from_slice_get}
+use Rattle.std.proofs.lemmas.List.{take_all, length-map}
+use Rattle.std.proofs.lemmas.Option.{slice_get-map}
 use Rattle.std.specs.Option.{option_map}
 use Rattle.std.specs.declared.option.Option.{Option}
 use Rattle.std.specs.declared.option.Option.TheVariants.{None, Some}
@@ -11,11 +11,9 @@ use Rattle.cg_heap.specs.declared.cell.Scalar.{Scalar}
 use Rattle.cg_heap.specs.declared.cell.Scalar.TheVariants.{Word}
 use Rattle.cg_heap.specs.Readings.{held_answers, held_scalars}
 use Rattle.cg_heap.specs.Stored.{answer_of, cell_length, in_cell, slot_of}
+use Rattle.cg_base.proofs.Sequences.{one_more' as one_more}
 
 -- ---- an item of a list
-
-one_more : {X : Type 0} (xs : List X) (i : ℕ) (x : X) → slice_get xs i ≡ Some x → take (i + 1) xs ≡ take i xs ++ x ∷ []
-one_more xs i x e = take_more xs i x (slice_get_within xs i x e) ∙ ap (λ y. take i xs ++ y ∷ []) (get_or_from_slice_get xs i x x e)
 
 no_more : {X : Type 0} (xs : List X) (i : ℕ) → slice_get xs i ≡ None → take (i + 1) xs ≡ take i xs
 no_more [] i e = take_all (i + 1) [] (omega arith) ∙ sym (take_all i [] (omega arith))
@@ -24,7 +22,7 @@ no_more (x ∷ xs) (suc i) e = let step : suc i + 1 ≡ suc (i + 1) = omega arit
 
 -- ---- a cell's items
 
-slot_is : (o : Option Cell) (i : ℕ) → in_cell (slot_of i) o ≡ slice_get (held_scalars o) i
+pub slot_is : (o : Option Cell) (i : ℕ) → in_cell (slot_of i) o ≡ slice_get (held_scalars o) i
 slot_is None i = refl
 slot_is (Some (Slots ss)) i = refl
 slot_is (Some (Words ns)) i = sym (slice_get-map Word ns i)

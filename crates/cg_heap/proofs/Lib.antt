@@ -1,7 +1,7 @@
-mod CellItems
+pub mod CellItems
 mod Fronts
 mod Lefts
-mod Maps
+pub mod Maps
 mod ReadSteps
 mod Readers
 mod Shorter

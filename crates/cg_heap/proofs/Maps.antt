@@ -37,7 +37,7 @@ taken_out old new k updates =
     ∙ sym (get-remove nat_cmp_total (map.from_entries old.entries) k q ∙ ap (cond (eq_by_cmp nat_cmp q k) None) (held_at old.entries q)))
 
 -- to put in what is there changes nothing
-same_put : (m : FinMap nat_cmp Cell) (k : ℕ) (v : Cell) → map.get m k ≡ Some v → map.insert m k v ≡ m
+pub same_put : (m : FinMap nat_cmp Cell) (k : ℕ) (v : Cell) → map.get m k ≡ Some v → map.insert m k v ≡ m
 same_put m k v here = same_map nat_cmp_total nat_cmp-IsAntisymmetric _ _ (λ q. grind (gets, rules))
 
 -- ---- a cell was changed

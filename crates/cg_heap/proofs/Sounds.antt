@@ -1,9 +1,8 @@
 -- What a store holds stays sound.
-use Rattle.std.proofs.Common.{rules, zero, suc, ◌≡◌, ℕ, ◌<◌, ◌≤◌, ◌^◌, Bool, true, false, cond, refl, sym, ap, ◌∙◌, arith, ◌⊎◌, inl, inr, ⊎_elim}
+use Rattle.std.proofs.Common.{rules, zero, suc, ◌≡◌, ℕ, ◌<◌, ◌≤◌, ◌^◌, Bool, true, false, cond, refl, sym, ◌∙◌, arith, ◌⊎◌, inl, inr, ⊎_elim}
 use Rattle.std.specs.Cmp.{nat_cmp_total}
 use Rattle.std.specs.FinMap as map
 use Rattle.std.specs.FinMap.{FinMap, get-insert, get-remove, get-empty, nat_cmp-IsAntisymmetric}
-use Rattle.std.specs.Option.{unwrap_or}
 use Rattle.std.specs.declared.option.Option.{Option}
 use Rattle.std.specs.declared.option.Option.TheVariants.{None, Some}
 use Rattle.std.specs.Ordering.{nat_cmp, eq_by_cmp, is_eq}
@@ -11,14 +10,12 @@ use Rattle.std.specs.declared.cmp.Ordering.{Ordering}
 use Rattle.std.specs.declared.cmp.Ordering.TheVariants.{Less, Equal, Greater}
 use Rattle.cg_heap.specs.declared.cell.Cell.{Cell}
 use Rattle.cg_heap.specs.Stored.{Stored, IsSound, cell_at, cell_length, changed, in_cell, in_place, without_cell, asked_of}
+use Rattle.cg_base.proofs.Options.{some_is}
 
 alike : (x y : ℕ) (r : Ordering) → nat_cmp x y ≡ r → is_eq r ≡ true → x ≡ y
 alike x y Less e same = absurd (search rules)
 alike x y Equal e same = nat_cmp-IsAntisymmetric x y e
 alike x y Greater e same = absurd (search rules)
-
-some_is : {A : Type 0} (x y : A) → Some x ≡ Some y → x ≡ y
-some_is x y e = ap (λ o. unwrap_or o x) e
 
 -- what is held after a cell was put in: this cell at this address, or what was held before
 chosen : (b : Bool) (p q : ℕ) (c d : Cell) (o : Option Cell) → eq_by_cmp nat_cmp q p ≡ b → cond b (Some c) o ≡ Some d → ((q ≡ p) × (d ≡ c)) ⊎ (o ≡ Some d)

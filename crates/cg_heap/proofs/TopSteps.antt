@@ -5,7 +5,7 @@ use Rattle.std.specs.declared.option.Option.TheVariants.{None, Some}
 use Rattle.cg_heap.specs.declared.cell.Cell.{Cell}
 use Rattle.cg_heap.specs.Stored.{Stored, asked_of, changed, in_place}
 
-same_top : (p : ℕ) (o : Option Cell) (s : Stored) → (in_place p o s).top ≡ s.top
+pub same_top : (p : ℕ) (o : Option Cell) (s : Stored) → (in_place p o s).top ≡ s.top
 same_top p None s = refl
 same_top p (Some c) s = refl
 

@@ -1,4 +1,8 @@
-//! Heaps: cells at addresses, the stores that hold them, and what values they represent (docs/LANGUAGE.md, "Layout").
+//! Stage: heaps. Cells at addresses, the stores that hold them, and the values that they represent.
+//! Role: public.
+//! Promises: `MapStore` keeps the trait `Store`; `slots`, `read_out`, exactly; the trait `ExternHeap`, of tables of abstract functions.
+//! May cite: anything of its stage and of those below; no crate above.
+//! docs/LANGUAGE.md, "Layout", says what represents a value.
 #![tactic(auto)]
 
 mod cell;

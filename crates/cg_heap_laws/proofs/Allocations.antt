@@ -20,12 +20,13 @@ use Rattle.cg_lib_heap.specs.Library.{granted, next_at}
 use Rattle.cg_heap_laws.proofs.Changes.{step_write, step_make, make_near}
 use Rattle.cg_heap_laws.proofs.LibraryForms.{is_state, is_some, is_none, some_foot, none_foot}
 use Rattle.cg_heap_laws.proofs.LibraryFunctions.{Fine, Writes, state_foot, state_slots}
-use Rattle.cg_heap_laws.proofs.Stores.{IsWritten, eq_self, is_or_not, get_insert, written_here}
+use Rattle.cg_heap_laws.proofs.Stores.{IsWritten, is_or_not, get_insert, written_here}
 use Rattle.cg_heap_laws.proofs.Tuples.{is_pair, pair_foot}
 use Rattle.cg_lib_value.specs.Library.{answered, next_answer, later_answers, maybe as maybe_value}
 use Rattle.cg_typing.specs.Library.{state, pair, maybe}
 use Rattle.cg_value.specs.Forms as forms
 use Rattle.cg_value.specs.Values.{Val, answers, chosen, nothing}
+use Rattle.cg_base.proofs.Counts.{eqb_same as eq_self}
 
 -- a cell of this content, wherever it stands, represents a value that owns it alone
 abbrev pub IsMadeOf : HeapWorld → Tau → Cell → Val → Type 0

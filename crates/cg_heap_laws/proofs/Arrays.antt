@@ -5,17 +5,11 @@ use Rattle.std.specs.List.{list_all}
 use Rattle.std.proofs.lemmas.Bool.{and_parts, and_from, leb-true, ltb-true}
 use Rattle.std.proofs.lemmas.List.{length-set, length-replicate}
 use Rattle.cg_base.specs.declared.kind.Word.{Word}
-use Rattle.cg_base.specs.declared.kind.Word.TheVariants.{U8, U16, U32, U64}
+use Rattle.cg_base.specs.declared.kind.Word.TheVariants.{U32}
 use Rattle.cg_base.specs.Words.{bits}
 use Rattle.cg_value.specs.Fits.{is_array, most_elements}
 use Rattle.cg_value.specs.Values.{elements}
-
--- zero is in range of each word
-some_bits : (w : Word) → 0 < 2 ^ bits w
-some_bits U8 = omega arith
-some_bits U16 = omega arith
-some_bits U32 = omega arith
-some_bits U64 = omega arith
+use Rattle.cg_base.proofs.Counts.{above_none as some_bits}
 
 module _ (p : ℕ → Bool) where
   -- what holds of all elements and of 0 holds of what is read

@@ -1,10 +1,12 @@
 -- The changes of a heap that the library makes, as steps.
-use Rattle.std.proofs.Common.{◌≡◌, ℕ, zero, suc, ◌+◌, ◌<◌, ◌≤◌, Bool, true, false, nat_eq, Option, None, [], ◌∷◌, ⊎_elim, refl, sym, ◌∙◌, subst, arith}
+use Rattle.std.proofs.Common.{◌≡◌, ℕ, ◌+◌, ◌<◌, ◌≤◌, Bool, true, false, nat_eq, Option, None, [], ◌∷◌, ⊎_elim, refl, sym, ◌∙◌, subst, arith}
 use Rattle.cg_heap.specs.declared.cell.Cell.{Cell}
 use Rattle.cg_heap.specs.Reps.{Heap, one_if}
 use Rattle.cg_heap.specs.Steps.{IsFine, Step, count}
 use Rattle.cg_heap_laws.specs.LibraryLaws.{StepsAreFrames, StepsKeepFine}
-use Rattle.cg_heap_laws.proofs.Stores.{IsWritten, eq_self, is_or_not, written_here, written_other}
+use Rattle.cg_heap_laws.proofs.Stores.{IsWritten, is_or_not, written_here, written_other}
+use Rattle.cg_heap_laws.proofs.Frames.{by_count}
+use Rattle.cg_base.proofs.Counts.{eqb_same as eq_self}
 
 -- a test that counts nothing is false
 pub not_one : (b : Bool) (n : ℕ) → one_if b + n ≡ 0 → b ≡ false
@@ -86,11 +88,6 @@ module _ (h h1 h' : Heap) (top p : ℕ) (o c : Option Cell) (w r : ℕ → ℕ) 
     fresh = λ q k. ⊎_elim (λ e. (omega arith, omega arith)) (λ e. absurd (let z = rw e at k in omega arith)) (is_or_not (top + 1) q);
     once = λ q. ⊎_elim (λ e. subst (λ q. one_if (nat_eq (top + 1) q) + 0 ≤ 1) e (rw (eq_self (top + 1)) (omega arith))) (λ e. rw e (omega arith)) (is_or_not (top + 1) q);
   }
-
--- a count is none, or one at least
-by_count : {A : Type 0} → (n : ℕ) → (n ≡ 0 → A) → (1 ≤ n → A) → A
-by_count zero none some = none refl
-by_count (suc n) none some = some (omega arith)
 
 -- a step is a frame of what it writes
 pub step_frame : StepsAreFrames

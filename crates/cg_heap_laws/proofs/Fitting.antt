@@ -14,11 +14,8 @@ use Rattle.cg_heap.specs.Reps.{Heap, HeapWorld, StandsFor, Holds, HoldsAll, Hold
 use Rattle.cg_core_def.specs.Lawful.{AreApart, part_names, IsLawfulType, AreLawfulParts}
 use Rattle.cg_value.specs.Fits.{World, fits, fits_abstract, fits_alternative, fits_fields, is_answers, is_array, is_gone}
 use Rattle.cg_value.specs.Values as values
-use Rattle.cg_value.specs.Values.{Val, number, nothing, chosen, parts, elements, answers, gone, Vals}
-
--- a name is itself, and where it isn't another, the other isn't it
-name_self : (x : List ℕ) → bytes_eq x x ≡ true
-name_self x = (bytes_eq-Decides x x).1 refl
+use Rattle.cg_value.specs.Values.{Val, Vals}
+use Rattle.cg_base.proofs.Sequences.{itself as name_self}
 
 name_turned : (x y : List ℕ) → bytes_eq x y ≡ false → bytes_eq y x ≡ false
 name_turned x y e = go (bytes_eq y x) refl

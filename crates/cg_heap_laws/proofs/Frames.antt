@@ -6,7 +6,7 @@ use Rattle.cg_heap.specs.Reps.{Heap}
 use Rattle.cg_heap_laws.specs.Laws.{FramesStandBeside}
 
 -- a count is none, or one at least
-by_count : {A : Type 0} → (n : ℕ) → (n ≡ 0 → A) → (1 ≤ n → A) → A
+pub by_count : {A : Type 0} → (n : ℕ) → (n ≡ 0 → A) → (1 ≤ n → A) → A
 by_count zero none some = none refl
 by_count (suc n) none some = some (omega arith)
 

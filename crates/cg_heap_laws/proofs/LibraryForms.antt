@@ -3,7 +3,7 @@ use Rattle.std.proofs.Common.{◌≡◌, ℕ, ◌<◌, ◌^◌, Bool, nat_eq, Is
 use Rattle.cg_base.specs.declared.kind.Sigil.{Sigil}
 use Rattle.cg_base.specs.declared.kind.Sigil.TheVariants.{R, W}
 use Rattle.cg_base.specs.declared.kind.Word.{Word}
-use Rattle.cg_base.specs.Types.{Tau, unit, word, abs, variant, fields, Parts, end, part}
+use Rattle.cg_base.specs.Types.{Tau, word, abs, fields, Parts, end, part}
 use Rattle.cg_base.specs.Types as types
 use Rattle.cg_base.specs.Words.{bits}
 use Rattle.cg_heap.specs.declared.cell.Cell.{Cell}

@@ -20,10 +20,11 @@ use Rattle.cg_lib_heap.specs.Library.{kept, freed_at}
 use Rattle.cg_heap_laws.proofs.Arrays.{set_behind, set_is_array}
 use Rattle.cg_heap_laws.proofs.Changes.{step_kept, step_write, step_free, write_near}
 use Rattle.cg_heap_laws.proofs.LibraryForms.{is_state, is_a_word, is_an_array}
-use Rattle.cg_heap_laws.proofs.Stores.{IsWritten, eq_self, is_or_not, get_insert, get_remove, written_here}
+use Rattle.cg_heap_laws.proofs.Stores.{IsWritten, is_or_not, get_insert, get_remove, written_here}
 use Rattle.cg_typing.specs.Library.{state, array}
 use Rattle.cg_value.specs.Fits.{is_array}
 use Rattle.cg_value.specs.Values.{number, answers, elements}
+use Rattle.cg_base.proofs.Counts.{eqb_same as eq_self}
 
 -- what an argument writes in a store, and that its footprints are fine there
 abbrev pub Writes : Stored → Tau → List Scalar → ℕ → ℕ

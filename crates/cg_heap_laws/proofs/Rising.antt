@@ -1,20 +1,20 @@
 -- Type arguments that are good, and how far the highest address rises.
-use Rattle.std.proofs.Common.{◌≡◌, ℕ, ◌+◌, Bool, true, false, ◌&&◌, IsTrue, Option, Some, None, List, [], ◌∷◌, length, refl, arith}
+use Rattle.std.proofs.Common.{◌≡◌, ℕ, ◌+◌, Bool, true, false, ◌&&◌, IsTrue, List, [], ◌∷◌, length, refl, arith}
 use Rattle.std.proofs.lemmas.Bool.{and_parts}
 use Rattle.cg_base.specs.declared.fun.Lib.{Lib}
 use Rattle.cg_base.specs.declared.fun.Lib.TheVariants.{New, Free, Create, FreeArray, Length, Get, Put}
 use Rattle.cg_base.specs.declared.kind.Kinds.{Kinds}
 use Rattle.cg_base.specs.declared.kind.Sigil.TheVariants.{W}
 use Rattle.cg_base.specs.Types.{Tau, fields}
-use Rattle.cg_heap.specs.declared.cell.Cell.{Cell}
 use Rattle.cg_heap.specs.declared.cell.Fresh.{Fresh}
 use Rattle.cg_heap.specs.Reps.{first_address, number_of}
-use Rattle.cg_heap.specs.Stored.{Stored, asked_of, changed, in_place, with_element}
+use Rattle.cg_heap.specs.Stored.{Stored, with_element}
 use Rattle.cg_lib_heap.specs.Library.{granted, second, third}
 use Rattle.cg_heap_laws.specs.LibraryLaws.{AddressesRise, GoodArgumentsSuffice, is_argument, is_written, takes_function}
 use Rattle.cg_typing.specs.Functions.{are_good_arguments, asked_by_library, later_asked, meets_asked, next_asked}
 use Rattle.cg_typing.specs.Instances.{as_arguments}
 use Rattle.cg_typing.specs.Parts.{is_cell, has_word_arrays}
+use Rattle.cg_heap.proofs.TopSteps.{top_stays as changed_top}
 
 -- a record to write of which no field is taken is one to write
 cell_is_written : (t : Tau) → IsTrue (is_cell t) → IsTrue (is_written t)
@@ -45,14 +45,6 @@ good_arguments functions vars Length [] e n k = absurd (cc)
 good_arguments functions vars Get [] e n k = absurd (cc)
 good_arguments functions vars Put [] e n k = absurd (cc)
 good_arguments functions vars _ [] e n k = absurd (cc)
-
--- a changed cell leaves the highest address
-changed_top : (f : Cell → Option Cell) (p : ℕ) (s : Stored) → (changed f p s).top ≡ s.top
-changed_top f p s = go (asked_of f p s)
-  where
-    go : (o : Option Cell) → (in_place p o s).top ≡ s.top
-    go (Some c) = refl
-    go None = refl
 
 -- what is granted raises it by what is made
 granted_top : (b : Bool) (p : ℕ) (c : Fresh) (s s' : Stored) → s'.top ≡ s.top → (granted p b c s').store.top ≡ s.top + length (granted p b c s').made

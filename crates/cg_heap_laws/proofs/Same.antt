@@ -1,5 +1,5 @@
 -- Two heaps that agree on a footprint.
-use Rattle.std.proofs.Common.{◌≡◌, ℕ, zero, suc, ◌+◌, ◌≤◌, true, false, nat_eq, IsTrue, Some, List, take, drop, refl, sym, ap, ◌∙◌, subst, arith, eq-eqb}
+use Rattle.std.proofs.Common.{◌≡◌, ℕ, zero, suc, ◌+◌, ◌≤◌, true, false, IsTrue, Some, List, take, drop, refl, sym, ap, ◌∙◌, subst, arith}
 use Rattle.cg_base.specs.declared.kind.Sigil.{Sigil}
 use Rattle.cg_base.specs.declared.kind.Sigil.TheVariants.{R, W, U}
 use Rattle.cg_base.specs.Types.{Tau, var, seen, unit, word, bool, arrow, abs, variant, fields, Parts, end, part}
@@ -8,9 +8,7 @@ use Rattle.cg_heap.specs.declared.cell.Scalar.{Scalar}
 use Rattle.cg_heap.specs.Reps.{Heap, HeapWorld, StandsFor, IsBoxed, Holds, HoldsAll, HoldsAt, slots, slots_in, is_boxed, inner, first_number, first_address, tail, counted, foot, foot_all, foot_at}
 use Rattle.cg_value.specs.Values as values
 use Rattle.cg_value.specs.Values.{Val, Vals}
-
-eq_self : (n : ℕ) → nat_eq n n ≡ true
-eq_self n = eq-eqb n n refl
+use Rattle.cg_base.proofs.Counts.{eqb_same as eq_self}
 
 -- a boxed cell is counted at its own address
 pub counted_self : (s : Sigil) (p : ℕ) → IsTrue (is_boxed s) → 1 ≤ counted W s p p + counted R s p p

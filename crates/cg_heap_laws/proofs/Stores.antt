@@ -1,15 +1,12 @@
 -- What a store holds after a change.
-use Rattle.std.proofs.Common.{◌≡◌, ℕ, Bool, true, false, cond, nat_eq, Option, Some, None, ◌⊎◌, inl, inr, refl, ap, ◌∙◌, arith, eq-eqb, eqb-true}
+use Rattle.std.proofs.Common.{◌≡◌, ℕ, Bool, true, false, cond, nat_eq, Option, Some, None, ◌⊎◌, inl, inr, refl, ap, ◌∙◌, arith, eqb-true}
 use Rattle.std.specs.FinMap as map
 use Rattle.std.specs.FinMap.{FinMap}
 use Rattle.std.specs.Ordering.{nat_cmp, eq_by_cmp}
 use Rattle.std.specs.Cmp.{nat_cmp_total}
 use Rattle.cg_heap.specs.declared.cell.Cell.{Cell}
 use Rattle.cg_heap.specs.Reps.{Heap}
-
--- a number is itself
-pub eq_self : (n : ℕ) → nat_eq n n ≡ true
-eq_self n = eq-eqb n n refl
+use Rattle.cg_base.proofs.Counts.{eqb_same as eq_self}
 
 -- an address is p or another
 pub is_or_not : (p q : ℕ) → (p ≡ q) ⊎ (nat_eq p q ≡ false)

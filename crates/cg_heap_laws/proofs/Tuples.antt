@@ -1,5 +1,5 @@
 -- Unboxed pairs and triples of types of one slot: taken apart, and what they reach.
-use Rattle.std.proofs.Common.{◌≡◌, ℕ, ◌+◌, false, List, [], ◌∷◌, ◌++◌, length, codes, refl, sym, ap, ◌∙◌, subst, arith}
+use Rattle.std.proofs.Common.{◌≡◌, ℕ, ◌+◌, false, List, [], ◌∷◌, length, codes, refl, sym, ap, ◌∙◌, subst, arith}
 use Rattle.cg_base.specs.declared.kind.Sigil.{Sigil}
 use Rattle.cg_base.specs.declared.kind.Sigil.TheVariants.{W, R, U}
 use Rattle.cg_base.specs.Types.{Tau, fields, Parts, end, part}
@@ -10,11 +10,7 @@ use Rattle.cg_heap_laws.proofs.LibraryParts.{apart, no_more, together, together_
 use Rattle.cg_value.specs.Forms as forms
 use Rattle.cg_value.specs.Values as values
 use Rattle.cg_value.specs.Values.{Val, Vals, parts}
-
--- nothing at the end
-append_none : {A : Type 0} (xs : List A) → xs ++ [] ≡ xs
-append_none [] = refl
-append_none (x ∷ xs) = ap (λ ys. x ∷ ys) (append_none xs)
+use Rattle.cg_base.proofs.Sequences.{append_none}
 
 -- lists one behind the other, as one
 three_are : (us us1 us2 us3 : List Scalar) (u x y : Scalar) → us ≡ u ∷ us1 → us1 ≡ x ∷ us2 → us2 ≡ y ∷ us3 → us3 ≡ [] → us ≡ u ∷ x ∷ y ∷ []

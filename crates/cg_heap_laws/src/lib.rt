@@ -1,5 +1,10 @@
-//! Laws of heaps: which scalars represent a value, which addresses they reach, and what calls change (docs/LANGUAGE.md, "Layout"); and
-//! that the library on heaps gives what represents the library's value, by steps (docs/LANGUAGE.md, "The library").
+//! Stage: heaps. Which scalars represent a value, what they reach, what calls change, and the library on heaps.
+//! Role: laws.
+//! Promises: `values_are_one`, `footprints_suffice`, `frames_compose`, `library_does`, `steps_are_frames`.
+//! May cite: definitions, laws and public crates below; no code above.
+//! Promises also: `scalars_fill_slots`, `represented_fits`, `observed_is_represented`, `observed_is_read`, `frames_stand_beside`.
+//! Promises also: `footprints_are_there`, `aliased_is_not_apart`, `escaping_reads_nothing`, `shared_writes_nothing`.
+//! Promises also: `steps_keep_fine`, `arrays_are_there`, `answers_suffice`, `addresses_rise`, `good_arguments_suffice`.
 #![tactic(auto)]
 
 mod law;

@@ -1,5 +1,5 @@
 -- The digits that are cut out are those of the grammar.
-use Rattle.std.proofs.Common.{◌≡◌, ℕ, ◌<◌, ◌≤◌, ◌^◌, Bool, true, false, List, [], ◌∷◌, ◌++◌, length, take, drop, codes, refl, sym, ap, ◌∙◌, subst, arith, append_assoc, Option, Some, None, cond, Result, Ok, Err}
+use Rattle.std.proofs.Common.{◌≡◌, ℕ, ◌<◌, ◌≤◌, ◌^◌, Bool, true, false, List, [], ◌∷◌, ◌++◌, length, take, drop, codes, refl, sym, ap, ◌∙◌, subst, arith, Option, Some, None, cond, Result, Ok, Err}
 use Rattle.std.specs.Prelude.{◌==◌, nat_lt}
 use Rattle.std.specs.List.{prefix_len}
 use Rattle.std.specs.Str.{bytes_eq}
@@ -14,6 +14,8 @@ use Rattle.cg_heaptext.specs.Cuts.{behind, front, past, if_last, last_digits, af
 use Rattle.cg_heaptext.specs.declared.fault.HeapFault.{HeapFault}
 use Rattle.cg_heaptext.specs.declared.fault.HeapFault.TheVariants.{H1, H5}
 use Rattle.cg_heaptext.specs.HeapText.{IsHeapText, HeapText, IsInWord, Answers}
+use Rattle.cg_base.proofs.Sequences.{is_empty as no_first}
+use Rattle.cg_base.proofs.Counts.{digit_dark}
 
 -- ---- what is spelled is cut
 
@@ -36,9 +38,6 @@ white_stops (b ∷ back) h = white_no_digit b h.0
   where
     white_no_digit : (b : ℕ) → white b ≡ true → digit b ≡ false
     white_no_digit b h = grind (arith, nat_tests)
-
-digit_dark : (b : ℕ) → digit b ≡ true → white b ≡ false
-digit_dark b h = grind (arith, nat_tests)
 
 some_stops : (digits back : List ℕ) → Starts digit digits → Stops white (digits ++ back)
 some_stops [] back h = absurd h
@@ -172,10 +171,6 @@ fronts p bytes d n e h = h ∙ ap (λ m. take m bytes) e
 
 pub behinds : (p : ℕ → Bool) (bytes d : List ℕ) (n : ℕ) → n ≡ prefix_len p bytes → d ≡ drop n bytes → d ≡ behind p bytes
 behinds p bytes d n e h = h ∙ ap (λ m. drop m bytes) e
-
-no_first : (d : List ℕ) → (length d == 0) ≡ true → d ≡ []
-no_first [] e = refl
-no_first (b ∷ d) e = absurd (grind (arith, nat_tests))
 
 pub last_none : (bytes d : List ℕ) → d ≡ front digit bytes → (length d == 0) ≡ true → None ≡ last_digits bytes
 last_none bytes d f e = let none : front digit bytes ≡ [] = sym f ∙ no_first d e in rw none refl

@@ -14,6 +14,7 @@ use Rattle.cg_kinds.specs.Kinds.{subst as subst_of}
 use Rattle.cg_typing.specs.Instances.{Instance}
 use Rattle.cg_typing.specs.Parts.{is_small_enough}
 use Rattle.cg_typing.specs.Rules.{type_at}
+use Rattle.cg_base.proofs.Counts.{one_more as more_is}
 
 -- ---- what holds of all before a position
 
@@ -109,9 +110,6 @@ none_next cores [] zero e = refl
 none_next cores [] (suc i) e = refl
 none_next cores (x ∷ list) zero e = absurd (cc)
 none_next cores (x ∷ list) (suc i) e = none_next cores list i e
-
-more_is : (i : ℕ) → suc i ≡ i + 1
-more_is i = omega arith
 
 module _ {A : Type 0} (f : A → Tree Note) (cores : Cores) (list : List Instance) (i : ℕ) (fun : Fun) (nodes : List A) (count len total : ℕ)
     (here : option_map (λ (x : Instance). x.fun) (slice_get list i) ≡ Some fun)

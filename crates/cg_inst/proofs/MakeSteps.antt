@@ -1,5 +1,5 @@
 -- What is answered of a list, limit by limit.
-use Rattle.std.proofs.Common.{◌≡◌, ◌<◌, ◌≤◌, ◌+◌, ℕ, zero, suc, Bool, true, false, nat_lt, List, [], ◌∷◌, ◌++◌, Some, get_or, length, map, slice_get, take, refl, sym, ap, ◌∙◌, arith, Err}
+use Rattle.std.proofs.Common.{◌≡◌, ◌<◌, ◌≤◌, ◌+◌, ℕ, zero, suc, Bool, true, false, nat_lt, List, [], ◌∷◌, Some, get_or, length, map, slice_get, refl, sym, ap, ◌∙◌, arith, Err}
 use Rattle.std.proofs.lemmas.Bool.{lt-ltb, ltb-true}
 use Rattle.std.proofs.lemmas.List.{length-map}
 use Rattle.cg_base.specs.declared.limit.Limit.TheVariants as limits
@@ -9,8 +9,8 @@ use Rattle.cg_inst.specs.declared.fault.InstFault.{InstFault}
 use Rattle.cg_inst.specs.declared.fault.InstFault.TheVariants.{Limit, Memory}
 use Rattle.cg_inst.specs.Founds.{FindsThem}
 use Rattle.cg_inst.specs.Lists.{Cores}
-use Rattle.cg_inst.proofs.Names.{never}
 use Rattle.cg_inst.proofs.Standing.{within}
+use Rattle.cg_base.proofs.Counts.{no_steps as never}
 
 module _ (functions : List Function) (cores : Cores) where
   pub answers_search : (e : InstFault) → FindsThem functions cores (Err e) → Answers functions cores (Err e)
@@ -26,18 +26,9 @@ module _ (functions : List Function) (cores : Cores) where
   answers_search (Limit limits.Heap) c = absurd c
   answers_search (Limit limits.Certificate) c = absurd c
 
--- one instance more of those that were found
-pub one_more : {A : Type 0} (xs : List A) (i : ℕ) (x : A) → slice_get xs i ≡ Some x → take (i + 1) xs ≡ take i xs ++ x ∷ []
-one_more xs i x e = let next : i + 1 ≡ suc i = omega arith in ap (λ n. take n xs) next ∙ go xs i e
-  where
-    go : (xs : List _) (i : ℕ) → slice_get xs i ≡ Some x → take (suc i) xs ≡ take i xs ++ x ∷ []
-    go [] i e = absurd (cc)
-    go (y ∷ ys) zero e = let q : y ≡ x = cc in ap (λ z. z ∷ []) q
-    go (y ∷ ys) (suc i) e = ap (λ zs. y ∷ zs) (go ys i e)
-
 -- ---- where an instance stands
 
-at_place : {A B : Type 0} (f : A → B) (xs : List A) (n : ℕ) (x : A) → n < length xs → x ≡ get_or xs n x → slice_get (map f xs) n ≡ Some (f x)
+pub at_place : {A B : Type 0} (f : A → B) (xs : List A) (n : ℕ) (x : A) → n < length xs → x ≡ get_or xs n x → slice_get (map f xs) n ≡ Some (f x)
 at_place f [] n x h e = absurd (omega arith)
 at_place f (y ∷ xs) zero x h e = ap (λ z. Some (f z)) (sym e)
 at_place f (y ∷ xs) (suc n) x h e = at_place f xs n x (omega (arith, h)) e

@@ -10,8 +10,8 @@ use Rattle.cg_base.specs.Types.{Tau}
 use Rattle.cg_inst.specs.Lists.{place_of, same_function, same_instance, same_list}
 use Rattle.cg_typing.specs.Instances.{Instance}
 use Rattle.cg_base.specs.Same.{same_type}
-use Rattle.cg_inst.proofs.Names.{never}
 use Rattle.cg_inst.proofs.SameType.{same_is, same_self}
+use Rattle.cg_base.proofs.Counts.{no_steps as never}
 
 -- the library's functions, each at its place
 library : List Lib

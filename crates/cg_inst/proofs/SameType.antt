@@ -9,7 +9,8 @@ use Rattle.cg_base.specs.declared.kind.Word.TheVariants.{U8, U16, U32, U64}
 use Rattle.cg_base.specs.Types.{Tau, var, seen, unit, word, bool, arrow, abs, variant, fields, Taus, none, more, Parts, end, part}
 use Rattle.cg_base.specs.Words.{bits}
 use Rattle.cg_base.specs.Same.{same_type, same_types, same_parts, same_sigil, same_mark}
-use Rattle.cg_inst.proofs.Names.{name_is, name_same, never}
+use Rattle.cg_base.proofs.Sequences.{itself as name_same, is_name as name_is}
+use Rattle.cg_base.proofs.Counts.{no_steps as never}
 
 sigil_is : (s t : Sigil) → same_sigil s t ≡ true → s ≡ t
 sigil_is R R h = refl

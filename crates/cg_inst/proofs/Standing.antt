@@ -10,6 +10,7 @@ use Rattle.cg_inst_types.specs.Layers.{types_at}
 use Rattle.cg_inst_types.specs.Listings.{IsListing, list_at, list_of, listing}
 use Rattle.cg_inst_types.specs.Places.{Each, Keeps, type_at}
 use Rattle.cg_typing.specs.Functions.{arg_types}
+use Rattle.cg_inst_types.proofs.Growth.{type_kept as type_stays}
 
 -- ---- what stays
 
@@ -29,13 +30,10 @@ keeps_on (x ∷ old) (y ∷ mid) (z ∷ new) k l =
 pub keeps_through : {A : Type 0} (a b c d : List A) → Keeps a b → Keeps b c → Keeps c d → Keeps a d
 keeps_through a b c d p q r = keeps_on a c d (keeps_on a b c p q) r
 
-there : {A : Type 0} (xs : List A) (i : ℕ) → i < length xs → (x : A) × (slice_get xs i ≡ Some x)
+pub there : {A : Type 0} (xs : List A) (i : ℕ) → i < length xs → (x : A) × (slice_get xs i ≡ Some x)
 there [] i h = absurd (omega arith)
 there (x ∷ xs) zero h = (x, refl)
 there (x ∷ xs) (suc i) h = there xs i (omega (arith, h))
-
-type_stays : (old new : List Tau) → Keeps old new → (i : ℕ) → i < length old → type_at new i ≡ type_at old i
-type_stays old new k i h = let p = there old i h in ap or_unit (stays_at old new k i p.0 p.1 ∙ sym p.1)
 
 pub types_stay : (old new : List Tau) → Keeps old new → (places : List ℕ) → Each (λ i. i < length old) places → types_at new places ≡ types_at old places
 types_stay old new k [] h = refl
@@ -70,7 +68,7 @@ within (y ∷ xs) (suc i) x e = omega (arith, within xs i x e)
 
 -- ---- one argument more
 
-before : {X : Type 0} (xs : List X) (i : ℕ) (x : X) → 0 < i → i ≤ length xs → x ≡ get_or xs (i - 1) x → drop (i - 1) xs ≡ x ∷ drop i xs
+pub before : {X : Type 0} (xs : List X) (i : ℕ) (x : X) → 0 < i → i ≤ length xs → x ≡ get_or xs (i - 1) x → drop (i - 1) xs ≡ x ∷ drop i xs
 before xs i x some h e =
     let n : i - 1 + 1 ≡ i = omega arith in
     drop_more xs (i - 1) x (omega (arith, some, h)) ∙ ap (λ y. y ∷ drop (i - 1 + 1) xs) (sym e) ∙ ap (λ m. x ∷ drop m xs) n

@@ -186,7 +186,7 @@ few_capped n h = le-leb (capped n) 1024 (omega (arith, leb-true n 1024 h))
 abbrev pub width_at : Term Typed → ℕ × List ℕ
 width_at node = width_of (type_of node.note.ty)
 
-type_of_node : (node : Term Typed) → type_of node.note.ty ≡ type_at (the_core node)
+pub type_of_node : (node : Term Typed) → type_of node.note.ty ≡ type_at (the_core node)
 type_of_node node = grind (arith, the_term_lemmas)
 
 width_small : (types : List Tau) (node : Term Typed) → IsSmallBy types (width_at node) → IsSmallAt types (the_core node)

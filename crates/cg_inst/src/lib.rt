@@ -1,5 +1,8 @@
-//! The list of instances of a checked source, [`instances`]: each function at each choice of types for its type variables at which it is
-//! mentioned. docs/LANGUAGE.md, "Instances", says it in words.
+//! Stage: instances. The list of instances of a checked source, and its limits.
+//! Role: public.
+//! Promises: `instances` gives exactly the defined list, or the first limit that it passes; `Instances` finds the place of an instance.
+//! May cite: anything of its stage and of those below; no crate above.
+//! docs/LANGUAGE.md, "Instances", says it in words.
 #![tactic(auto)]
 
 mod arguments;

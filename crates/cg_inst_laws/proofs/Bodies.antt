@@ -25,9 +25,10 @@ use Rattle.cg_typing_laws.specs.Laws.{AreInstance}
 use Rattle.cg_typing.specs.Subst.{subst_core}
 use Rattle.cg_typing_laws.proofs.Instances.{checked_arguments}
 use Rattle.cg_inst_laws.proofs.Each.{Each, each_both, each_join, each_then}
-use Rattle.cg_inst_laws.proofs.Mentions.{given_twice, mention_is_good, types_back}
-use Rattle.cg_inst.proofs.Names.{never}
+use Rattle.cg_inst_laws.proofs.Mentions.{given_twice, mention_is_good}
 use Rattle.cg_inst_laws.proofs.Nodes.{IsDerivedNode, IsLawfulNode, nodes_derived, nodes_given, nodes_lawful, nodes_users, users_at}
+use Rattle.cg_base.proofs.Counts.{no_steps as never}
+use Rattle.cg_typing.proofs.Lists.{types_back}
 
 -- ---- what nodes mention
 
@@ -74,7 +75,7 @@ pub record AreTyped (functions : List Function) (cores : Cores) (trees : ℕ →
   pub lawful : (i : ℕ) (f : Function) → slice_get functions i ≡ Some f → IsLawfulFunction (arities functions) f
 
 -- what is kept of a function, by its position
-kept_of : (functions fs : List Function) (cores : List (Option (Term Typed))) (trees : List (Option Deriv)) (i : ℕ) (f : Function)
+pub kept_of : (functions fs : List Function) (cores : List (Option (Term Typed))) (trees : List (Option Deriv)) (i : ℕ) (f : Function)
     → AreKept functions fs (map maybe_core cores) (map maybe_tree trees) → slice_get fs i ≡ Some f → IsKept functions f (maybe_core (kept_at cores i)) (maybe_tree (kept_at trees i))
 kept_of functions [] cores trees i f k e = absurd (cc)
 kept_of functions (g ∷ fs) [] trees i f k e = absurd k
@@ -83,7 +84,7 @@ kept_of functions (g ∷ fs) (c ∷ cores) (d ∷ trees) zero f k e = let q : g 
 kept_of functions (g ∷ fs) (c ∷ cores) (d ∷ trees) (suc i) f k e = kept_of functions fs cores trees i f k.1 e
 
 -- what holds of all functions holds of one
-one_of_all : (P : Function → Type 0) (fs : List Function) (i : ℕ) (f : Function) → All P fs → slice_get fs i ≡ Some f → P f
+pub one_of_all : (P : Function → Type 0) (fs : List Function) (i : ℕ) (f : Function) → All P fs → slice_get fs i ≡ Some f → P f
 one_of_all P fs i f h e = at P (get_or_from_slice_get fs i f f e) (h i f (slice_get_within fs i f e))
 
 -- the derivation that a checked source keeps for a function

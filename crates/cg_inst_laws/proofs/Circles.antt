@@ -17,11 +17,9 @@ use Rattle.cg_inst_laws.proofs.Bodies.{AreTyped, mentions_named, user_there}
 use Rattle.cg_inst_laws.proofs.Each.{Each, each_at, each_from}
 use Rattle.cg_inst.proofs.Names.{by_cases}
 use Rattle.cg_inst.proofs.SameInstance.{instance_is}
+use Rattle.cg_base.proofs.Options.{some_is}
 
 -- ---- lists
-
-some_is : {A : Type 0} (x y : A) → Some x ≡ Some y → x ≡ y
-some_is x y e = cc
 
 -- a list has each of its elements
 each_contained : (xs : List ℕ) → Each (Contains xs) xs

@@ -98,10 +98,10 @@ mutual
   lawful_parts given (part x t taken ps) h = let p = lawful_stays given t h.0 in let q = lawful_parts given ps h.1 in cc
 
 -- and so does one without type variables
-left_zero : (a b : ℕ) → max a b ≡ 0 → a ≡ 0
+pub left_zero : (a b : ℕ) → max a b ≡ 0 → a ≡ 0
 left_zero a b h = omega arith
 
-right_zero : (a b : ℕ) → max a b ≡ 0 → b ≡ 0
+pub right_zero : (a b : ℕ) → max a b ≡ 0 → b ≡ 0
 right_zero a b h = omega arith
 
 mutual

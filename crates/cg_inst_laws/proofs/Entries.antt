@@ -27,7 +27,7 @@ use Rattle.cg_inst_laws.specs.Laws.{entry_of}
 use Rattle.cg_inst_laws.proofs.Bodies.{AreTyped, are_instance, mentioned_given, mentions_good, user_there}
 use Rattle.cg_inst_laws.proofs.Each.{Each, each_all, each_at, each_then}
 use Rattle.cg_inst_laws.proofs.Growth.{IsFront, each_after, front_is, mentions_stay}
-use Rattle.cg_inst_laws.proofs.Mentions.{types_back}
+use Rattle.cg_typing.proofs.Lists.{types_back}
 
 -- a type that is an arrow
 record IsArrow (t : Tau) : Type 0 where

@@ -1,5 +1,5 @@
 -- Lists of instances that grow: what stays where it was, and what is added.
-use Rattle.std.proofs.Common.{◌≡◌, ℕ, zero, suc, ◌+◌, ◌-◌, ◌<◌, ◌≤◌, Bool, true, false, ◌||◌, ◌⊎◌, inl, inr, ⊎_elim, Option, Some, None, List, [], ◌∷◌, ◌++◌, length, refl, sym, ap, ◌∙◌, subst, arith, if◌then◌else◌}
+use Rattle.std.proofs.Common.{◌≡◌, ℕ, zero, suc, ◌+◌, ◌-◌, ◌<◌, ◌≤◌, true, false, ◌⊎◌, inl, inr, ⊎_elim, Option, Some, None, List, [], ◌∷◌, ◌++◌, length, refl, sym, ap, ◌∙◌, subst, arith, if◌then◌else◌}
 use Rattle.std.proofs.lemmas.Option.{slice_get-get_or, slice_get_within, slice_get_past}
 use Rattle.std.specs.List.{list_any}
 use Rattle.std.specs.Prelude.{get_or, slice_get}
@@ -8,10 +8,12 @@ use Rattle.cg_base.specs.declared.kind.Bound.{Bound}
 use Rattle.cg_core.specs.Kernels.{Function}
 use Rattle.cg_inst.specs.Lists.{Cores, IsList, after, front_from, front_one, gone_through, mentioned_by, same_instance, with_instance, with_instances}
 use Rattle.cg_typing.specs.Instances.{Instance, IsIn}
-use Rattle.cg_check_laws.proofs.Basics.{or_elim}
+use Rattle.cg_check_laws.proofs.Basics.{or_false as neither, below_or_not as one_is_less}
 use Rattle.cg_inst_laws.proofs.Each.{Each, each_at, each_both, each_then}
-use Rattle.cg_inst.proofs.Names.{by_cases, never}
+use Rattle.cg_inst.proofs.Names.{by_cases}
 use Rattle.cg_inst.proofs.SameInstance.{instance_is, instance_same}
+use Rattle.cg_base.proofs.Truths.{either as or_elim}
+use Rattle.cg_base.proofs.Counts.{no_steps as never}
 
 -- ---- one element more at the end
 
@@ -46,10 +48,6 @@ found_is x (y ∷ xs) h =
     or_elim (same_instance x y) (list_any (same_instance x) xs) h (λ e. record { place = zero; there = ap Some (sym (instance_is x y e)) })
     (λ e. let q = found_is x xs e in record { place = suc q.place; there = q.there })
 
-neither : (a b : Bool) → (a || b) ≡ false → (a ≡ false) × (b ≡ false)
-neither true b h = never (sym h)
-neither false b h = (refl, h)
-
 -- and what doesn't isn't
 not_found : (x : Instance) (xs : List Instance) (i : ℕ) → list_any (same_instance x) xs ≡ false → slice_get xs i ≡ Some x → ⊥
 not_found x [] i h e = absurd (cc)
@@ -63,12 +61,6 @@ not_found x (y ∷ xs) (suc i) h e = not_found x xs i (neither (same_instance x 
 less_next : (m n : ℕ) → (m < n) ⊎ (n ≤ m) → (suc m < suc n) ⊎ (suc n ≤ suc m)
 less_next m n (inl h) = inl (omega arith)
 less_next m n (inr h) = inr (omega arith)
-
-one_is_less : (m n : ℕ) → (m < n) ⊎ (n ≤ m)
-one_is_less zero zero = inr (omega arith)
-one_is_less zero (suc n) = inl (omega arith)
-one_is_less (suc m) zero = inr (omega arith)
-one_is_less (suc m) (suc n) = less_next m n (one_is_less m n)
 
 -- a list with more, or the list as it was
 with_cases : (P : List Instance → Type 0) (known : List Instance) (x : Instance)

@@ -18,10 +18,6 @@ use Rattle.cg_inst_laws.proofs.Closed.{closed_all, closed_stays, closed_subst}
 
 -- ---- type arguments, with a place and without one
 
-pub types_back : (types : List Tau) → arg_types (as_arguments types) ≡ types
-types_back [] = refl
-types_back (t ∷ ts) = ap (λ us. t ∷ us) (types_back ts)
-
 length_types : (args : List Arg) → length (arg_types args) ≡ length args
 length_types [] = refl
 length_types (a ∷ args) = ap suc (length_types args)

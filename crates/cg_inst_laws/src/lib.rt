@@ -1,5 +1,8 @@
-//! The laws of lists of instances: there is one at most, no instance stands in it twice, and the body of each is derived at its type and
-//! mentions only instances of the list, without circles. docs/LANGUAGE.md, "Instances", says them in words.
+//! Stage: instances. Laws of lists of instances.
+//! Role: laws.
+//! Promises: `list_is_one`, `instances_are_apart`, `instances_are_good`, `instances_are_derived`, `instances_are_total`.
+//! May cite: definitions, laws and public crates below; no code above.
+//! docs/LANGUAGE.md, "Instances", says them in words.
 #![tactic(auto)]
 
 mod law;

@@ -1,10 +1,10 @@
 mod Built
 mod Entered
 mod Fronts
-mod Growth
+pub mod Growth
 mod Layered
 mod Listed
 mod NodeEquality
 mod Observed
-mod Searches
+pub mod Searches
 mod Sound

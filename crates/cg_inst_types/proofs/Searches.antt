@@ -58,7 +58,7 @@ no_position {K} test k sound ks absent = by (position test ks) refl
     by (Some i) p = absurd (absent (i, subst (λ xs. slice_get xs i ≡ Some k) (map-id ks) (position_found (λ x. x) k test sound ks i p)))
 
 -- a key that isn't there goes last
-none_left : {A : Type 0} (o : Option A) → is_some o ≡ false → o ≡ None
+pub none_left : {A : Type 0} (o : Option A) → is_some o ≡ false → o ≡ None
 none_left None p = refl
 none_left (Some x) p = absurd (true≢false p)
 

@@ -1,6 +1,9 @@
-//! Types that share their parts: [`TypeTable`], in which each type stands once, at a place of its own.
-//! The type arguments of instances can double with each step of a chain of calls (docs/LANGUAGE.md, "Instances"), and
-//! would have 2^i nodes as trees; in a table each step adds a few places.
+//! Stage: instances. Types that share their parts, each once in a table.
+//! Role: part of `cg_inst`.
+//! Promises: `TypeTable` gives each type one place, and the type of a place.
+//! May cite: anything below it, of its stage and of those below; no crate above.
+//! Type arguments of instances can double with each call of a chain (docs/LANGUAGE.md, "Instances"): as trees they would have 2^i
+//! nodes, in a table each call adds a few places.
 #![tactic(auto)]
 
 mod enter;

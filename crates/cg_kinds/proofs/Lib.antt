@@ -4,3 +4,4 @@ pub mod Laws
 pub mod ShapeLaws
 pub mod ShapeSteps
 pub mod SubstSteps
+pub mod BangKinds

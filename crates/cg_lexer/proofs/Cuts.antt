@@ -20,15 +20,12 @@ use Rattle.cg_lexer.specs.Front.{piece_length, IsFullGap, token_length, front_le
 use Rattle.cg_lexer.specs.Next.{Leaves, Gives, stop_at, Next}
 use Rattle.cg_lexer.proofs.Gaps.{piece_stands}
 use Rattle.cg_lexer.proofs.Munch.{kind_is, some_text, text_within, stands, no_dashes}
+use Rattle.cg_base.proofs.Sequences.{is_empty}
 
 -- ---- lengths
 
 pub front_within : (bytes : List ℕ) → front_length bytes ≤ length bytes
 front_within bytes = either_way (λ (n : ℕ). n ≤ length bytes) (opens bytes) 0 (token_length bytes) (λ _. omega arith) (λ _. (stands bytes).0)
-
-is_empty : (xs : List ℕ) → (length xs == 0) ≡ true → xs ≡ []
-is_empty [] e = refl
-is_empty (x ∷ xs) e = absurd (grind (arith, nat_tests))
 
 -- ---- the gap
 

@@ -1,6 +1,6 @@
 -- What follows from how sources are divided into tokens.
 use Rattle.std.proofs.Common.{◌≡◌, ℕ, ◌<◌, Bool, true, false, List, [], ◌∷◌, ◌++◌, length, drop, length-append, refl, sym, ap, ◌∙◌, subst, arith}
-use Rattle.std.specs.Prelude.{◌||◌, ◌==◌}
+use Rattle.std.specs.Prelude.{◌==◌}
 use Rattle.std.proofs.lemmas.List.{append-nil}
 use Rattle.std.proofs.lemmas.Bool.Decides.{nat_tests}
 use Rattle.cg_base.specs.declared.place.Place.{Place}
@@ -18,6 +18,7 @@ use Rattle.cg_lexer.specs.Next.{Leaves, IsUnknown, IsOpen, IsFault, Gives}
 use Rattle.cg_lexer.specs.Laws.{OneFault}
 use Rattle.cg_lexer.proofs.Gaps.{piece_there, one_gap}
 use Rattle.cg_lexer.proofs.Munch.{text_dark, some_text, clear, one_front}
+use Rattle.cg_base.proofs.Truths.{either_first}
 
 -- ---- one token
 
@@ -103,10 +104,6 @@ unknown_clear at place u = clear u.rest u.left (rw (u.no_comment.0, u.no_comment
 -- what is left where a fault stands, and it alone
 taken_there : (at after : Cursor) (t : Lexeme) (rest : List ℕ) (place : Place) → Leaves at rest place → piece_length rest ≡ 0 → Takes at t after → rest ≡ t.text ++ after.rest
 taken_there at after t rest place l clear k = (one_gap l.gap k.gap rest (t.text ++ after.rest) l.space k.space clear (taken_clear at after t k) (sym l.parts ∙ k.parts)).1
-
-either_first : (a b : Bool) → (a || b) ≡ false → a ≡ false
-either_first true b e = cc
-either_first false b e = refl
 
 -- where a fault stands no token does
 pub none_at_fault : (at after : Cursor) (t : Lexeme) (f : LexFault) → IsFault at f → Takes at t after → ⊥

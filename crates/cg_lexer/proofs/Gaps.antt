@@ -12,6 +12,7 @@ use Rattle.cg_base.proofs.Spans.{either_way, spans, front_passes}
 use Rattle.cg_lexer.specs.Bytes.{inline}
 use Rattle.cg_lexer.specs.Gaps.{opens, closes, Inside, nothing, byte, nested, inside_text, closed_text, IsInside, Piece, blank, line, block, piece_text, gap_text, IsPiece, IsGap}
 use Rattle.cg_lexer.specs.Front.{closing, closed_length, block_length, line_length, piece_length, IsSpaced}
+use Rattle.cg_base.proofs.Truths.{either_false}
 
 -- all that follows some bytes
 pub tail_whole : (bytes : List ℕ) (n : ℕ) → take (length bytes - n) (drop n bytes) ≡ drop n bytes
@@ -135,9 +136,6 @@ closed_one n k b c bytes h some e = record {
 two_same : (b c : ℕ) (bytes text rest : List ℕ) → c ∷ bytes ≡ text ++ (45 ∷ 125 ∷ rest) → take 2 (b ∷ (text ++ codes "-}")) ≡ b ∷ c ∷ []
 two_same b c bytes [] rest e = cc
 two_same b c bytes (d ∷ text) rest e = cc
-
-either_false : (x y : Bool) → x ≡ false → y ≡ false → (x || y) ≡ false
-either_false x y p q = rw (p, q) refl
 
 passed_one : (n k : ℕ) (b c : ℕ) (bytes : List ℕ) → opens (b ∷ c ∷ bytes) ≡ false → closes (b ∷ c ∷ bytes) ≡ false → Ends n (c ∷ bytes) k → Ends n (b ∷ c ∷ bytes) (1 + k)
 passed_one n k b c bytes o s e =

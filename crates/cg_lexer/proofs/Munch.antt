@@ -16,6 +16,7 @@ use Rattle.cg_lexer.specs.Gaps.{opens, dashes}
 use Rattle.cg_lexer.specs.Tokens.{words, is_word, short_signs, middle_signs, long_signs, is_sign, IsTextOf, IsLongest}
 use Rattle.cg_lexer.specs.Front.{piece_length, letter, short, middle, long, short_length, middle_length, sign_length, number_length, number_value, token_length, kind_of}
 use Rattle.cg_lexer.proofs.Numbers.{value_is, number_starts, number_within, number_there, spans_within}
+use Rattle.cg_base.proofs.Truths.{either}
 
 -- a text that is on a list has what each text of the list has
 among : (P : List ℕ → Type 0) (texts : List (List ℕ)) (text : List ℕ) → AllByRecursion P texts → list_any (bytes_eq text) texts ≡ true → P text
@@ -25,10 +26,6 @@ among P (t ∷ texts) text all e = one (bytes_eq text t) refl e (among P texts t
     one : (b : Bool) → bytes_eq text t ≡ b → (b || list_any (bytes_eq text) texts) ≡ true → (list_any (bytes_eq text) texts ≡ true → P text) → P text
     one true h k later = subst P (sym ((bytes_eq-Decides text t).0 h)) all.0
     one false h k later = later k
-
-either : {P : Type 0} (a b : Bool) → (a || b) ≡ true → (a ≡ true → P) → (b ≡ true → P) → P
-either true b e f g = f refl
-either false b e f g = g e
 
 -- a sign is on one of the lists, or the wildcard
 by_sign : (P : List ℕ → Type 0) (text : List ℕ) → is_sign text ≡ true → (list_any (bytes_eq text) short_signs ≡ true → P text) → (list_any (bytes_eq text) middle_signs ≡ true → P text) → (list_any (bytes_eq text) long_signs ≡ true → P text) → P (codes "_") → P text

@@ -14,6 +14,7 @@ use Rattle.cg_lexer.specs.declared.number.Base.TheVariants.{Decimal, Hexadecimal
 use Rattle.cg_lexer.specs.Bytes.{digit_value, digit_of}
 use Rattle.cg_lexer.specs.Numbers.{base_size, base_mark, number_from, value_of, IsNumber}
 use Rattle.cg_lexer.specs.Front.{number_base, length_in, number_length, number_value}
+use Rattle.cg_base.proofs.NumberLaws.{no_word}
 
 -- ---- values
 
@@ -31,9 +32,6 @@ number_from-grows base n (b ∷ digits) some =
 
 number_from-drop : (base : ℕ) (digits : List ℕ) (i n : ℕ) → i < length digits → number_from base n (drop i digits) ≡ number_from base (n * base + digit_value (get_or digits i 0)) (drop (i + 1) digits)
 number_from-drop base digits i n h = rw (add-one) (ap (number_from base n) (drop-cons digits i 0 h))
-
-no_word : (n : ℕ) → word64 n ≡ None → 2 ^ 64 ≤ n
-no_word n e = grind (arith, nat_tests)
 
 -- where a front is too large already, so is the whole
 pub too_large : (base : Base) (digits : List ℕ) (i n size : ℕ) → size ≡ base_size base → i < length digits → number_from (base_size base) n (drop i digits) ≡ number_from (base_size base) 0 digits → word64 (n * size + digit_value (get_or digits i 0)) ≡ None → None ≡ value_of base digits

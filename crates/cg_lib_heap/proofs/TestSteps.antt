@@ -19,6 +19,7 @@ use Rattle.cg_heap.specs.declared.cell.Fresh.{Fresh}
 use Rattle.cg_heap.specs.Stored.{Stored, cell_at, changed, in_cell, in_place, with_cell, with_element, without_answer}
 use Rattle.cg_lib_heap.specs.Library.{HasWords, granted, words_at, words_in}
 use Rattle.cg_lib_heap.proofs.AllocateSteps.{found}
+use Rattle.cg_lib_value.proofs.MadeSteps.{record_is}
 
 pub one_higher : (p : ℕ) (b : Bool) (f : Fresh) (s : Stored) → (granted p b f (changed without_answer p s)).store.top ≤ s.top + 1
 one_higher p true f s = let same = top_stays without_answer p s in omega arith
@@ -43,9 +44,6 @@ words_stay p i n s has =
     rw is (words_or_same (nat_lt i (length (words_at p s))) p s (slice_set (words_at p s) i n) has)
 
 -- the type of a record with one field
-
-record_is : (ps : List Part) (sigil : Sigil) → type_of (ty.Fields ps sigil) ≡ fields (to_parts (map part_of ps)) sigil
-record_is ps sigil = search (rules, the_lemmas)
 
 bool_is : type_of ty.Bool ≡ bool
 bool_is = search (rules, the_lemmas)

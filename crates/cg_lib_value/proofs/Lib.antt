@@ -1,2 +1,2 @@
 mod LibrarySteps
-mod MadeSteps
+pub mod MadeSteps

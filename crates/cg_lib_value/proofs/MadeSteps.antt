@@ -9,7 +9,7 @@ use Rattle.cg_base.specs.declared.ty.Ty.{Ty, the_lemmas as type_lemmas}
 use Rattle.cg_base.specs.declared.ty.Ty.TheVariants as ty
 use Rattle.cg_base.specs.Types.{fields, part_of, piece_list, to_parts, type_of}
 use Rattle.cg_lib_value.specs.Library.{later_answers, new_record}
-use Rattle.cg_value.proofs.FormSteps.{gone_is}
+use Rattle.cg_value.proofs.FormSteps.{gone_is, fields_is as fields_are}
 use Rattle.cg_value.specs.declared.value.Value.{Value, the_lemmas as value_lemmas}
 use Rattle.cg_value.specs.declared.value.Value.TheVariants.{Fields, Gone}
 use Rattle.cg_value.specs.Values.{gone, parts, to_vals, value_of}
@@ -33,11 +33,8 @@ later_some (b ∷ bs) h = sym (take_all (suc (length bs) - 1) bs (omega arith))
 pub gone_more : (vs : List Value) (n : ℕ) → map value_of vs ≡ replicate n gone → map value_of (vs ++ Gone ∷ []) ≡ replicate (n + 1) gone
 gone_more vs n e = map-append value_of vs (Gone ∷ []) ∙ ap (λ l. l ++ value_of Gone ∷ []) e ∙ ap (λ v. replicate n gone ++ v ∷ []) gone_is ∙ one_more gone n
 
-record_is : (ps : List Part) (sigil : Sigil) → type_of (ty.Fields ps sigil) ≡ fields (to_parts (map part_of ps)) sigil
+pub record_is : (ps : List Part) (sigil : Sigil) → type_of (ty.Fields ps sigil) ≡ fields (to_parts (map part_of ps)) sigil
 record_is ps sigil = search (rules, type_lemmas)
-
-fields_are : (fs : List Value) → value_of (Fields fs) ≡ parts (to_vals (map value_of fs))
-fields_are fs = search (rules, value_lemmas)
 
 pub new_record_is : (t : Ty) (ps : List Part) (sigil : Sigil) (fs : List Value) → t ≡ ty.Fields ps sigil → map value_of fs ≡ replicate (length ps) gone
     → value_of (Fields fs) ≡ new_record (type_of t)

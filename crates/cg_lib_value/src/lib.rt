@@ -1,5 +1,8 @@
-//! The library on values, [`lib_value`]: what each of its functions gives that takes no function, and what it costs beside the nodes
-//! that are evaluated. docs/LANGUAGE.md, "The library", says the lines.
+//! Stage: evaluation. The library on values, for the functions that take no function.
+//! Role: public.
+//! Promises: `lib_value` and `lib_cost`, exactly as defined.
+//! May cite: anything of its stage and of those below; no crate above.
+//! docs/LANGUAGE.md, "The library", says the lines.
 #![tactic(auto)]
 
 mod library;

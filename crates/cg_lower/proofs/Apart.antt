@@ -1,5 +1,5 @@
 -- No two arrow types that are collected are one.
-use Rattle.std.proofs.Common.{◌≡◌, ◌⊎◌, inl, inr, ⊎_elim, ℕ, zero, suc, ◌||◌, Bool, true, false, List, [], ◌∷◌, ◌++◌, length, slice_get, Some, refl, sym, ap, subst, ◌∙◌, if◌then◌else◌}
+use Rattle.std.proofs.Common.{◌≡◌, ◌⊎◌, inl, inr, ⊎_elim, ℕ, zero, suc, Bool, true, false, List, [], ◌∷◌, ◌++◌, length, slice_get, Some, refl, sym, ap, subst, ◌∙◌, if◌then◌else◌}
 use Rattle.std.specs.List.{list_any}
 use Rattle.cg_base.specs.Same.{same_type}
 use Rattle.cg_base.specs.Types.{Tau}
@@ -7,6 +7,8 @@ use Rattle.cg_lower.specs.Calls.{AreApart}
 use Rattle.cg_lower.specs.Collected.{with_arrows}
 use Rattle.cg_lower_tables.specs.Found.{with_arrow}
 use Rattle.cg_inst.proofs.SameType.{same_is, same_self}
+use Rattle.cg_ctree.proofs.Munch.{either_false as or_right}
+use Rattle.cg_base.proofs.Truths.{either_first as or_left}
 
 -- an element of a list with one more at the end
 last_or : (xs : List Tau) (x y : Tau) (i : ℕ) → slice_get (xs ++ x ∷ []) i ≡ Some y → (slice_get xs i ≡ Some y) ⊎ ((i ≡ length xs) × (x ≡ y))
@@ -14,14 +16,6 @@ last_or [] x y zero e = inr (refl, (cc))
 last_or [] x y (suc i) e = absurd (cc)
 last_or (z ∷ xs) x y zero e = inl e
 last_or (z ∷ xs) x y (suc i) e = ⊎_elim (λ h. inl h) (λ h. inr (ap suc h.0, h.1)) (last_or xs x y i e)
-
-or_left : (a b : Bool) → a || b ≡ false → a ≡ false
-or_left true b e = e
-or_left false b e = refl
-
-or_right : (a b : Bool) → a || b ≡ false → b ≡ false
-or_right true b e = absurd (cc)
-or_right false b e = e
 
 -- a type that is among none is none of them
 other : (arrows : List Tau) (t u : Tau) (i : ℕ) → list_any (λ v. same_type v t) arrows ≡ false → slice_get arrows i ≡ Some u → u ≡ t → ⊥

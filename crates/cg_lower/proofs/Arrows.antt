@@ -1,5 +1,5 @@
 -- The arrow types of calls through function values are among those that are collected.
-use Rattle.std.proofs.Common.{◌≡◌, ℕ, ◌||◌, Bool, true, false, List, [], ◌∷◌, ◌++◌, slice_get, Some, refl, ◌∙◌, if◌then◌else◌}
+use Rattle.std.proofs.Common.{◌≡◌, ℕ, Bool, true, false, List, [], ◌∷◌, ◌++◌, slice_get, Some, refl, ◌∙◌, if◌then◌else◌}
 use Rattle.std.proofs.lemmas.List.Folds.{list_any-append}
 use Rattle.std.specs.List.{AllByRecursion, flat_map, list_any}
 use Rattle.cg_base.specs.Same.{same_type}
@@ -10,20 +10,13 @@ use Rattle.cg_lower_tables.specs.Found.{with_arrow}
 use Rattle.cg_inst.proofs.SameType.{same_self}
 use Rattle.cg_lower_def.specs.Simulated.{CallsListed, IsListed}
 use Rattle.cg_lower.proofs.Lists.{all_follow, part_holds, parts_hold}
+use Rattle.cg_base.proofs.Truths.{or_true as or_of_right, or_left as or_of_left}
 
 -- an arrow type is among these
 abbrev pub IsAmong : List Tau → Tau → Type 0
 IsAmong arrows t = list_any (λ u. same_type u t) arrows ≡ true
 
 -- ---- one more
-
-or_of_left : (a b : Bool) → a ≡ true → (a || b) ≡ true
-or_of_left true b e = refl
-or_of_left false b e = absurd (cc)
-
-or_of_right : (a b : Bool) → b ≡ true → (a || b) ≡ true
-or_of_right true b e = refl
-or_of_right false b e = e
 
 stays_in_front : (arrows more : List Tau) (t : Tau) → IsAmong arrows t → IsAmong (arrows ++ more) t
 stays_in_front arrows more t h =

@@ -6,7 +6,7 @@ use Rattle.std.specs.Global.{Vec}
 use Rattle.cg_base.specs.Same.{same_type}
 use Rattle.cg_base.specs.Types.{Tau, unit}
 use Rattle.cg_graphs.specs.Orders.{lists}
-use Rattle.cg_lower.proofs.CollectSteps.{core_is, mapped_more}
+use Rattle.cg_lower.proofs.CollectSteps.{mapped_more}
 use Rattle.cg_lower.specs.Calls.{AreApart, calls_in, calls_of, nodes_called, put_tag, tags_of}
 use Rattle.cg_lower.specs.Collected.{Copy, entries_of}
 use Rattle.cg_lower.specs.Copies.{pair_of}
@@ -18,6 +18,7 @@ use Rattle.cg_inst.proofs.SameType.{same_is, same_self}
 use Rattle.cg_lower_def.specs.Dispatch.{tags_from}
 use Rattle.cg_lower_def.specs.Lowered.{arrow_number}
 use Rattle.cg_typing.specs.Instances.{Entry}
+use Rattle.cg_core.proofs.Operands.{core_is}
 
 -- ---- lists
 

@@ -30,6 +30,8 @@ use Rattle.cg_inst.proofs.Standing.{keeps_on}
 use Rattle.cg_lower_def.specs.Structs.{IsCovered}
 use Rattle.cg_inst_types.specs.Places.{Keeps}
 use Rattle.cg_typing.specs.Instances.{Instance}
+use Rattle.cg_lower_laws.proofs.PrintedNodes.{all_append as both_hold}
+use Rattle.cg_core.proofs.Operands.{core_is}
 
 -- ---- lists, one behind the other
 
@@ -46,10 +48,6 @@ with_both (x ∷ xs) ys known = with_both xs ys (with_arrow known x)
 all_stay : (old new : List Tau) → Keeps old new → (ts : List Tau) → AllByRecursion (IsCovered old) ts → AllByRecursion (IsCovered new) ts
 all_stay old new kept [] h = tt
 all_stay old new kept (t ∷ ts) h = (covered_stays old new kept t h.0, all_stay old new kept ts h.1)
-
-pub both_hold : {A : Type 0} (P : A → Type 0) (xs ys : List A) → AllByRecursion P xs → AllByRecursion P ys → AllByRecursion P (xs ++ ys)
-both_hold P [] ys h k = k
-both_hold P (x ∷ xs) ys h k = (h.0, both_hold P xs ys h.1 k)
 
 pub flat_both : {A B : Type 0} (f : A → List B) (xs ys : List A) → flat_map f (xs ++ ys) ≡ flat_map f xs ++ flat_map f ys
 flat_both f [] ys = refl
@@ -102,18 +100,12 @@ handed_on (Err e) f h = h
 
 -- ---- nodes
 
-pub core_is : (t : Term Typed) → the_core t ≡ term (note_of t.note) (the_core_form t.form)
-core_is t = search core_lemmas
-
 -- a function that is named, and one that isn't
 pub named_called : (t : Term Typed) (s : Shape Note) → the_core_form t.form ≡ s → value_called (term (note_of t.note) s) ≡ value_called (the_core t)
 named_called t s e = ap value_called (sym (core_is t ∙ ap (term (note_of t.note)) e))
 
 pub app_called : (t : Term Typed) (f x : Tree Note) → the_core_form t.form ≡ app f x → value_called f ≡ called_at (the_core t)
 app_called t f x e = ap called_at (sym (core_is t ∙ ap (term (note_of t.note)) e))
-
-pub type_of_node : (t : Term Typed) → type_of t.note.ty ≡ type_at (the_core t)
-type_of_node t = sym (ap type_at (core_is t))
 
 -- ---- one more of a list
 

@@ -1,5 +1,5 @@
 -- The functions of instances, part by part.
-use Rattle.std.proofs.Common.{◌≡◌, ℕ, suc, ◌+◌, ◌<◌, List, [], ◌∷◌, ◌++◌, drop, get_or, length, set, take, sym, ap, ◌∙◌, arith}
+use Rattle.std.proofs.Common.{◌≡◌, ℕ, ◌+◌, ◌<◌, List, [], ◌∷◌, ◌++◌, drop, get_or, length, set, take, sym, ap, ◌∙◌, arith}
 use Rattle.std.proofs.lemmas.List.{length-take-le, take_more}
 use Rattle.cg_ctree.specs.declared.tree.CDecl.{CDecl}
 use Rattle.cg_ctree.specs.declared.tree.CTy.{CTy}
@@ -7,17 +7,8 @@ use Rattle.cg_core.specs.declared.term.Form.{the_lemmas}
 use Rattle.cg_lower_def.specs.CTypes.{declared}
 use Rattle.cg_lower_def.specs.Functions.{locals_from}
 use Rattle.cg_lower_def.specs.Places.{local_name}
-use Rattle.cg_lower.proofs.MoveSteps.{item_is, rest_more}
-
-locals_more : (k : ℕ) (ts : List CTy) (t : CTy) → locals_from k (ts ++ t ∷ []) ≡ locals_from k ts ++ declared t (local_name (k + length ts)) ∷ []
-locals_more k [] t = ap (λ n. declared t (local_name n) ∷ []) (none k)
-  where
-    none : (k : ℕ) → k ≡ k + 0
-    none k = omega arith
-locals_more k (u ∷ ts) t = ap (λ z. declared u (local_name k) ∷ z) (locals_more (suc k) ts t ∙ ap (λ n. locals_from (suc k) ts ++ declared t (local_name n) ∷ []) (shifted k (length ts)))
-  where
-    shifted : (k n : ℕ) → suc k + n ≡ k + suc n
-    shifted k n = omega arith
+use Rattle.cg_lower_nodes.proofs.MoveSteps.{item_is, rest_more}
+use Rattle.cg_lower_iterators.proofs.Written.{locals_more}
 
 -- one local more is declared, whose type is taken out of its place
 pub declared_more : (all items : List CTy) (i at : ℕ) (r y : CTy) (x : List ℕ) (decls : List CDecl) → i < length all → at ≡ i → drop i items ≡ drop i all → r ≡ get_or items i r → x ≡ local_name at

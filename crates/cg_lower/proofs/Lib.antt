@@ -2,7 +2,6 @@ pub mod Arrows
 pub mod DispatchSteps
 pub mod FunctionSteps
 pub mod Lists
-mod MoveSteps
 pub mod Placed
 pub mod PrintedStructs
 pub mod ProgramSteps

@@ -16,7 +16,7 @@ use Rattle.cg_lower.proofs.Lists.{contains_mapped, mapped_only}
 
 -- ---- items of nodes
 
-arrow_item : (arrows j : ℕ) → j < arrows → item_of arrows j ≡ of_arrow j
+pub arrow_item : (arrows j : ℕ) → j < arrows → item_of arrows j ≡ of_arrow j
 arrow_item arrows j h = ap (λ b. if b then of_arrow j else of_instance (j - arrows)) (lt-ltb j arrows h)
 
 instance_item : (arrows k : ℕ) → item_of arrows (arrows + k) ≡ of_instance k

@@ -34,6 +34,7 @@ use Rattle.cg_mono.specs.declared.copies.Mono.{Mono}
 use Rattle.cg_mono.specs.Monos.{copies_in}
 use Rattle.cg_graphs.specs.Ranks.{in_order}
 use Rattle.cg_typing.specs.Instances.{Entry}
+use Rattle.cg_inst.proofs.Standing.{within}
 
 -- ---- one function
 
@@ -46,11 +47,6 @@ mapped_past : {A B : Type 0} (f : A → B) (xs : List A) (i : ℕ) → slice_get
 mapped_past f [] i e = refl
 mapped_past f (y ∷ ys) zero e = absurd (cc)
 mapped_past f (y ∷ ys) (suc i) e = mapped_past f ys i e
-
-within : {A : Type 0} (xs : List A) (i : ℕ) (x : A) → slice_get xs i ≡ Some x → i < length xs
-within [] i x e = absurd (cc)
-within (y ∷ ys) zero x e = omega arith
-within (y ∷ ys) (suc i) x e = let h = within ys i x e in omega (arith, h)
 
 at_or : (xs : List Tau) (i : ℕ) (x d : Tau) → slice_get xs i ≡ Some x → get_or xs i d ≡ x
 at_or [] i x d e = absurd (cc)
@@ -119,9 +115,6 @@ by_less false x y e = absurd (cc)
 by_more : (b : Bool) (x y : Item) → b ≡ false → (if b then x else y) ≡ y
 by_more true x y e = absurd (cc)
 by_more false x y e = refl
-
-pub arrow_item : (arrows i : ℕ) → i < arrows → item_of arrows i ≡ of_arrow i
-arrow_item arrows i h = by_less (nat_lt i arrows) (of_arrow i) (of_instance (i - arrows)) (grind (arith, h))
 
 pub instance_item : (arrows i : ℕ) → arrows ≤ i → item_of arrows i ≡ of_instance (i - arrows)
 instance_item arrows i h = by_more (nat_lt i arrows) (of_arrow i) (of_instance (i - arrows)) (grind (arith, h))

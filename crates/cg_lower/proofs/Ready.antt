@@ -9,7 +9,6 @@ use Rattle.cg_base.specs.Types.{Tau}
 use Rattle.cg_lower.specs.Collected.{Copy, arrows_in, called_at, entries_of, list_of, nodes_maybe, parts_of_arrows, table_in, turned_by, types_of, whole_of}
 use Rattle.cg_core.specs.Terms.{Note, Tree}
 use Rattle.cg_heap.specs.declared.foreign.Link.{Link}
-use Rattle.cg_inst_laws.proofs.Mentions.{types_back}
 use Rattle.cg_lower_laws.proofs.Tables.{covered_are_declared}
 use Rattle.cg_lower_laws.proofs.Typings.{all_back, all_front}
 use Rattle.cg_lower_def.specs.CTypes.{IsDeclared}
@@ -28,6 +27,7 @@ use Rattle.cg_update.specs.Machines.{type_of_part}
 use Rattle.cg_lower.specs.Promises.{AreFew, IsFewMaybe, IsProgramOf}
 use Rattle.cg_lower.proofs.Arrows.{IsAmong, arrows_collected, calls_listed}
 use Rattle.cg_lower.proofs.Lists.{all_follow, mapped_hold, part_holds}
+use Rattle.cg_typing.proofs.Lists.{types_back}
 
 -- ---- copies
 

@@ -15,9 +15,9 @@ ghost use Rattle.cg_lower.specs.Lowerings.{call_of, dispatch_by, dispatch_body_b
 
 use crate::function::{given, taken};
 use cg_base::{Items, Memory, Ty, Word};
+use cg_ctree::{CBody, CCase, CDecl, CFun, COpnd, CPath, CRhs, CStmt, CTy};
 use cg_lower_nodes::numbered;
 use cg_lower_tables::Structs;
-use cg_ctree::{CBody, CCase, CDecl, CFun, COpnd, CPath, CRhs, CStmt, CTy};
 use std::alloc::Global;
 
 // The path to a variable, by a letter and a number.

@@ -20,15 +20,15 @@ ghost use Rattle.cg_lower.specs.Lowerings.{Begins, IsHead, library_low};
 ghost use Rattle.cg_lower.specs.Promises.{IsFewIn};
 
 use cg_base::{Fun, Items, Lib, Memory, Name, Ty, Word};
+use cg_core::{Term, Typed};
+use cg_ctree::{CBody, CDecl, CFun, CStmt, CTy};
+use cg_eval_operations::is_iterator;
 use cg_lower_iterators::iterator_body;
 use cg_lower_library::library_body;
 use cg_lower_nodes::{Base, Lowering, Place, numbered};
-use cg_core::{Term, Typed};
 use cg_lower_tables::Structs;
 use cg_lower_terms::lower_term;
-use cg_ctree::{CBody, CDecl, CFun, CStmt, CTy};
 use cg_mono::Copy;
-use cg_eval_operations::is_iterator;
 use std::alloc::Global;
 use std::mem;
 

@@ -16,10 +16,9 @@ ghost use Rattle.cg_lower.specs.Copies.{copies_of, pair_of};
 use crate::nodes::nodes_of_body;
 use cg_base::{Fun, Items, Memory, Part, Ty};
 use cg_core::{Form, Term, Typed};
-use cg_lower_tables::Places;
-use cg_lower_tables::Structs;
-use cg_mono::{Copy, Mono};
 use cg_eval_operations::is_iterator;
+use cg_lower_tables::{Places, Structs};
+use cg_mono::{Copy, Mono};
 use std::alloc::Global;
 
 /// What is known of a list of instances while its functions are lowered: the list with the arrow types of its calls through function values,

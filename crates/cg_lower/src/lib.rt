@@ -1,6 +1,8 @@
-//! Lowering, [`lower`]: the C program of a list of instances, and that it does what the update semantics does. What that C needs is gathered
-//! first: [`collect`] its structs and the arrow types of its calls through function values, [`calls`] which instance calls which, and [`tags`]
-//! which is of which arrow type. docs/LANGUAGE.md, "The C of instances", says it in words.
+//! Stage: C. The C program of a list of instances, and what that program needs: structs, arrow types, calls.
+//! Role: public.
+//! Promises: `lower`, `collect`, `calls` and `tags`, exactly; laws: `lowered_simulates`, `lowered_is_printable`.
+//! May cite: anything of its stage and of those below; no crate above.
+//! docs/LANGUAGE.md, "The C of instances", says it in words.
 #![tactic(auto)]
 
 mod dispatch;

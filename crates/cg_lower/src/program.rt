@@ -19,13 +19,13 @@ ghost use Rattle.cg_typing.specs.Instances.{Entry};
 
 use crate::dispatch::dispatch;
 use crate::function::lower_function;
-use cg_base::{Items, Memory};
-use cg_lower_nodes::Lowering;
 use crate::gather::{Collected, collect};
 use crate::graph::{calls, tags};
+use cg_base::{Items, Memory};
 use cg_ctree::{CFun, CProgram};
-use cg_mono::Mono;
 use cg_graphs::by_rank;
+use cg_lower_nodes::Lowering;
+use cg_mono::Mono;
 use std::alloc::Global;
 
 // The places of the instances of the arrow type of a number; none, where there is no such arrow type.

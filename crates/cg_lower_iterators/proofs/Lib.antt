@@ -1,2 +1,2 @@
 mod Typed
-mod Written
+pub mod Written

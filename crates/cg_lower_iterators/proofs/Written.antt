@@ -1,6 +1,6 @@
 -- What statements that are written stand for, and locals that are declared.
 use Rattle.std.proofs.Common.{◌≡◌, ℕ, suc, ◌+◌, ◌<◌, List, [], ◌∷◌, ◌++◌, None, get_or, length, map, take, refl, sym, ap, ◌∙◌, arith}
-use Rattle.std.proofs.lemmas.List.{append-nil, length-map, length-take, map-append, take_more}
+use Rattle.std.proofs.lemmas.List.{length-map, length-take, map-append, take_more}
 use Rattle.std.specs.Prelude.{slice_get}
 use Rattle.cg_base.specs.declared.ty.Ty.{Ty, the_lemmas as type_lemmas}
 use Rattle.cg_base.specs.Types.{type_of, unit}

@@ -20,8 +20,8 @@ use crate::loops::loop_code;
 use crate::spots::{Spot, operand};
 use crate::types::{element, function_type};
 use cg_base::{Items, Lib, Memory, Ty, Word};
-use cg_lower_nodes::Lowering;
 use cg_ctree::{CBody, CDecl, CStmt};
+use cg_lower_nodes::Lowering;
 use cg_typing_parts::library_type;
 use std::alloc::Global;
 

@@ -1,4 +1,8 @@
-//! The C of iterators, [`iterator_body`]. docs/LANGUAGE.md, "The C of instances", says it in words.
+//! Stage: C. The C of iterators.
+//! Role: part of `cg_lower`.
+//! Promises: `iterator_body`, exactly as defined.
+//! May cite: anything below it, of its stage and of those below; no crate above.
+//! docs/LANGUAGE.md, "The C of instances", says it in words.
 #![tactic(auto)]
 
 mod arrays;

@@ -13,8 +13,8 @@ ghost use Rattle.cg_lower_iterators.specs.Lines.{calling, line_of, operand_at, r
 
 use crate::spots::{Spot, operand, operands, target};
 use cg_base::{Items, Memory, Name, Word};
-use cg_lower_nodes::numbered;
 use cg_ctree::{COp, COpnd, CRhs, CStmt};
+use cg_lower_nodes::numbered;
 use std::alloc::Global;
 
 // What is assigned: what is at a spot, an operation in a word (the first is that of its result), the length of the array, an element of it,

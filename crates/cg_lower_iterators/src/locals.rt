@@ -11,8 +11,8 @@ ghost use Rattle.cg_lower_iterators.specs.Turns.{kind_type as type_of_kind};
 
 use crate::types::{function_type, given_by, taken_by};
 use cg_base::{Items, Memory, Ty, Word};
-use cg_lower_nodes::{Lowering, numbered};
 use cg_ctree::{CDecl, CTy};
+use cg_lower_nodes::{Lowering, numbered};
 use std::alloc::Global;
 
 // A local is of a word, of what the iterator's function takes, of what that gives, or of what the iterator gives.

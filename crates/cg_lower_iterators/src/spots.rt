@@ -6,8 +6,8 @@ ghost use Rattle.cg_lower_def.specs.Places.{operand as operand_of};
 ghost use Rattle.cg_lower_iterators.specs.Lines.{place_at, target_at};
 
 use cg_base::{Items, Memory};
-use cg_lower_nodes::{Base, Step, path};
 use cg_ctree::{COpnd, CPath};
+use cg_lower_nodes::{Base, Step, path};
 use std::alloc::Global;
 
 // A number, a field of the argument, a local, a field of a local, and the tag and a payload of a local's field 1.

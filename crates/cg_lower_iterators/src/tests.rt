@@ -4,8 +4,7 @@
 use crate::iterator_body;
 use cg_base::{Items, Lib, Memory, Ty, Word};
 use cg_lower_nodes::Lowering;
-use cg_lower_tables::Places;
-use cg_lower_tables::Structs;
+use cg_lower_tables::{Places, Structs};
 use std::alloc::Global;
 use std::test::Fail;
 

@@ -65,14 +65,9 @@ use Rattle.cg_lower_laws.proofs.Runs.{runs_branch, runs_built, runs_done, runs_n
 use Rattle.cg_lower_laws.proofs.Standing.{KeepsNumber, Local, Reaches, Scene, computes, number_judged, reaches_on, replaced, scene_set, scene_whole, sets, stand_at}
 use Rattle.cg_lower_laws.proofs.Terms.{lay_c}
 use Rattle.cg_lower_laws.proofs.Turning.{MachinePart, less_is, machine_front, machine_part, middle_spliced, sum_is, turn_runs, type_is}
+use Rattle.cg_base.proofs.Sequences.{length_set}
 
 -- ---- arrays that are written
-
--- there are as many behind an element that is set
-length_set : (ns : List ℕ) (i k : ℕ) → length (slice_set ns i k) ≡ length ns
-length_set [] i k = refl
-length_set (n ∷ ns) zero k = refl
-length_set (n ∷ ns) (suc i) k = ap suc (length_set ns i k)
 
 -- and all of them stay below a number
 all_set : (m : ℕ) (ns : List ℕ) (i k : ℕ) → nat_lt k m ≡ true → list_all (λ n. nat_lt n m) ns ≡ true → list_all (λ n. nat_lt n m) (slice_set ns i k) ≡ true

@@ -17,10 +17,11 @@ use Rattle.cg_lower_def.specs.Functions.{body_of, locals_from}
 use Rattle.cg_lower_def.specs.Lowered.{Low}
 use Rattle.cg_lower_def.specs.Places.{argument_name, local_name, operand}
 use Rattle.cg_lower_laws.proofs.Frames.{Is, Fresh, Keeps}
-use Rattle.cg_lower_laws.proofs.Names.{apart, itself}
+use Rattle.cg_lower_laws.proofs.Names.{apart}
 use Rattle.cg_lower_laws.proofs.Operands.{IsReadable, Reads, reads}
 use Rattle.cg_lower_laws.proofs.Runs.{Runs, Answers}
 use Rattle.cg_lower_laws.proofs.Terms.{lay_c}
+use Rattle.cg_base.proofs.Sequences.{itself}
 
 -- ---- the frame that a call begins with
 

@@ -43,7 +43,7 @@ use Rattle.cg_lower_laws.proofs.NumberLoops as numbers
 use Rattle.cg_lower_laws.proofs.Operands.{IsReadable, machine_readable}
 use Rattle.cg_lower_laws.proofs.Runs.{Runs, runs_branch, runs_none, runs_on}
 use Rattle.cg_lower_laws.proofs.Standing.{Local, Reaches, Scene, number_judged, reaches_branch, reaches_on, scene_whole, sets}
-use Rattle.cg_lower_laws.proofs.Stopping.{Answered, alternatives, answer_reads, answer_set, answered, both, carried_kept, first_leads, flag_leads, iterate_leads, result_carried, result_iterate, result_long, result_second, result_tagged, result_unset, tag_kept}
+use Rattle.cg_lower_laws.proofs.Stopping.{Answered, answer_reads, answer_set, answered, both, carried_kept, first_leads, flag_leads, iterate_leads, result_carried, result_iterate, result_long, result_second, result_tagged, result_unset, tag_kept}
 use Rattle.cg_lower_laws.proofs.Stopping as stopping
 use Rattle.cg_lower_laws.proofs.Terms.{lay_c}
 use Rattle.cg_lower_laws.proofs.Turning.{numeral, turn_runs}

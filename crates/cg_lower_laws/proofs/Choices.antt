@@ -1,5 +1,5 @@
 -- Choices: `if` and `case`, whose value a local gets in each branch.
-use Rattle.std.proofs.Common.{◌≡◌, ℕ, zero, suc, ◌+◌, ◌*◌, ◌%◌, ◌^◌, ◌<◌, ◌≤◌, ◌&&◌, Bool, true, false, cond, Option, Some, List, [], ◌∷◌, ◌++◌, length, length-append, refl, sym, ap, ◌∙◌, subst, arith, IsTrue, nat_eq}
+use Rattle.std.proofs.Common.{◌≡◌, ℕ, zero, suc, ◌+◌, ◌*◌, ◌%◌, ◌^◌, ◌<◌, ◌≤◌, Bool, true, false, cond, Option, Some, List, [], ◌∷◌, ◌++◌, length, length-append, refl, sym, ap, ◌∙◌, subst, arith, IsTrue, nat_eq}
 use Rattle.std.proofs.lemmas.Bool.{eqb-true, false_from_ne_true, lt-ltb}
 use Rattle.std.proofs.Math.Nat.{mod-eq_of_lt}
 use Rattle.cg_base.specs.declared.kind.Word.{Word}
@@ -46,6 +46,7 @@ use Rattle.cg_lower_laws.proofs.Nodes.{Sim, Node, node_is}
 use Rattle.cg_lower_laws.proofs.Operands.{below_is, keeps_payload, keeps_tag, machine_readable, readable, Reads, reads, write_whole}
 use Rattle.cg_lower_laws.proofs.Runs.{Runs, runs_branch, runs_none, runs_on, runs_plain}
 use Rattle.cg_lower_laws.proofs.Terms.{AreKept, kept_later, kept_push, lay_c, next_local, Ran}
+use Rattle.cg_base.proofs.Truths.{both}
 
 -- ---- numbers
 
@@ -68,11 +69,6 @@ equation_read n i hn hi b e = rw (mod-eq_of_lt hn, mod-eq_of_lt hi, e) (by_flag 
 flag_small : (b : Bool) → flag b < 2 ^ 8
 flag_small true = omega arith
 flag_small false = omega arith
-
--- two tests that pass
-both : (a b : Bool) → (a && b) ≡ true → (a ≡ true) × (b ≡ true)
-both true b e = (refl, e)
-both false b e = absurd (cc)
 
 -- the number of a truth value that isn't 0
 not_zero : (i : ℕ) → nat_eq (suc i) 0 ≡ false

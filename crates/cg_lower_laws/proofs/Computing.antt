@@ -1,5 +1,5 @@
 -- Operators, conversions, and calls of functions that are named and of function values.
-use Rattle.std.proofs.Common.{◌≡◌, ℕ, zero, suc, ◌+◌, ◌*◌, ◌%◌, ◌^◌, ◌<◌, ◌≤◌, Bool, true, false, ◌||◌, not, cond, IsTrue, Option, Some, None, option_map, unwrap_or, List, [], ◌∷◌, ◌++◌, length, length-append, get_or, slice_get, replicate, refl, sym, ap, ◌∙◌, subst, arith, ◌⊎◌, inl, inr}
+use Rattle.std.proofs.Common.{◌≡◌, ℕ, zero, suc, ◌+◌, ◌*◌, ◌%◌, ◌^◌, ◌<◌, ◌≤◌, Bool, true, false, not, cond, IsTrue, Option, Some, None, option_map, unwrap_or, List, [], ◌∷◌, ◌++◌, length, length-append, get_or, slice_get, replicate, refl, sym, ap, ◌∙◌, subst, arith, ◌⊎◌, inl, inr}
 use Rattle.std.proofs.Math.Nat.{mod-eq_of_lt}
 use Rattle.std.specs.List.{list_any}
 use Rattle.std.proofs.lemmas.List.{drop_all}
@@ -44,7 +44,7 @@ use Rattle.cg_kinds.specs.Kinds.{is_word, subst as type_with}
 use Rattle.cg_eval_operations.specs.Operators.{on_one, on_two, width}
 use Rattle.cg_typing.specs.Library.{library_type}
 use Rattle.cg_typing.specs.Instances.{AreInstances, Entry, Instance, as_arguments}
-use Rattle.cg_typing.specs.Operators.{Sort, arithmetic, equality, order, logic, gives as type_given, sort_of, takes}
+use Rattle.cg_typing.specs.Operators.{arithmetic, equality, gives as type_given, sort_of, takes}
 use Rattle.cg_typing.specs.Parts.{is_bool, widens}
 use Rattle.cg_typing.specs.Rules.{type_at}
 use Rattle.cg_update.specs.Calls.{Program, types_of}
@@ -63,6 +63,8 @@ use Rattle.cg_lower_laws.proofs.Nodes.{Sim, node_is, leaf_node, more_left, numer
 use Rattle.cg_lower_laws.proofs.Operands.{Reads, below_is, given_typed, machine_readable, place_is as place_given, reads, write_whole}
 use Rattle.cg_lower_laws.proofs.Runs.{Answers, Runs, runs_call}
 use Rattle.cg_lower_laws.proofs.Terms.{lay_c, AreKept, kept_later, next_local, Ran, assign_ran, set_ran, Went, went_joined, went_leaf}
+use Rattle.cg_typing.proofs.Lists.{types_back as same_types, scalar_taken}
+use Rattle.cg_base.proofs.Options.{later}
 
 -- what a call does, where `left` of the budget was there and `rest` is left of it: so many steps beside 32 for each 1 that is spent
 pub record Called (q : Linked) (f : List ℕ) (vs : List Value) (s s' : State) (result : Layout) (ws : List Scalar) (more left rest : ℕ) : Type 0 where
@@ -104,23 +106,6 @@ by_scalar : (P : Tau → Type 0) → ((w : Word) → P (word w)) → P bool → 
 by_scalar P f b (word w) h = f w
 by_scalar P f b bool h = b
 by_scalar P f b t h = absurd (cc)
-
--- a test that passes, or another one
-first_holds : (a b : Bool) → IsTrue a → IsTrue (a || b)
-first_holds true b h = refl
-first_holds false b h = absurd (cc)
-
--- another test, or one that passes
-second_holds : (a b : Bool) → IsTrue b → IsTrue (a || b)
-second_holds true b h = refl
-second_holds false b h = h
-
--- the type of an operator's operands is a word or that of truth values
-scalar_taken : (sort : Sort) (t : Tau) → IsTrue (takes sort t) → IsTrue (takes equality t)
-scalar_taken arithmetic t h = first_holds (is_word t) (is_bool t) h
-scalar_taken equality t h = h
-scalar_taken order t h = first_holds (is_word t) (is_bool t) h
-scalar_taken logic t h = second_holds (is_word t) (is_bool t) h
 
 -- how many bits a word has
 width_is : (t : Tau) → IsTrue (is_word t) → width t ≡ bits (word_of t)
@@ -174,11 +159,6 @@ one_slot w us n e = ap length e
 
 -- ---- the place of an instance
 
--- a place that is found behind the first
-later : (o : Option ℕ) (k : ℕ) → option_map suc o ≡ Some k → (j : ℕ) × (o ≡ Some j) × (suc j ≡ k)
-later None k e = absurd (cc)
-later (Some j) k e = (j, refl, cc)
-
 -- the instance stands there
 place_is : (x : Instance) (ys : List Instance) (k : ℕ) → place_of x ys ≡ Some k → slice_get ys k ≡ Some x
 unfolding place_of
@@ -189,11 +169,6 @@ place_is x (y ∷ ys) k e = by_test (same_instance x y) refl e (place_is x ys)
         → slice_get (y ∷ ys) k ≡ Some x
     by_test true q h rest = let first : zero ≡ k = cc in subst (λ i. slice_get (y ∷ ys) i ≡ Some x) first (ap Some (sym (instance_is x y q)))
     by_test false q h rest = let j = later (place_of x ys) k h in subst (λ i. slice_get (y ∷ ys) i ≡ Some x) j.2 (rest j.0 j.1)
-
--- types as arguments are these types
-same_types : (ts : List Tau) → arg_types (as_arguments ts) ≡ ts
-same_types [] = refl
-same_types (t ∷ ts) = ap (λ us. t ∷ us) (same_types ts)
 
 -- the type of a function is by the types of its arguments alone
 same_fun_type : (functions : List Function) (f : Fun) (args : List Arg) → fun_type functions f (as_arguments (arg_types args)) ≡ fun_type functions f args

@@ -31,10 +31,11 @@ use Rattle.cg_lower_laws.proofs.Bodies.{BodyRan, body_returns, length_replicate}
 use Rattle.cg_lower_laws.proofs.Computing.{one_slot}
 use Rattle.cg_lower_laws.proofs.Finding.{behind, own_dispatch}
 use Rattle.cg_lower_laws.proofs.Frames.{Is, is_kept, set_is, whole as all_of}
-use Rattle.cg_lower_laws.proofs.Names.{apart, itself}
+use Rattle.cg_lower_laws.proofs.Names.{apart}
 use Rattle.cg_lower_laws.proofs.Operands.{IsReadable, Reads, given_typed, readable, reads, write_whole}
 use Rattle.cg_lower_laws.proofs.Runs.{Answers, runs_call}
 use Rattle.cg_lower_laws.proofs.Terms.{lay_c}
+use Rattle.cg_base.proofs.Sequences.{itself}
 
 -- ---- where types and instances stand
 

@@ -6,7 +6,8 @@ use Rattle.cg_cmachine_def.specs.Runs.{Linked, own, abstract', callee, without_b
 use Rattle.cg_ctree.specs.Trees.{Body, Function}
 use Rattle.cg_lower_def.specs.Functions.{Item, of_arrow, of_instance, functions_at, with_function}
 use Rattle.cg_lower_def.specs.Lowered.{dispatch_name, function_name}
-use Rattle.cg_lower_laws.proofs.Names.{apart, itself}
+use Rattle.cg_lower_laws.proofs.Names.{apart}
+use Rattle.cg_base.proofs.Sequences.{itself}
 
 -- ---- items, and their names
 

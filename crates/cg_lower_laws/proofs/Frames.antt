@@ -9,7 +9,8 @@ use Rattle.cg_ctree.specs.declared.tree.CTy.{CTy}
 use Rattle.cg_heap.specs.declared.cell.Scalar.{Scalar}
 use Rattle.cg_heap.specs.declared.cell.Scalar.TheVariants.{Unset, Word as NumberScalar}
 use Rattle.cg_lower_def.specs.Places.{Step, at, step_name, Base, argument, local, argument_name, local_name, base_name, Place, number, held}
-use Rattle.cg_lower_laws.proofs.Names.{apart, name_is}
+use Rattle.cg_lower_laws.proofs.Names.{apart}
+use Rattle.cg_cgen.proofs.Paths.{look_apart as look_other}
 
 -- ---- variables
 
@@ -83,15 +84,6 @@ split false f g = g refl
 -- a variable with other scalars
 abbrev holding : Variable → List Scalar → Variable
 holding v us = record { name = v.name; layout = v.layout; scalars = us }
-
--- other variables stand as they stood
-look_other : (x y : List ℕ) (us : List Scalar) (fr : Frame) → bytes_eq y x ≡ false → look y (with_scalars x us fr) ≡ look y fr
-look_other x y us [] h = refl
-look_other x y us (v ∷ vs) h =
-    let ih = look_other x y us vs h in
-    split (bytes_eq x v.name)
-    (λ e. let no : bytes_eq y v.name ≡ false = subst (λ z. bytes_eq y z ≡ false) (name_is _ _ e) h in rw (e, no))
-    (λ e. rw (e, ih))
 
 -- the variable itself has the scalars
 look_same : (x : List ℕ) (us : List Scalar) (fr : Frame) (v : Variable) → look x fr ≡ Some v → look x (with_scalars x us fr) ≡ Some (holding v us)

@@ -20,22 +20,16 @@ use Rattle.cg_eval_operations.specs.Positions.{position_among}
 use Rattle.cg_typing.specs.Parts.{held, is_left, is_there, part_named, parts_with, with_part}
 use Rattle.cg_update.specs.Machines.{are_machine, is_address, is_alternative, is_machine, is_number_below, is_place_of, is_tagged, only_at, part_at, type_of_part, with_part_at}
 use Rattle.cg_lower_def.specs.CTypes.{form, form_parts, name, struct_name, c_type, count, record_struct, variant_struct, members_from, tag_name, field_name, payload_name, IsDeclared, AreDeclared}
-use Rattle.cg_lower_laws.proofs.Names.{apart, itself}
+use Rattle.cg_lower_laws.proofs.Names.{apart}
+use Rattle.cg_lower_laws.proofs.Tables.{if_false as cond_false}
+use Rattle.cg_base.proofs.Sequences.{itself}
+use Rattle.cg_base.proofs.Truths.{both, cond_true}
 
 -- how many slots stand before the part at a place
 abbrev pub before : ℕ → Parts → ℕ
 before i end = 0
 before zero (part x t taken ps) = 0
 before (suc i) (part x t taken ps) = slots t + before i ps
-
--- a test that passes, and one that fails
-cond_true : {X : Type 0} (b : Bool) (x y : X) → b ≡ true → cond b x y ≡ x
-cond_true true x y e = refl
-cond_true false x y e = absurd (cc)
-
-cond_false : {X : Type 0} (b : Bool) (x y : X) → b ≡ false → cond b x y ≡ y
-cond_false true x y e = absurd (cc)
-cond_false false x y e = refl
 
 -- what stood behind others was there by itself
 behind_is : (o : Option Spot) (n : ℕ) (s : Spot) → behind n o ≡ Some s → (q : Spot) × (o ≡ Some q) × (s ≡ spot (n + q.start) q.layout)
@@ -354,11 +348,6 @@ with_part_type numbered x taken (fields ps R) = ap (λ qs. ty.Pointer (struct_na
 with_part_type numbered x taken (fields ps W) = ap (λ qs. ty.Pointer (struct_name (numbered (fields qs U)))) (form_with x taken ps)
 
 -- ---- machine values
-
--- two tests that pass
-both : (a b : Bool) → (a && b) ≡ true → (a ≡ true) × (b ≡ true)
-both true b e = (refl, e)
-both false b e = absurd (cc)
 
 -- a number, an address and a place are one scalar
 number_one : (n : ℕ) (us : List Scalar) → is_number_below n us ≡ true → length us ≡ 1

@@ -23,7 +23,7 @@ use Rattle.cg_heap.specs.declared.cell.Fresh.TheVariants as fresh
 use Rattle.cg_heap.specs.declared.cell.Scalar.{Scalar}
 use Rattle.cg_heap.specs.declared.cell.Scalar.TheVariants.{Word as NumberScalar, Address}
 use Rattle.cg_heap.specs.Reps.{slots}
-use Rattle.cg_heap.specs.Stored.{Stored, asked_of, cell_at, changed, in_place, with_element, with_fresh, without_answer, without_cell}
+use Rattle.cg_heap.specs.Stored.{Stored, cell_at, changed, with_element, with_fresh, without_answer, without_cell}
 use Rattle.cg_kinds.specs.Kinds.{is_word}
 use Rattle.cg_lib_heap.specs.Library.{words_in}
 use Rattle.cg_typing.specs.Library.{pair, triple}
@@ -36,6 +36,8 @@ use Rattle.cg_lower_def.specs.Places.{Step, Base, argument, argument_name, held,
 use Rattle.cg_lower_laws.proofs.Frames.{Is, Keeps, is_kept}
 use Rattle.cg_lower_laws.proofs.Layouts.{lay}
 use Rattle.cg_lower_laws.proofs.Operands.{IsReadable, readable, given_typed, keeps_field}
+use Rattle.cg_heap.proofs.TopSteps.{top_stays as same_top}
+use Rattle.cg_base.proofs.Counts.{above_none}
 
 -- ---- arguments
 
@@ -290,13 +292,6 @@ element_read w p i ns m h all = rw h (elim (cases_Bool (nat_lt i (length ns))) [
   | inr e ↦ let past = ltb-false i (length ns) e in rw e (ap (λ n. ok (word_value w n)) (sym (get_or_past ns i 0 (omega (arith, past)))))
 ])
 
--- 0 is of every word
-above_none : (w : Word) → 0 < 2 ^ bits w
-above_none U8 = omega arith
-above_none U16 = omega arith
-above_none U32 = omega arith
-above_none U64 = omega arith
-
 -- and it is in range
 pub element_below : (w : Word) (i : ℕ) (ns : List ℕ) → list_all (λ n. nat_lt n (2 ^ bits w)) ns ≡ true → get_or ns i 0 < 2 ^ bits w
 element_below w i ns all = elim (cases_Bool (nat_lt i (length ns))) [
@@ -323,14 +318,6 @@ put_called w p i n ns s left h small below =
     rw (there s.store _ p _ h, pointed_to _ p, lt-ltb i (2 ^ 32) small, number_is w n below, element_written p i n ns s.store h) refl
 
 -- ---- cells that are made
-
--- a changed cell leaves the top where it is
-top_stays : (p : ℕ) (o : Option Cell) (m : Stored) → (in_place p o m).top ≡ m.top
-top_stays p None m = refl
-top_stays p (Some c) m = refl
-
-same_top : (f : Cell → Option Cell) (p : ℕ) (m : Stored) → (changed f p m).top ≡ m.top
-same_top f p m = top_stays p (asked_of f p m) m
 
 -- the address of a cell that is made
 abbrev pub new_address : ℕ → State → ℕ

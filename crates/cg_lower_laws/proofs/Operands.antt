@@ -1,14 +1,13 @@
 -- What is read of places, and what is written to variables and cells.
-use Rattle.std.proofs.Common.{◌≡◌, ℕ, suc, ◌+◌, ◌^◌, ◌<◌, ◌≤◌, ◌||◌, ◌-◌, Bool, true, false, nat_eq, nat_le, Option, Some, None, List, [], ◌∷◌, ◌++◌, length, take, drop, map, refl, sym, ap, ◌∙◌, subst, arith}
+use Rattle.std.proofs.Common.{◌≡◌, ℕ, suc, ◌+◌, ◌^◌, ◌<◌, ◌≤◌, ◌||◌, ◌-◌, true, nat_eq, nat_le, Option, Some, None, List, [], ◌∷◌, ◌++◌, length, take, drop, map, refl, sym, ap, ◌∙◌, subst, arith}
 use Rattle.std.proofs.lemmas.Bool.{eq-eqb, le-leb, lt-ltb, ltb-true}
 use Rattle.std.proofs.lemmas.List.{append-nil, drop_all, drop-drop, drop-take, length-drop, length-take-le, map-append, take-take}
 use Rattle.std.proofs.lemmas.Slice.Eq.{bytes_eq-Decides}
 use Rattle.cg_base.specs.declared.kind.Sigil.{Sigil}
 use Rattle.cg_base.specs.declared.kind.Sigil.TheVariants.{R, W, U}
-use Rattle.cg_base.specs.declared.kind.Word.{Word}
-use Rattle.cg_base.specs.declared.kind.Word.TheVariants.{U8, U16, U32, U64}
+use Rattle.cg_base.specs.declared.kind.Word.TheVariants.{U32}
 use Rattle.cg_base.specs.Types.{Tau, var, seen, unit, word, bool, arrow, abs, variant, fields, Parts}
-use Rattle.cg_base.specs.Words.{bits, same_word}
+use Rattle.cg_base.specs.Words.{bits}
 use Rattle.cg_cmachine_def.specs.Layouts.{Layout, cell, pointer, group, laid, members_in, size, sizes, same_layout, Spot, spot, walk, layout}
 use Rattle.cg_cmachine_def.specs.Operands.{Value, literal, typed, Frame, judge, read, read_path, give, part_of}
 use Rattle.cg_cmachine_def.specs.Outcomes.{ok}
@@ -27,6 +26,7 @@ use Rattle.cg_lower_def.specs.Places.{Step, step_name, field, payload, tag, Base
 use Rattle.cg_lower_laws.proofs.Frames.{Is, IsPart, IsNumeral, Keeps}
 use Rattle.cg_lower_laws.proofs.Layouts.{lay, before, part_declared, size_slots, field_leads, tag_leads, payload_leads, part_is, with_part_is, is_within, field_fits, payload_fits, tag_fits, walk_on}
 use Rattle.cg_cmachine_laws.proofs.LayoutLaws.{layout_unfolds}
+use Rattle.cg_base.proofs.WordLaws.{word_same as same_word_is}
 
 -- ---- values
 
@@ -50,12 +50,6 @@ abbrev pub IsReadable : Layout → List Scalar → Type 0
 IsReadable (cell w) us = (n : ℕ) × (us ≡ NumberScalar n ∷ []) × (n < 2 ^ bits w)
 IsReadable (pointer x) us = (p : ℕ) × (us ≡ Address p ∷ [])
 IsReadable (group x ms) us = Unit {0}
-
-same_word_is : (w : Word) → same_word w w ≡ true
-same_word_is U8 = refl
-same_word_is U16 = refl
-same_word_is U32 = refl
-same_word_is U64 = refl
 
 -- what is read of them is a value of that layout
 pub readable : (l : Layout) (us : List Scalar) → IsReadable l us → read l us ≡ ok (typed l us)
@@ -92,10 +86,6 @@ given_typed (group x ms) us = rw (same_layout_is (group x ms)) refl
 cut : (n i m : ℕ) (xs : List Scalar) → i + n ≤ m → take n (drop i xs) ≡ take n (drop i (take m xs))
 cut n i m xs h =
     sym (take-take n (n + (m - (i + n))) (drop i xs) (omega arith)) ∙ ap (take n) (sym (drop-take i (n + (m - (i + n))) xs)) ∙ ap (λ z. take n (drop i (take z xs))) (omega (arith, h))
-
-or_true : (a b : Bool) → b ≡ true → (a || b) ≡ true
-or_true true b e = refl
-or_true false b e = e
 
 module _ (numbered : Tau → ℕ) (ss : List CStruct) where
   -- a machine value can be read

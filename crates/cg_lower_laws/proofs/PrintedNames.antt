@@ -14,12 +14,9 @@ use Rattle.cg_ctree.specs.Spells.{IsCName, IsPrintableOpnd, IsPrintablePath, IsP
 use Rattle.cg_ctree.specs.Tokens.{is_word, letter, part_of_name}
 use Rattle.cg_lower_def.specs.CTypes.{abstract_struct, c_type, element, name, tag_name}
 use Rattle.cg_lower_def.specs.Places.{Base, argument, local, Place, number, held, Step, field, tag, payload, arrow_path, at, base_name, operand, path, step_name}
+use Rattle.cg_base.proofs.Counts.{one_digit as is_digit}
 
 -- ---- digits
-
--- a digit is one, and may go on a name
-is_digit : (n : ℕ) → n < 10 → digit (48 + n) ≡ true
-is_digit n h = grind (arith, nat_tests)
 
 digit_goes_on : (b : ℕ) → digit b ≡ true → part_of_name b ≡ true
 digit_goes_on b h = rw h (by_test (letter b))

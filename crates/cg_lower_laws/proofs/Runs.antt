@@ -13,6 +13,7 @@ use Rattle.cg_ctree.specs.declared.tree.CRhs.TheVariants.{Opnd, Conv, Binary, Fl
 use Rattle.cg_ctree.specs.declared.why.Why.TheVariants.{KindsDiffer}
 use Rattle.cg_ctree.specs.Trees.{Stmt, assign, branch, call, to_block}
 use Rattle.cg_heap.specs.Stored.{Stored}
+use Rattle.cg_cmachine_laws.proofs.Flows.{onward_twice as onward_onward}
 
 -- statements go on to their end in so many steps, from a frame and a state to others, wherever calls and loops may be nested as deep as
 -- there are steps
@@ -40,14 +41,6 @@ is_plain (New o x) = false
 is_plain r = true
 
 -- ---- how they join
-
--- what goes on behind what goes on
-onward_onward : (r : Outcome Flow) (f g : Frame → State → ℕ → Outcome Flow) → onward (onward r f) g ≡ onward r (λ fr s b. onward (f fr s b) g)
-onward_onward (done (goes fr) s b) f g = refl
-onward_onward (done (back us) s b) f g = refl
-onward_onward (stuck w m) f g = refl
-onward_onward (needs m) f g = refl
-onward_onward astray f g = refl
 
 -- what goes on alike
 onward_same : (r : Outcome Flow) (f g : Frame → State → ℕ → Outcome Flow) → ((fr : Frame) (s : State) (b : ℕ) → f fr s b ≡ g fr s b) → onward r f ≡ onward r g

@@ -15,7 +15,10 @@ use Rattle.cg_ctree.specs.declared.tree.CTy.{CTy}
 use Rattle.cg_ctree.specs.declared.tree.CTy.TheVariants as ty
 use Rattle.cg_lower_def.specs.CTypes.{AreDeclared, c_type, declared, form, form_parts, IsDeclared, members_from, name, record_members, record_struct, struct_name, tag_name, variant_members, variant_struct}
 use Rattle.cg_lower_def.specs.Structs.{AreCovered, CoveredAreDeclared, HasBelow, IsCovered, IsTable, is_in, numbered_in, StandBelow, struct_members, structs_from, structs_in}
-use Rattle.cg_lower_laws.proofs.Names.{apart, itself}
+use Rattle.cg_lower_laws.proofs.Names.{apart}
+use Rattle.cg_base.proofs.Sequences.{itself}
+use Rattle.cg_base.proofs.Options.{some_is}
+use Rattle.cg_base.proofs.Truths.{cond_true as if_true}
 
 -- ---- C sees no more of a type than its form
 
@@ -55,16 +58,7 @@ module _ (numbered : Tau → ℕ) where
 
 -- ---- tests and lists
 
--- what is in an option
-some_is : {A : Type 0} (x y : A) → Some x ≡ Some y → x ≡ y
-some_is x y e = cc
-
--- a choice whose test passes, and one whose test fails
-if_true : {A : Type 0} (b : Bool) (x y : A) → b ≡ true → cond b x y ≡ x
-if_true true x y e = refl
-if_true false x y e = absurd (cc)
-
-if_false : {A : Type 0} (b : Bool) (x y : A) → b ≡ false → cond b x y ≡ y
+pub if_false : {A : Type 0} (b : Bool) (x y : A) → b ≡ false → cond b x y ≡ y
 if_false true x y e = absurd (cc)
 if_false false x y e = refl
 

@@ -21,6 +21,8 @@ use Rattle.cg_typing.specs.Rules.{Derives, DerivesShape, DerivesFields, type_at}
 use Rattle.cg_typing.specs.Trees.{strings_of, the_parts}
 use Rattle.cg_lower_def.specs.CTypes.{abstract_struct, c_type, element, form, form_parts, struct_name, IsDeclared}
 use Rattle.cg_lower_def.specs.Typed.{IsTyped, IsTypedShape, AreTyped}
+use Rattle.cg_typing.proofs.Lists.{first_as_many, second_as_many}
+use Rattle.cg_base.proofs.Sequences.{get_front, get_last}
 
 -- C has a variable for each entry of a context, of its type where it is present
 pub record Agrees (numbered : Tau → ℕ) (g : Context) (ts : List CTy) : Type 0 where
@@ -75,30 +77,7 @@ pub all_back : {A : Type 0} (P : A → Type 0) (xs ys : List A) → AllByRecursi
 all_back P [] ys h = h
 all_back P (x ∷ xs) ys h = all_back P xs ys h.1
 
--- an element keeps its place in front of further ones, and the first of these stands at the length
-get_front : {A : Type 0} (xs ys : List A) (i : ℕ) (x : A) → slice_get xs i ≡ Some x → slice_get (xs ++ ys) i ≡ Some x
-get_front [] ys i x h = absurd (cc)
-get_front (y ∷ xs) ys zero x h = h
-get_front (y ∷ xs) ys (suc i) x h = get_front xs ys i x h
-
-get_last : {A : Type 0} (xs : List A) (x : A) → slice_get (xs ++ x ∷ []) (length xs) ≡ Some x
-get_last [] x = refl
-get_last (y ∷ xs) x = get_last xs x
-
 -- ---- contexts
-
--- the sides of a split have as many entries
-first_as_many : (m : List Mark) (g : Context) → length m ≡ length g → length (first m g) ≡ length g
-first_as_many [] [] e = refl
-first_as_many (x ∷ m) [] e = refl
-first_as_many [] (x ∷ g) e = absurd (omega arith)
-first_as_many (x ∷ m) (y ∷ g) e = ap suc (first_as_many m g (omega arith))
-
-second_as_many : (m : List Mark) (g : Context) → length m ≡ length g → length (second m g) ≡ length g
-second_as_many [] [] e = refl
-second_as_many (x ∷ m) [] e = refl
-second_as_many [] (x ∷ g) e = absurd (omega arith)
-second_as_many (x ∷ m) (y ∷ g) e = ap suc (second_as_many m g (omega arith))
 
 -- one entry more
 push_as_many : (g : Context) (x : Option Tau) → length (push g x) ≡ suc (length g)

@@ -67,24 +67,15 @@ use Rattle.cg_lower_laws.proofs.Runs.{Answers}
 use Rattle.cg_lower_laws.proofs.Simulating.{simulated}
 use Rattle.cg_lower_laws.proofs.Terms.{lay_c, Ran}
 use Rattle.cg_lower_laws.proofs.Typings.{Agrees, checked_is, derived_typed}
+use Rattle.cg_inst.proofs.Standing.{there}
+use Rattle.cg_typing.proofs.Lists.{types_back}
 
 -- ---- lists of instances
-
--- a place below the length has an element
-there : {A : Type 0} (xs : List A) (k : ℕ) → k < length xs → (x : A) × (slice_get xs k ≡ Some x)
-there [] k h = absurd (omega arith)
-there (x ∷ xs) zero h = (x, refl)
-there (x ∷ xs) (suc k) h = there xs k (omega arith)
 
 -- an entry with a type
 entry_is : (o : Option Entry) (t : Tau) → option_map (λ (e : Entry). e.ty) o ≡ Some t → (e : Entry) × (o ≡ Some e) × (e.ty ≡ t)
 entry_is None t h = absurd (cc)
 entry_is (Some e) t h = (e, refl, cc)
-
--- type arguments that are written nowhere are the types
-types_back : (ts : List Tau) → arg_types (as_arguments ts) ≡ ts
-types_back [] = refl
-types_back (t ∷ ts) = ap (λ z. t ∷ z) (types_back ts)
 
 -- an arrow is one from what it takes to what it gives
 arrow_is : (t a b : Tau) → t ≡ arrow a b → t ≡ arrow (taken_by t) (given_by t)

@@ -1,5 +1,7 @@
-//! The C of a list of instances as a pure function, and its laws (docs/LANGUAGE.md, "The C of instances"): that it does what the update
-//! semantics does, that its structs are declared as types say, and that it can be printed.
+//! Stage: C. The C of a list of instances does what the update semantics does.
+//! Role: laws.
+//! Promises: `lowering_simulates`, `covered_are_declared`, `lowering_is_printable`.
+//! May cite: definitions, laws and public crates below; no code above.
 #![tactic(auto)]
 
 mod law;

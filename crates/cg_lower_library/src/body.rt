@@ -22,8 +22,8 @@ use crate::code::{Code, argument_field, array_name, two_operands};
 use crate::fresh::fresh;
 use crate::types::{array, record_name, typed, typed_result};
 use cg_base::{Items, Lib, Memory, Name, Ty};
-use cg_lower_nodes::{Base, Lowering, Place, word_of};
 use cg_ctree::{CBody, CRhs, CStmt, CTy};
+use cg_lower_nodes::{Base, Lowering, Place, word_of};
 use cg_typing_parts::{all_taken, library_type};
 use std::alloc::Global;
 

@@ -17,8 +17,8 @@ use crate::code::{
     Code, argument_field, array_name, push_local, three_operands, two_operands, whole_operands,
 };
 use cg_base::{Items, Memory, Name, Ty, Word};
-use cg_lower_nodes::{Base, Place, assign, word_of};
 use cg_ctree::{COpnd, CRhs, CStmt, CTy};
+use cg_lower_nodes::{Base, Place, assign, word_of};
 use std::alloc::Global;
 
 // A call that gives a word.

@@ -10,8 +10,8 @@ ghost use Rattle.cg_lower_def.specs.Places.{local_name, operand};
 ghost use Rattle.cg_lower_nodes.specs.Views.{place_of, step_of};
 
 use cg_base::{Items, Memory, Name, Word};
-use cg_lower_nodes::{Base, Place, Step, assign, numbered};
 use cg_ctree::{CDecl, COpnd, CRhs, CStmt, CTy};
+use cg_lower_nodes::{Base, Place, Step, assign, numbered};
 use std::alloc::Global;
 
 // Where the value of a body is kept, its locals, and its statements.

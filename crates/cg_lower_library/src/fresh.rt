@@ -14,8 +14,8 @@ ghost use Rattle.cg_lower_library.specs.Codes.{IsLow};
 
 use crate::code::{Code, push_local, set};
 use cg_base::{Items, Memory, Word};
-use cg_lower_nodes::{Base, Place, Step, assign};
 use cg_ctree::{CDecl, CRhs, CStmt, CTy};
+use cg_lower_nodes::{Base, Place, Step, assign};
 use std::alloc::Global;
 
 // The second field of the result is the alternative at a place, with what is kept at another.

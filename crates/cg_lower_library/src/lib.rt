@@ -1,5 +1,8 @@
-//! The C of the library's functions, [`library_body`]: each is a function of its own (docs/LANGUAGE.md, "The C of instances", library).
-//! Those that take a function are not here yet.
+//! Stage: C. The C of the functions of the library that take no function.
+//! Role: part of `cg_lower`.
+//! Promises: `library_body`, exactly as defined.
+//! May cite: anything below it, of its stage and of those below; no crate above.
+//! Each is a function of its own (docs/LANGUAGE.md, "The C of instances", library).
 #![tactic(auto)]
 
 mod body;

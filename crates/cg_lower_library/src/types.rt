@@ -12,8 +12,8 @@ ghost use Rattle.cg_lower_library.specs.Codes.{struct_in};
 ghost use Rattle.cg_lower_nodes.specs.Kept.{kept_of, whole_of};
 
 use cg_base::{Items, Memory, Name, Sigil, Ty};
-use cg_lower_nodes::Lowering;
 use cg_ctree::CTy;
+use cg_lower_nodes::Lowering;
 use std::alloc::Global;
 
 // What an arrow gives; None, where it is unit because there is none.

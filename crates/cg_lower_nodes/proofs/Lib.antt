@@ -1,5 +1,5 @@
 pub mod Growing
-mod MoveSteps
+pub mod MoveSteps
 pub mod NodeSteps
 mod PartSteps
 mod Statements

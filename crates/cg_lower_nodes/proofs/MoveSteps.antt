@@ -2,16 +2,16 @@
 use Rattle.std.proofs.Common.{◌≡◌, ℕ, ◌+◌, ◌<◌, List, [], ◌∷◌, ◌++◌, length, get_or, set, take, drop, sym, ap, ◌∙◌, arith}
 use Rattle.std.proofs.lemmas.List.{append_assoc, get_or-drop, drop-drop, drop-set-lt, take_more}
 
-add_none : (i : ℕ) → i ≡ i + 0
+pub add_none : (i : ℕ) → i ≡ i + 0
 add_none i = omega arith
 
 module _ {A : Type 0} (items all : List A) (i : ℕ) (rest : drop i items ≡ drop i all) where
-  item_is : (x : A) → get_or items i x ≡ get_or all i x
+  pub item_is : (x : A) → get_or items i x ≡ get_or all i x
   item_is x =
       ap (λ k. get_or items k x) (add_none i) ∙ sym (get_or-drop i items 0 x) ∙ ap (λ xs. get_or xs 0 x) rest ∙ get_or-drop i all 0 x
       ∙ ap (λ k. get_or all k x) (sym (add_none i))
 
-  rest_more : (y : A) → drop (i + 1) (set items i y) ≡ drop (i + 1) all
+  pub rest_more : (y : A) → drop (i + 1) (set items i y) ≡ drop (i + 1) all
   rest_more y = drop-set-lt (i + 1) items i y (omega arith) ∙ sym (drop-drop 1 i items) ∙ ap (drop 1) rest ∙ drop-drop 1 i all
 
 -- one item more: the item x is moved, and y is left where it was

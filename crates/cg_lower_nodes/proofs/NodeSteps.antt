@@ -14,9 +14,7 @@ use Rattle.cg_lower_nodes.specs.declared.state.Lowering.{Lowering}
 use Rattle.cg_lower_nodes.specs.Grown.{After, Adds, Bares, Casts, Operates, Owns, Puts, Sets}
 use Rattle.cg_lower_nodes.specs.Views.{is_bare, is_number, is_own, place_of}
 use Rattle.cg_lower_nodes.proofs.Growing.{after_set, after_then}
-
-never : {A : Type 0} → false ≡ true → A
-never h = absurd (cc)
+use Rattle.cg_base.proofs.Counts.{no_steps as never}
 
 never' : {A : Type 0} → true ≡ false → A
 never' h = absurd (cc)

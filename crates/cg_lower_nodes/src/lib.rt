@@ -1,4 +1,8 @@
-//! The C of nodes, of their lowered parts. docs/LANGUAGE.md, "The C of instances", says it in words.
+//! Stage: C. The C of nodes, of their lowered parts.
+//! Role: part of `cg_lower`.
+//! Promises: `Lowering` and a call for each form (`called`, `choose`, `put` and so on) add just what the node adds (`specs/Grown.antt`).
+//! May cite: anything below it, of its stage and of those below; no crate above.
+//! docs/LANGUAGE.md, "The C of instances", says it in words.
 #![tactic(auto)]
 
 mod nodes;

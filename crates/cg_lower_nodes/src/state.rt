@@ -12,9 +12,8 @@ ghost use Rattle.cg_lower_nodes.specs.Views.{place_of, step_of};
 
 use crate::place::{Base, Place, Step, path};
 use cg_base::{Items, Memory, Ty};
-use cg_lower_tables::Places;
-use cg_lower_tables::Structs;
 use cg_ctree::{COpnd, CPath, CRhs, CStmt, CTy};
+use cg_lower_tables::{Places, Structs};
 use std::alloc::Global;
 use std::mem;
 

@@ -7,8 +7,7 @@ use crate::{
 };
 use cg_base::{Items, Memory, Name, Part, Sigil, Ty, Word};
 use cg_core::Op;
-use cg_lower_tables::Places;
-use cg_lower_tables::Structs;
+use cg_lower_tables::{Places, Structs};
 use std::alloc::Global;
 use std::test::Fail;
 

@@ -2,7 +2,6 @@
 use Rattle.std.proofs.Common.{◌≡◌, ℕ, zero, suc, ◌+◌, List, [], ◌∷◌, ◌++◌, length, slice_get, Some, refl, sym, ap, ◌∙◌, subst, arith}
 use Rattle.cg_base.specs.Types.{Tau, variant, fields, Parts, end, part, Piece, to_parts}
 use Rattle.cg_ctree.specs.declared.tree.CTy.TheVariants as ty
-use Rattle.cg_kinds.specs.Kinds.{or_unit}
 use Rattle.cg_lower_def.specs.CTypes.{declared, form, members_from, name, struct_name}
 use Rattle.cg_lower_def.specs.Structs.{HasBelow}
 use Rattle.cg_inst.proofs.Standing.{stays_at}
@@ -14,10 +13,7 @@ use Rattle.cg_lower_tables.specs.declared.members.Shape.TheVariants as shape
 use Rattle.cg_lower_tables.specs.Plain.{plain, plain_parts}
 use Rattle.cg_lower_tables.specs.Tables.{AreMembers, IsFor, IsMember, IsPlainAt, IsRow, IsSound, PointsTo, declared_from, parts_at, shown, table_of}
 use Rattle.cg_lower_tables.proofs.Plains.{c_plain, plain_twice}
-
--- what stands at a place is the type at it
-pub at_type : (types : List Tau) (i : ℕ) (t : Tau) → slice_get types i ≡ Some t → type_at types i ≡ t
-at_type types i t e = ap or_unit e
+use Rattle.cg_inst_types.proofs.Growth.{at_type}
 
 -- where a type stands that stands for a form, it stands for its own
 pub is_plain : (types : List Tau) (i : ℕ) (t : Tau) → slice_get types i ≡ Some (plain t) → IsPlainAt types i

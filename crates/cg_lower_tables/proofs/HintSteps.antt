@@ -1,5 +1,5 @@
 -- Hints to where items of a list first stand.
-use Rattle.std.proofs.Common.{◌≡◌, ℕ, zero, suc, ◌+◌, ◌<◌, ◌≤◌, ◌⊎◌, inl, inr, Bool, true, false, cond, nat_eq, List, [], ◌∷◌, ◌++◌, Option, Some, None, is_some, get_or, length, map, slice_get, true≢false, refl, sym, ap, ◌∙◌, subst, arith}
+use Rattle.std.proofs.Common.{◌≡◌, ℕ, zero, suc, ◌+◌, ◌<◌, ◌≤◌, ◌⊎◌, inl, inr, Bool, true, false, cond, nat_eq, List, [], ◌∷◌, ◌++◌, Option, Some, None, is_some, length, slice_get, true≢false, refl, sym, ap, ◌∙◌, subst, arith}
 use Rattle.std.specs.Prelude.{Result, Ok, Err, OnErr, OnOk}
 use Rattle.std.specs.Map.{lookup}
 use Rattle.std.specs.Option.{option_map}
@@ -18,6 +18,8 @@ use Rattle.cg_update.specs.Updates.{place_of}
 use Rattle.cg_lower_tables.specs.declared.keys.Key.{Key}
 use Rattle.cg_lower_tables.specs.Hints.{AreHints, IsHint, IsKeyOf, IsPlaceOf, IsSound, KeepsHints, hint_of, same_key}
 use Rattle.cg_lower_tables.proofs.KeySteps.{key_stays, one_key, one_place, place_stays}
+use Rattle.cg_inst_types.proofs.Searches.{none_left}
+use Rattle.cg_lower_tables.proofs.Rows.{get_push}
 
 -- ---- one entry more
 
@@ -57,20 +59,10 @@ pub low_at : {K : Type 0} (old new : K → Option ℕ) (at n : ℕ) → at ≡ n
     → (q : K) (j : ℕ) → new q ≡ Some j → (old q ≡ Some j) ⊎ (j ≡ n)
 low_at old new at n e low = subst (λ m. (q : _) (j : ℕ) → new q ≡ Some j → (old q ≡ Some j) ⊎ (j ≡ m)) e low
 
--- what a slice holds at a place
-pub got : {A B : Type 0} (f : A → B) (xs : List A) (i : ℕ) (x : A) → i < length xs → x ≡ get_or xs i x → slice_get (map f xs) i ≡ Some (f x)
-got f [] i x h e = absurd (omega (arith, h))
-got f (y ∷ xs) zero x h e = ap (λ w. Some (f w)) (sym e)
-got f (y ∷ xs) (suc i) x h e = got f xs i x (omega (arith, h)) e
-
 -- what holds of a list that has one more, or has none more
 either : {A B E : Type 0} (P : B → Type 0) (r : Result A E) (new more old : B) → OnOk r (new ≡ more) → OnErr r (new ≡ old) → P more → P old → P new
 either P (Ok u) new more old p q m o = subst P (sym p) m
 either P (Err e) new more old p q m o = subst P (sym q) o
-
-none_left : {A : Type 0} (o : Option A) → is_some o ≡ false → o ≡ None
-none_left None p = refl
-none_left (Some x) p = absurd (true≢false p)
 
 pub some_there : {A : Type 0} (o : Option A) → is_some o ≡ true → (j : A) × (o ≡ Some j)
 some_there None p = absurd (true≢false (sym p))
@@ -80,16 +72,6 @@ pub inserted : {K : Type 0} (eq : K → K → Bool) (k : K) (v : ℕ) (es : List
 inserted eq k v es p = insert_entry-absent eq k v es (absent_from_lookup (eq k) es (none_left (lookup (eq k) es) p))
 
 -- ---- what is kept for a list
-
-get_push : {A : Type 0} (xs : List A) (x : A) (i : ℕ) (a : A) → slice_get (xs ++ x ∷ []) i ≡ Some a → (slice_get xs i ≡ Some a) ⊎ ((i ≡ length xs) × (x ≡ a))
-get_push [] x zero a e = inr (refl, (cc))
-get_push [] x (suc i) a e = absurd (cc)
-get_push (y ∷ ys) x zero a e = inl e
-get_push (y ∷ ys) x (suc i) a e = by (get_push ys x i a e)
-  where
-    by : (slice_get ys i ≡ Some a) ⊎ ((i ≡ length ys) × (x ≡ a)) → (slice_get ys i ≡ Some a) ⊎ ((suc i ≡ length (y ∷ ys)) × (x ≡ a))
-    by (inl l) = inl l
-    by (inr r) = inr (ap suc r.0, r.1)
 
 module _ {A K : Type 0} (IsKey : K → A → Type 0) (hint : K → Option ℕ) (xs : List A) (are : AreHints IsKey hint xs) where
   pub hinted : ((k l : K) (x : A) → IsKey k x → IsKey l x → k ≡ l) → (k : K) (x : A) → IsKey k x → IsHint xs x (hint k)

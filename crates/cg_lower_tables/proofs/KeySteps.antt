@@ -1,12 +1,11 @@
 -- Keys of instances and of types, and tables of types that grow.
-use Rattle.std.proofs.Common.{◌≡◌, ℕ, ◌+◌, ◌-◌, ◌<◌, ◌≤◌, Bool, true, false, List, [], ◌∷◌, Some, cond, drop, get_or, length, map, slice_get, refl, sym, ap, ◌∙◌, arith, eqb-true, eq-eqb, rules}
+use Rattle.std.proofs.Common.{◌≡◌, ℕ, ◌-◌, ◌<◌, ◌≤◌, Bool, true, false, List, [], ◌∷◌, Some, cond, drop, get_or, length, map, slice_get, refl, sym, ap, ◌∙◌, arith, eqb-true, eq-eqb, rules}
 use Rattle.std.specs.Map.{lookup}
 use Rattle.std.proofs.lemmas.Bool.{and_parts, and_from}
-use Rattle.std.proofs.lemmas.List.{drop_more}
 use Rattle.cg_base.specs.declared.ty.Ty.{Ty}
 use Rattle.cg_base.specs.Types.{Tau, type_of}
 use Rattle.cg_inst.proofs.SameInstance.{function_is, function_same}
-use Rattle.cg_inst.proofs.Standing.{listed, stays_at}
+use Rattle.cg_inst.proofs.Standing.{listed, stays_at, before}
 use Rattle.cg_inst.specs.Lists.{same_function}
 use Rattle.cg_kinds.specs.Kinds.{or_unit, subst as subst_of}
 use Rattle.cg_inst_types.specs.Listings.{listing, list_at}
@@ -67,11 +66,6 @@ module _ (old new : List Tau) (kept : Keeps old new) where
   place_stays k t p = stays_at old new kept k (subst_of [] t) p
 
 -- ---- the types of an instance, one after the other from the last on
-
-before : {X : Type 0} (xs : List X) (i : ℕ) (x : X) → 0 < i → i ≤ length xs → x ≡ get_or xs (i - 1) x → drop (i - 1) xs ≡ x ∷ drop i xs
-before xs i x some h e =
-    let n : i - 1 + 1 ≡ i = omega arith in
-    drop_more xs (i - 1) x (omega (arith, some, h)) ∙ ap (λ y. y ∷ drop (i - 1 + 1) xs) (sym e) ∙ ap (λ m. x ∷ drop m xs) n
 
 pub key_more : (now mid new : List Tau) (items : List Ty) (i list ty next : ℕ) (x : Ty)
     → Keeps now mid → 0 < i → i ≤ length items → x ≡ get_or items (i - 1) x

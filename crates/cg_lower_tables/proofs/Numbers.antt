@@ -1,5 +1,5 @@
 -- The numbers of structs, and tables that grow.
-use Rattle.std.proofs.Common.{◌≡◌, ℕ, zero, suc, ◌+◌, ◌<◌, ◌≤◌, Bool, true, false, ◌||◌, cond, not, nat_eq, nat_lt, List, [], ◌∷◌, ◌++◌, length, slice_get, Some, None, refl, sym, ap, ◌∙◌, subst, eq-eqb, eqb-true, arith, tests}
+use Rattle.std.proofs.Common.{◌≡◌, ℕ, zero, suc, ◌+◌, ◌<◌, ◌≤◌, Bool, true, false, ◌||◌, cond, not, nat_eq, nat_lt, List, [], ◌∷◌, ◌++◌, length, slice_get, Some, None, refl, sym, ap, ◌∙◌, subst, arith, tests}
 use Rattle.std.specs.List.{position_or_len}
 use Rattle.std.specs.Map.{keys_of}
 use Rattle.std.proofs.lemmas.List.{take-append-le, take_all}
@@ -15,14 +15,10 @@ use Rattle.cg_lower_tables.specs.Added.{with_struct}
 use Rattle.cg_lower_tables.specs.Plain.{plain}
 use Rattle.cg_lower_tables.specs.Tables.{IsPlainAt, table_of}
 use Rattle.cg_lower_tables.proofs.Plains.{same_plain}
+use Rattle.cg_graphs.proofs.Standing.{are_equal as equal_is}
+use Rattle.cg_graphs.proofs.BucketSteps.{is_equal as equal_to}
 
 -- ---- a struct's number is its place among keys
-
-equal_is : (a b : ℕ) → nat_eq a b ≡ true → a ≡ b
-equal_is a b e = eqb-true a b e
-
-equal_to : (a b : ℕ) → a ≡ b → nat_eq a b ≡ true
-equal_to a b e = eq-eqb a b e
 
 module _ (types : List Tau) (once : IsOnce types) (p : ℕ) (at_p : IsPlainAt types p) where
   -- places of types that stand for forms are equal just where the forms are

@@ -1,5 +1,5 @@
 -- The rows of a table of structs.
-use Rattle.std.proofs.Common.{◌≡◌, ℕ, zero, suc, ◌+◌, ◌<◌, ◌≤◌, ◌⊎◌, inl, inr, nat_eq, not, List, [], ◌∷◌, ◌++◌, length, position, slice_get, Option, Some, None, is_some, true≢false, true, false, refl, sym, ap, ◌∙◌, subst, arith}
+use Rattle.std.proofs.Common.{◌≡◌, ℕ, zero, suc, ◌+◌, ◌<◌, ◌≤◌, ◌⊎◌, inl, inr, nat_eq, not, List, [], ◌∷◌, ◌++◌, length, position, slice_get, Some, None, is_some, true, refl, sym, ap, ◌∙◌, subst, arith}
 use Rattle.std.specs.List.{position_or_len}
 use Rattle.std.specs.Map.{keys_of, lookup}
 use Rattle.std.proofs.lemmas.List.{length-append, length-map, map-append}
@@ -14,9 +14,10 @@ use Rattle.cg_inst_types.specs.Places.{IsOnce, Keeps, type_at}
 use Rattle.cg_lower_tables.specs.declared.members.Row.{Row}
 use Rattle.cg_lower_tables.specs.Tables.{IsFor, IsPlainAt, IsRow, IsSound, Known, known_of, table_of}
 use Rattle.cg_lower_tables.proofs.Numbers.{below_stays, in_last, keeps_more, none_first, numbered_is}
+use Rattle.cg_inst_types.proofs.Searches.{none_left}
 
 -- what stands in a list that got one more stood there before, or is that one
-get_push : {A : Type 0} (xs : List A) (x : A) (i : ℕ) (a : A) → slice_get (xs ++ x ∷ []) i ≡ Some a → (slice_get xs i ≡ Some a) ⊎ ((i ≡ length xs) × (x ≡ a))
+pub get_push : {A : Type 0} (xs : List A) (x : A) (i : ℕ) (a : A) → slice_get (xs ++ x ∷ []) i ≡ Some a → (slice_get xs i ≡ Some a) ⊎ ((i ≡ length xs) × (x ≡ a))
 get_push [] x zero a e = inr (refl, (cc))
 get_push [] x (suc i) a e = absurd (cc)
 get_push (y ∷ ys) x zero a e = inl e
@@ -25,11 +26,6 @@ get_push (y ∷ ys) x (suc i) a e = by (get_push ys x i a e)
     by : (slice_get ys i ≡ Some a) ⊎ ((i ≡ length ys) × (x ≡ a)) → (slice_get ys i ≡ Some a) ⊎ ((suc i ≡ length (y ∷ ys)) × (x ≡ a))
     by (inl l) = inl l
     by (inr r) = inr (ap suc r.0, r.1)
-
--- a key that isn't there goes last
-none_left : {A : Type 0} (o : Option A) → is_some o ≡ false → o ≡ None
-none_left None p = refl
-none_left (Some x) p = absurd (true≢false p)
 
 inserted_last : (es : List (ℕ × Row)) (k : ℕ) (v : Row) → position (nat_eq k) (keys_of es) ≡ None → insert_entry nat_eq es k v ≡ es ++ (k, v) ∷ []
 inserted_last es k v e =

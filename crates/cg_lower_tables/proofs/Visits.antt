@@ -22,9 +22,10 @@ use Rattle.cg_lower_tables.specs.declared.members.Shape.TheVariants as shape
 use Rattle.cg_lower_tables.specs.Added.{added, added_parts, with_struct}
 use Rattle.cg_lower_tables.specs.Plain.{host_of, host_plain, plain, plain_parts}
 use Rattle.cg_lower_tables.specs.Tables.{AreMembers, IsFor, IsMember, parts_at}
-use Rattle.cg_lower_tables.proofs.Growth.{at_type, is_plain, members_more, members_plain, members_stay, parts_are}
+use Rattle.cg_lower_tables.proofs.Growth.{is_plain, members_more, members_plain, members_stay, parts_are}
 use Rattle.cg_lower_tables.proofs.Numbers.{all_covered_stay, below_in}
 use Rattle.cg_lower_tables.proofs.Plains.{c_host, c_plain, form_plain, parts_plain}
+use Rattle.cg_inst_types.proofs.Growth.{at_type}
 
 -- ---- what stands for a type
 

@@ -1,5 +1,8 @@
-//! What lowering looks up: the structs of a C program by the types that they are for, [`Structs`], and where instances stand in their list, and
-//! arrow types among those of calls through function values, [`Places`] (docs/LANGUAGE.md, "The C of instances").
+//! Stage: C. Tables of lowering: structs by the types that they are for, instances and arrow types by where they stand.
+//! Role: part of `cg_lower`.
+//! Promises: `Structs` and `Places`, exactly; law: `is_table`, that each struct stands behind its members.
+//! May cite: anything below it, of its stage and of those below; no crate above.
+//! docs/LANGUAGE.md, "The C of instances", says what is looked up.
 #![tactic(auto)]
 
 mod adds;

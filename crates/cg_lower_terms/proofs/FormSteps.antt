@@ -1,5 +1,5 @@
 -- Forms, of what their parts gave.
-use Rattle.std.proofs.Common.{◌≡◌, ℕ, suc, ◌+◌, ◌<◌, ◌≤◌, List, [], ◌∷◌, ◌++◌, get_or, length, map, take, refl, sym, ap, subst, ◌∙◌, arith}
+use Rattle.std.proofs.Common.{◌≡◌, ℕ, suc, ◌+◌, ◌<◌, List, [], ◌∷◌, ◌++◌, get_or, length, map, take, refl, sym, ap, subst, ◌∙◌, arith}
 use Rattle.std.specs.Prelude.{not}
 use Rattle.std.proofs.lemmas.List.{append-nil, append_assoc, length-append, map-append, take_more}
 use Rattle.std.proofs.Math.Seq.{take-append_seam}
@@ -35,21 +35,9 @@ use Rattle.cg_lower_nodes.specs.Views.{place_of}
 use Rattle.cg_lower_nodes.proofs.Growing.{after_before, after_joined, after_set, locals_after, type_after}
 use Rattle.cg_lower_nodes.proofs.NodeSteps.{after_valued}
 use Rattle.cg_lower_terms.proofs.TermSteps.{after_unbound, low_at, moved, moved_within, scope_after, whole_after, within_is}
+use Rattle.cg_lower_nodes.proofs.MoveSteps.{add_none as none_more}
 
 -- ---- operators
-
-pub one_term : (ts : List (Term Typed)) (a : Term Typed) → 1 ≤ length ts → length ts < 2 → a ≡ get_or ts 0 a → to_trees (map the_core ts) ≡ more (the_core a) none
-unfolding to_trees
-one_term [] a h w e = absurd (omega arith)
-one_term (x ∷ []) a h w e = ap (λ t. more (the_core t) none) (sym e)
-one_term (x ∷ y ∷ ts) a h w e = absurd (omega arith)
-
-pub two_terms : (ts : List (Term Typed)) (a b : Term Typed) → 2 ≤ length ts → length ts < 3 → a ≡ get_or ts 0 a → b ≡ get_or ts 1 b → to_trees (map the_core ts) ≡ more (the_core a) (more (the_core b) none)
-unfolding to_trees
-two_terms [] a b h w e k = absurd (omega arith)
-two_terms (x ∷ []) a b h w e k = absurd (omega arith)
-two_terms (x ∷ y ∷ []) a b h w e k = ap (λ t. more (the_core t) (more (the_core y) none)) (sym e) ∙ ap (λ t. more (the_core a) (more (the_core t) none)) (sym k)
-two_terms (x ∷ y ∷ z ∷ ts) a b h w e k = absurd (omega arith)
 
 -- an operator of other than one or two operands is the number 0
 pub after_many : (old : Lowering) (t : Tau) (o : Op) (ts : List (Term Typed)) (p : Place)
@@ -343,9 +331,6 @@ first_more a b ls =
 first_only : (a : Low) → first_low a (record { values = []; locals = []; code = [] }) ≡ more_lows (record { values = []; locals = []; code = [] }) a
 first_only a =
     ap (λ z. record { values = a.value ∷ []; locals = z; code = a.code ++ [] }) (append-nil a.locals) ∙ ap (λ z. record { values = a.value ∷ []; locals = a.locals; code = z }) (append-nil a.code)
-
-none_more : (k : ℕ) → k ≡ k + 0
-none_more k = omega arith
 
 next : (k m n s : ℕ) → s ≡ m + n → (k + m) + n ≡ k + s
 next k m n s e = omega arith

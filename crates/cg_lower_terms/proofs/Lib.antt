@@ -1,3 +1,2 @@
 mod FormSteps
-mod GroupSteps
 mod TermSteps

@@ -2,17 +2,12 @@
 use Rattle.std.proofs.Common.{◌≡◌, ℕ, ◌+◌, List, [], ◌∷◌, ◌++◌, length, map, take, refl, sym, ap, subst, ◌∙◌}
 use Rattle.std.proofs.lemmas.List.{append-nil, map-append}
 use Rattle.std.proofs.Math.Seq.{take-append_seam}
-use Rattle.cg_base.specs.Types.{type_of}
 use Rattle.cg_core.specs.declared.term.Form.{the_lemmas}
-use Rattle.cg_core.specs.declared.term.Term.{Term}
-use Rattle.cg_core.specs.declared.term.Typed.{Typed}
-use Rattle.cg_core.specs.Kernels.{the_core, the_core_form}
-use Rattle.cg_core.specs.Terms.{Note, Tree, term, note_of}
+use Rattle.cg_core.specs.Terms.{Note, Tree}
 use Rattle.cg_ctree.specs.declared.tree.CTy.{CTy}
 use Rattle.cg_ctree.specs.Trees.{stmt_of}
 use Rattle.cg_lower_def.specs.Lowered.{Low, leaf, low}
 use Rattle.cg_lower_def.specs.Places as places
-use Rattle.cg_typing.specs.Rules.{type_at}
 use Rattle.cg_lower_nodes.specs.declared.place.Place.{Place}
 use Rattle.cg_lower_nodes.specs.declared.state.Lowering.{Lowering}
 use Rattle.cg_lower_nodes.specs.Grown.{After, Binds, Unbinds}
@@ -20,13 +15,7 @@ use Rattle.cg_lower_nodes.specs.Kept.{Kept, kept_of, whole_in, whole_of}
 use Rattle.cg_lower_terms.specs.Forms.{Lowers, low_let, low_within, scope_of}
 use Rattle.cg_lower_nodes.specs.Views.{place_of}
 use Rattle.cg_lower_nodes.proofs.Growing.{after_joined, locals_after}
-
--- a core's node, and its type
-pub core_is : (t : Term Typed) → the_core t ≡ term (note_of t.note) (the_core_form t.form)
-core_is t = search the_lemmas
-
-pub type_of_core : (t : Term Typed) → type_at (the_core t) ≡ type_of t.note.ty
-type_of_core t = ap type_at (core_is t)
+use Rattle.cg_typing.proofs.CoreTypes.{type_of_core}
 
 -- a leaf, of which there is nothing but the place
 pub after_leaf : (old : Lowering) (p : Place) (v : places.Place) → place_of p ≡ v → After old old p (leaf v)

@@ -11,8 +11,8 @@ ghost use Rattle.cg_lower_nodes.specs.Views.{place_of};
 ghost use Rattle.cg_lower_terms.specs.Forms.{operands_in};
 
 use cg_base::{Fun, Items, Memory, Name};
-use cg_lower_nodes::{Lowering, Place, numbered};
 use cg_core::{Form, Term, TyArg, Typed};
+use cg_lower_nodes::{Lowering, Place, numbered};
 use std::alloc::Global;
 
 /// The value of a function that is named: the place of its instance.

@@ -1,4 +1,7 @@
-//! The C of terms, [`lower_term`]. docs/LANGUAGE.md, "The C of instances", says it in words.
+//! Stage: C. The C of terms.
+//! Role: part of `cg_lower`.
+//! Promises: `lower_term` gives the C of a term, of all forms, exactly as defined.
+//! May cite: anything below it, of its stage and of those below; no crate above.
 #![tactic(auto)]
 
 mod calls;

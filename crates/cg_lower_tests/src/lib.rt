@@ -1,4 +1,7 @@
-//! Tests of lowering: sources, lowered and run by the steps of their C.
+//! Stage: tests. Tests of lowering: sources, lowered and run by the steps of their C.
+//! Role: tests.
+//! Promises: nothing: tests alone.
+//! May cite: all crates; no crate but tests cites it.
 #![tactic(auto)]
 
 #[cfg(test)]

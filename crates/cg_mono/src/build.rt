@@ -23,8 +23,8 @@ use cg_base::{Fun, Items, Memory, Ty};
 use cg_core::{KFun, Term, Typed};
 use cg_inst::{Instance, Instances};
 use cg_kinds::subst;
-use cg_typing_parts::library_type;
 use cg_typing::Checked;
+use cg_typing_parts::library_type;
 use std::alloc::Global;
 
 // The function at a position, if there is one.

@@ -1,4 +1,7 @@
-//! One copy for each instance of a checked source.
+//! Stage: instances. One copy for each instance of a checked source.
+//! Role: public.
+//! Promises: `mono` gives of each instance its type and its core, exactly; `Mono`, `Copy` and `specialise`.
+//! May cite: anything of its stage and of those below; no crate above.
 #![tactic(auto)]
 
 mod build;

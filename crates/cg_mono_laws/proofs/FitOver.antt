@@ -15,7 +15,8 @@ use Rattle.cg_value.specs.Foreign.{Foreign, IsLawful, first_order}
 use Rattle.cg_value.specs.Values as values
 use Rattle.cg_value.specs.Values.{Val, number, nothing, function, chosen, parts, elements, answers, gone, Vals}
 use Rattle.cg_mono_laws.specs.Laws.{HoldsOver, are_over, is_over}
-use Rattle.cg_inst.proofs.Names.{either_way, never}
+use Rattle.cg_inst.proofs.Names.{either_way}
+use Rattle.cg_base.proofs.Counts.{no_steps as never}
 
 module _ (x : Foreign) (list : List Instance) (holds : HoldsOver x list) where
   abbrev O : Val → Type 0

@@ -1,5 +1,5 @@
 -- Evaluation over the copies of a source's list of instances: alike with any fuel, and so are calls.
-use Rattle.std.proofs.Common.{◌≡◌, ℕ, zero, suc, IsTrue, Option, Some, None, List, [], ◌∷◌, length, map, refl, subst as at}
+use Rattle.std.proofs.Common.{◌≡◌, ℕ, zero, suc, IsTrue, Option, Some, None, List, length, map, refl, subst as at}
 use Rattle.std.proofs.Math.Logic.{∥∥₁_elim}
 use Rattle.std.proofs.Props.{props}
 use Rattle.std.specs.Option.{option_map}
@@ -7,9 +7,6 @@ use Rattle.std.specs.Prelude.{slice_get}
 use Rattle.cg_base.specs.declared.fun.Fun.TheVariants.{User}
 use Rattle.cg_base.specs.declared.kind.Kinds.{Kinds}
 use Rattle.cg_base.specs.Types.{Tau}
-use Rattle.cg_core.specs.declared.derivation.Deriv.{Deriv}
-use Rattle.cg_core.specs.declared.term.Term.{Term}
-use Rattle.cg_core.specs.declared.term.Typed.{Typed}
 use Rattle.cg_core.specs.Derivations.{Derivation}
 use Rattle.cg_core.specs.Kernels.{Function, Body as Written}
 use Rattle.cg_core.specs.Terms.{Note, Tree, term}
@@ -24,16 +21,17 @@ use Rattle.cg_typing.specs.Accepted.{kinds_of_vars}
 use Rattle.cg_typing.specs.declared.checked.Checked.{Checked}
 use Rattle.cg_typing.specs.Holds.{cores_in, kept_at, trees_in}
 use Rattle.cg_typing.specs.Instances.{Instance, MentionsOnly, has_vars}
-use Rattle.cg_typing.specs.Kept.{AreKept, IsKept as IsKeptFunction, IsKeptMaybe, maybe_core, maybe_tree}
+use Rattle.cg_typing.specs.Kept.{AreKept, IsKeptMaybe, maybe_core, maybe_tree}
 use Rattle.cg_typing.specs.Subst.{subst_core}
 use Rattle.cg_value.specs.Foreign.{Foreign, IsLawful}
 use Rattle.cg_mono_laws.specs.Laws.{EvaluationIsKept, HoldsOver}
 use Rattle.cg_mono_laws.proofs.Calls.{AreFine, K, T, calls_alike}
 use Rattle.cg_mono_laws.proofs.Listed.{found_at_place}
-use Rattle.cg_inst.proofs.Names.{never}
 use Rattle.cg_mono_laws.proofs.Nodes.{AlikeCalls, AlikeRuns, node_alike}
 use Rattle.cg_mono_laws.proofs.Outcomes.{pay_alike, spent_alike}
 use Rattle.cg_mono_laws.proofs.Placed.{derived_placed, is_placed}
+use Rattle.cg_inst_laws.proofs.Bodies.{kept_of}
+use Rattle.cg_base.proofs.Counts.{no_steps as never}
 
 -- ---- any functions, with a list of instances all of which are fine
 
@@ -58,15 +56,6 @@ module _ (x : Foreign) (functions : List Function) (core : Cores) (list : List I
       calls_alike x functions core list lawful holds fine (evaluate (T x functions core list)) (evaluate (K x functions core list)) evaluation_alike
 
 -- ---- a checked source
-
--- what is kept for a function
-kept_of : (functions fs : List Function) (cores : List (Option (Term Typed))) (trees : List (Option Deriv)) (i : ℕ) (f : Function)
-    → AreKept functions fs (map maybe_core cores) (map maybe_tree trees) → slice_get fs i ≡ Some f → IsKeptFunction functions f (maybe_core (kept_at cores i)) (maybe_tree (kept_at trees i))
-kept_of functions [] cores trees i f k e = absurd (cc)
-kept_of functions (g ∷ fs) [] trees i f k e = absurd k
-kept_of functions (g ∷ fs) (c ∷ cores) [] i f k e = absurd k
-kept_of functions (g ∷ fs) (c ∷ cores) (d ∷ trees) zero f k e = let q : g ≡ f = cc in at (λ f. IsKeptFunction functions f (maybe_core c) (maybe_tree d)) q k.0
-kept_of functions (g ∷ fs) (c ∷ cores) (d ∷ trees) (suc i) f k e = kept_of functions fs cores trees i f k.1 e
 
 -- a core that is kept notes what evaluation asks
 kept_placed : (functions : List Function) (vars : List Kinds) (a b : Tau) (body : Option Written) (c : Tree Note) (d : Option Derivation)

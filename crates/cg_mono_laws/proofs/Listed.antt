@@ -5,8 +5,9 @@ use Rattle.std.specs.Prelude.{slice_get, if◌then◌else◌}
 use Rattle.cg_inst.specs.Lists.{same_instance}
 use Rattle.cg_inst_laws.specs.Laws.{place_in}
 use Rattle.cg_typing.specs.Instances.{Instance, IsIn}
-use Rattle.cg_inst.proofs.Names.{by_cases, never}
+use Rattle.cg_inst.proofs.Names.{by_cases}
 use Rattle.cg_inst.proofs.SameInstance.{instance_is, instance_same}
+use Rattle.cg_base.proofs.Counts.{no_steps as never}
 
 -- ---- where an instance stands
 

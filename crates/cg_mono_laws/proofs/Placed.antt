@@ -1,9 +1,9 @@
 -- What evaluation asks of the types that a core notes: the first operand of an operator is a word or a truth value, and what a field is
 -- taken from, read from or put into is a record with a field of this name. A core that is derived meets it.
-use Rattle.std.proofs.Common.{ℕ, Bool, true, false, ◌&&◌, ◌||◌, IsTrue, Option, Some, None, List, refl}
+use Rattle.std.proofs.Common.{ℕ, Bool, true, false, ◌&&◌, ◌||◌, IsTrue, Option, List, refl}
 use Rattle.std.proofs.lemmas.Bool.{and_from}
 use Rattle.cg_base.specs.declared.kind.Kinds.{Kinds}
-use Rattle.cg_base.specs.Types.{Tau, Piece}
+use Rattle.cg_base.specs.Types.{Tau}
 use Rattle.cg_core.specs.declared.derivation.Mark.{Mark}
 use Rattle.cg_core.specs.Derivations.{Derivation, Derivations}
 use Rattle.cg_core.specs.Kernels.{Function}
@@ -11,9 +11,10 @@ use Rattle.cg_core.specs.Terms.{Note, Tree, term, Shape, var, unit, bool, lit, f
 use Rattle.cg_kinds.specs.Kinds.{is_word}
 use Rattle.cg_typing.specs.Contexts.{Context}
 use Rattle.cg_typing.specs.Operators.{Sort, arithmetic, equality, order, logic, takes}
-use Rattle.cg_typing.specs.Parts.{field_in, is_bool, is_left, is_there}
+use Rattle.cg_typing.specs.Parts.{field_in, is_bool, is_there}
 use Rattle.cg_typing.specs.Rules.{Derives, DerivesShape, DerivesFields, type_at}
-use Rattle.cg_inst.proofs.Names.{never}
+use Rattle.cg_typing_laws.proofs.Named.{left_is_there as left_there}
+use Rattle.cg_base.proofs.Counts.{no_steps as never}
 
 -- a word or a truth value
 abbrev pub is_scalar : Tau → Bool
@@ -79,11 +80,6 @@ operand_scalar arithmetic t h = scalar_word t h
 operand_scalar equality t h = h
 operand_scalar order t h = scalar_word t h
 operand_scalar logic t h = scalar_bool t h
-
--- a field that is left is there
-left_there : (o : Option Piece) → IsTrue (is_left o) → IsTrue (is_there o)
-left_there None h = h
-left_there (Some p) h = refl
 
 module _ (functions : List Function) (vars : List Kinds) where
   -- a core that is derived, a form, and fields

@@ -13,8 +13,8 @@ use Rattle.cg_typing.specs.Rules.{type_at}
 use Rattle.cg_typing.specs.Subst.{subst_arg, subst_core}
 use Rattle.std.specs.List.{list_all}
 use Rattle.cg_inst_laws.proofs.Closed.{given_stay}
-use Rattle.cg_inst.proofs.Names.{never}
 use Rattle.cg_mono_laws.proofs.Placed.{has_field, is_scalar}
+use Rattle.cg_base.proofs.Counts.{no_steps as never}
 
 module _ (given : List Tau) where
   -- the type that a copy notes

@@ -1,5 +1,8 @@
-//! The outside: files and an output, each call with what it leaves held and with a count of its faults, and small ones
-//! in memory. docs/LANGUAGE.md, "The outside", says what each of them does.
+//! Stage: ground. Files and an output, each call with what it leaves held and with a count of its faults.
+//! Role: public.
+//! Promises: the traits `Files` and `Sink`, whose faults have causes; `MemoryFiles`, `MemorySink`, `HonestFiles`, `HonestSink` keep them.
+//! May cite: anything of its stage and of those below; no crate above.
+//! docs/LANGUAGE.md, "The outside", says what each of them does.
 #![tactic(auto)]
 
 mod entries;

@@ -21,6 +21,7 @@ use Rattle.cg_parser.specs.Machine.{State, Between, AfterType, InParams, InSynon
 use Rattle.cg_parser.specs.Machine as machine
 use Rattle.cg_parser.specs.Plain.{entries}
 use Rattle.cg_parser.specs.Bounded.{within, within_program, added, both, bounded}
+use Rattle.cg_parser_types.proofs.Follow.{same_cond}
 
 -- the depth of items and one more
 depth_more : (done : List Entry) (i : Entry) → program_depth (done ++ i ∷ []) ≡ max (program_depth done) (entry_depth i)
@@ -60,10 +61,6 @@ define_within h x e = go (nat_le (patterns_of.depth_of x) depth_limit) (nat_le (
     go true true q r = rw (le-leb (max (patterns_of.depth_of x) (exprs_of.depth_of e)) depth_limit (omega (arith, leb-true (patterns_of.depth_of x) depth_limit q, leb-true (exprs_of.depth_of e) depth_limit r))) refl
     go true false q r = rw (lt-leb (max (patterns_of.depth_of x) (exprs_of.depth_of e)) depth_limit (omega (arith, leb-false (exprs_of.depth_of e) depth_limit r))) refl
     go false c q r = rw (lt-leb (max (patterns_of.depth_of x) (exprs_of.depth_of e)) depth_limit (omega (arith, leb-false (patterns_of.depth_of x) depth_limit q))) refl
-
-same_cond : {A D : Type 0} (k : A → D) (b : Bool) (x y : A) → cond b (k x) (k y) ≡ k (cond b x y)
-same_cond k true x y = refl
-same_cond k false x y = refl
 
 module _ {TS PS XS TH PH XH : Type 0} (types : Reader TS Seen Written) (patterns : Reader PS Seen Pattern) (exprs : Reader XS Seen Expr)
     (held_types : Reader TH Seen (Option Written)) (held_patterns : Reader PH Seen (Option Pattern)) (held_exprs : Reader XH Seen (Option Expr))

@@ -1,5 +1,5 @@
 -- What the machine has read is what its state spells.
-use Rattle.std.proofs.Common.{◌≡◌, ℕ, List, [], ◌∷◌, ◌++◌, inl, inr, refl, sym, subst, true, false, Bool, cond, Option, Some, None}
+use Rattle.std.proofs.Common.{◌≡◌, ℕ, List, [], ◌∷◌, ◌++◌, inl, inr, refl, sym, subst, true, false, Option, Some, None}
 use Rattle.std.specs.Prelude.{⊤}
 use Rattle.cg_base.specs.declared.kind.Bound.{Bound}
 use Rattle.cg_base.specs.declared.place.Place.{Place}
@@ -18,11 +18,7 @@ use Rattle.cg_parser.specs.Plain.{entries}
 use Rattle.cg_parser.proofs.Parts.{HasRead, nothing_read, read_more, part_read}
 use Rattle.cg_parser.proofs.Complete as complete
 use Rattle.cg_parser.proofs.Complete.{Parts}
-
--- what holds of both sides holds of the choice
-pub choose : {A : Type 0} (P : A → Type 0) (b : Bool) (x y : A) → (b ≡ true → P x) → (b ≡ false → P y) → P (cond b x y)
-choose P true x y f g = f refl
-choose P false x y f g = g refl
+use Rattle.cg_base.proofs.Spans.{either_way as choose}
 
 -- the symbol that is read
 abbrev pub at : Symbol → Place → List Seen → List Seen

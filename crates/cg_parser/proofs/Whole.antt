@@ -2,7 +2,6 @@
 use Rattle.std.proofs.Common.{List, refl, Option}
 use Rattle.cg_base.specs.Reader.{Reader, Reads}
 use Rattle.cg_surface.specs.Patterns.{Pattern}
-use Rattle.cg_surface.specs.Exprs.{Expr}
 use Rattle.cg_surface.specs.Programs.{Entry}
 use Rattle.cg_parser_symbols.specs.Symbols.{Seen}
 use Rattle.cg_parser_symbols.specs.Follows.{Follows}

@@ -16,8 +16,8 @@ use cg_base::{Bound, Items, Memory, Name, Place};
 use cg_core::At;
 use cg_lexer::Token;
 use cg_parser_patterns::PatternEnd;
-use cg_surface::{Item, Pat, Program};
 use cg_parser_symbols::{Symbol, symbol_at};
+use cg_surface::{Item, Pat, Program};
 use std::alloc::Global;
 
 /// Ends the last item, where it can end.

@@ -1,5 +1,8 @@
-//! Reads a source (`parse`): from its bytes to the program that they spell, or to the first place where no program goes on
-//! (docs/LANGUAGE.md, "Grammar"). The parts of items are read by the readers of types, patterns and expressions.
+//! Stage: reading. Bytes to the program that they spell, or to the first place where no program goes on.
+//! Role: public.
+//! Promises: `parse` answers the program, the depth or S1 to S4, exactly; laws: `one_program`, `one_answer`.
+//! May cite: anything of its stage and of those below; no crate above.
+//! docs/LANGUAGE.md, "Grammar", says what is spelled. The parts of items are read by the readers of types, patterns and expressions.
 #![tactic(auto)]
 
 mod add;

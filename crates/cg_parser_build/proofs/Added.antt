@@ -3,30 +3,19 @@ use Rattle.std.proofs.Common.{◌≡◌, ℕ, List, [], ◌∷◌, ◌++◌, map
 use Rattle.std.proofs.lemmas.List.{map-append}
 use Rattle.cg_base.specs.declared.place.Place.{Place}
 use Rattle.cg_core.specs.declared.at.At.{At}
-use Rattle.cg_surface.specs.declared.written.STy.{STy}
 use Rattle.cg_surface.specs.declared.pattern.Pat.{Pat}
 use Rattle.cg_surface.specs.declared.expr.SExpr.{SExpr, roll-SExpr, fold_out-SExpr}
 use Rattle.cg_surface.specs.declared.expr.SForm.{SForm, Con, fold-SForm, fold_out-SForm, the_lemmas}
 use Rattle.cg_surface.specs.declared.expr.SForm.TheOpen as open'
 use Rattle.cg_surface.specs.declared.expr.SForm.TheOpen.{SForm-F}
-use Rattle.cg_surface.specs.declared.expr.FExpr.{FExpr, fold_out-FExpr}
-use Rattle.cg_surface.specs.declared.expr.Bind.{Bind, fold_out-Bind}
-use Rattle.cg_surface.specs.declared.expr.Alt.{Alt, fold_out-Alt}
-use Rattle.cg_surface.specs.Written.{written_of, and_type, to_types, types_push, types_none}
+use Rattle.cg_surface.specs.declared.expr.FExpr.{FExpr}
+use Rattle.cg_surface.specs.declared.expr.Bind.{Bind}
+use Rattle.cg_surface.specs.declared.expr.Alt.{Alt}
+use Rattle.cg_surface.specs.Written.{types_none}
 use Rattle.cg_surface.specs.Patterns.{pattern_of}
-use Rattle.cg_surface.specs.Exprs.{Expr, OneAlt, OneBind, OneField, layer, alt_layer, bind_layer, field_layer, expr_layer, expr_of, alt_of, bind_of, field_of, no_exprs, and_expr, no_fields, and_field, no_binds, and_bind, no_alts, and_alt, to_exprs, to_fields, to_binds, to_alts, exprs_push, fields_push, binds_push, alts_push, binds_none, place_of, con_of}
-
-field_is : (g : FExpr) → field_of g ≡ record { at = g.at; value = expr_of g.value }
-field_is g = fold_out-FExpr (Place → Expr) OneAlt OneBind OneField Expr layer alt_layer bind_layer field_layer expr_layer g
-
-bind_is : (b : Bind) → bind_of b ≡ record { pattern = pattern_of b.pat; value = expr_of b.value; seen = b.seen }
-bind_is b = fold_out-Bind (Place → Expr) OneAlt OneBind OneField Expr layer alt_layer bind_layer field_layer expr_layer b
-
-alt_is : (a : Alt) → alt_of a ≡ record { place = a.place; con = a.con; pattern = pattern_of a.pat; body = expr_of a.body }
-alt_is a = fold_out-Alt (Place → Expr) OneAlt OneBind OneField Expr layer alt_layer bind_layer field_layer expr_layer a
-
-pub args_added : (ts : List STy) (t : STy) → to_types (map written_of (ts ++ t ∷ [])) ≡ and_type (to_types (map written_of ts)) (written_of t)
-args_added ts t = ap to_types (map-append written_of ts (t ∷ [])) ∙ types_push (map written_of ts) (written_of t)
+use Rattle.cg_surface.specs.Exprs.{Expr, OneAlt, OneBind, OneField, layer, alt_layer, bind_layer, field_layer, expr_layer, expr_of, alt_of, bind_of, field_of, and_expr, and_field, and_bind, and_alt, to_exprs, to_fields, to_binds, to_alts, exprs_push, fields_push, binds_push, alts_push, binds_none, place_of, con_of}
+use Rattle.cg_surface.proofs.Views.{alternative_is as alt_is, bind_is, value_is as field_is, exprs_none, values_none as fields_none, choices_none as alts_none}
+use Rattle.cg_parser_types.proofs.Added.{types_added as args_added}
 
 pub exprs_added : (es : List SExpr) (e : SExpr) → to_exprs (map expr_of (es ++ e ∷ [])) ≡ and_expr (to_exprs (map expr_of es)) (expr_of e)
 exprs_added es e = ap to_exprs (map-append expr_of es (e ∷ [])) ∙ exprs_push (map expr_of es) (expr_of e)
@@ -51,18 +40,6 @@ alts_added choices p con x e =
     ap to_alts (map-append alt_of choices (a ∷ []))
     ∙ alts_push (map alt_of choices) (alt_of a)
     ∙ ap (λ (o : OneAlt). and_alt (to_alts (map alt_of choices)) o.place o.con o.pattern o.body) (alt_is a)
-
-pub exprs_none : to_exprs [] ≡ no_exprs
-unfolding to_exprs
-exprs_none = refl
-
-pub fields_none : to_fields [] ≡ no_fields
-unfolding to_fields
-fields_none = refl
-
-pub alts_none : to_alts [] ≡ no_alts
-unfolding to_alts
-alts_none = refl
 
 -- what grind needs of lists
 pub ruleset added = (args_added, exprs_added, fields_added, binds_added, alts_added, types_none, exprs_none, fields_none, binds_none, alts_none)

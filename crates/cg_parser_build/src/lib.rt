@@ -1,6 +1,8 @@
-//! Builds expressions bottom up, each with its depth (`BuiltExpr`): what is deeper than docs/LANGUAGE.md, "Limits", allows is None, and
-//! so is what holds it. A function for each form stands in `build` and `choices`, and for each list in `lists`; `patterns` has the
-//! patterns that the reader of expressions reads by itself. Want of memory is the one refusal.
+//! Stage: reading. Expressions built bottom up, each with its depth, and none where that passes the limit.
+//! Role: part of `cg_parser`.
+//! Promises: `build`, `choices`, `lists` and `patterns` have a function for each form; `BuiltExpr` is what they build.
+//! May cite: anything below it, of its stage and of those below; no crate above.
+//! docs/LANGUAGE.md, "Limits", says the depth. Want of memory is the one refusal.
 #![tactic(auto)]
 
 pub mod build;

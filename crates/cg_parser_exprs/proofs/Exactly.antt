@@ -3,7 +3,7 @@ use Rattle.std.proofs.Common.{◌≡◌, List, [], ◌∷◌, ◌++◌, refl, sy
 use Rattle.cg_base.specs.Reader.{run, Begins, Reads}
 use Rattle.cg_surface.specs.Exprs.{Expr}
 use Rattle.cg_parser_symbols.specs.Symbols.{Seen}
-use Rattle.cg_parser_symbols.specs.Follows.{Follows, option_map}
+use Rattle.cg_parser_symbols.specs.Follows.{Follows}
 use Rattle.cg_parser_types.specs.Grammar.{SpellsType}
 use Rattle.cg_parser_types.specs.Plain as plain_types
 use Rattle.cg_parser_types.proofs.Laws as type_laws

@@ -14,7 +14,7 @@ use Rattle.cg_parser_build.specs.Maps.{Maps}
 use Rattle.cg_parser_exprs.specs.Bars.{Choice, New, Joins, Wrong, bar_choice}
 use Rattle.cg_parser_exprs.specs.Grammar.{level, left_of}
 use Rattle.cg_parser_exprs.specs.Machine as machine
-use Rattle.cg_parser_exprs.specs.Machine.{Owner, Record, Put, Prefix, Operation, Upcast, Open, Frame, InParen, InTuple, InField, Argument, Payload, Operand, RightOf, Bound, Body, Condition, Then, Else, Branch, Angle, Mode, Want, Have, AfterLower, AfterUpper, InArgs, InSig, AfterDot, WantField, AfterField, InPattern, AfterAngle, AfterBang, Observed, WantAlt, AfterCon, InAltPattern, WantArrow, Stuck, WrongBar, name_at, starts_atom, operator, alone_op, shift_op, is_second}
+use Rattle.cg_parser_exprs.specs.Machine.{Owner, Record, Put, Prefix, Operation, Upcast, Open, Frame, InParen, InTuple, InField, Argument, Payload, Operand, RightOf, Bound, Body, Condition, Then, Else, Branch, Angle, Mode, Want, Have, AfterLower, AfterUpper, InArgs, InSig, AfterDot, WantField, AfterField, InPattern, AfterAngle, AfterBang, Observed, WantAlt, AfterCon, InAltPattern, WantArrow, Stuck, WrongBar, name_at, starts_atom, operator, alone_op, shift_op}
 
 -- what fields belong to
 abbrev pub owner_map : {X X' : Type 0} → (X → X') → Owner X → Owner X'

@@ -12,7 +12,7 @@ use Rattle.cg_surface.specs.Exprs.{Expr, name, Exprs, FieldExprs, Binds, Alts}
 use Rattle.cg_parser_symbols.specs.Symbols.{Symbol, lower, upper, let_word, in_word, and_word, if_word, then_word, else_word, not_word, complement_word, upcast_word, closing, brace, closing_brace, bracket, closing_bracket, less, greater, colon, equals, arrow, bang, bar, comma, dot, wildcard, Seen}
 use Rattle.cg_parser_exprs.specs.Bars.{Choice, New, Joins, Wrong, bar_choice}
 use Rattle.cg_parser_exprs.specs.Machine as machine
-use Rattle.cg_parser_exprs.specs.Machine.{Owner, Prefix, Operation, Upcast, Open, InParen, InTuple, InField, Argument, Payload, Operand, RightOf, Bound, Body, Condition, Then, Else, Branch, Angle, Want, Have, AfterLower, AfterUpper, InArgs, InSig, AfterDot, WantField, AfterField, InPattern, AfterAngle, AfterBang, Observed, WantAlt, AfterCon, InAltPattern, WantArrow, Stuck, WrongBar, starts_atom, operator, alone_op, shift_op, is_second}
+use Rattle.cg_parser_exprs.specs.Machine.{Owner, Prefix, Open, InParen, InTuple, InField, Argument, Payload, Operand, RightOf, Bound, Condition, Then, Branch, Angle, Want, Have, AfterLower, AfterUpper, InArgs, InSig, AfterDot, WantField, AfterField, InPattern, AfterAngle, AfterBang, Observed, WantAlt, AfterCon, InAltPattern, WantArrow, Stuck, WrongBar, starts_atom, operator, alone_op, shift_op, is_second}
 use Rattle.cg_parser_exprs.specs.Plain as plain
 use Rattle.cg_parser_build.specs.Plain.{trees}
 

@@ -22,9 +22,11 @@ use Rattle.cg_parser_exprs.specs.Unfinished as unfinished
 use Rattle.cg_parser_exprs.specs.Unfinished.{Frame, Open}
 use Rattle.cg_parser_exprs.proofs.Parts.{nothing_read, read_more, part_read}
 use Rattle.cg_parser_exprs.proofs.SoundStates as states
-use Rattle.cg_parser_exprs.proofs.SoundFacts.{loose_le, left_le, SignOf, sign_of, shift_left, alone_left, second_sign, choose, at}
+use Rattle.cg_parser_exprs.proofs.SoundFacts.{left_le, SignOf, sign_of, shift_left, alone_left, second_sign, at}
 use Rattle.cg_parser_exprs.proofs.SoundFrames.{anywhere, whole_of, closed_holds, calls_holds, room_least, spelled, atom_behind, seen_more}
 use Rattle.cg_parser_exprs.proofs.SoundEnds.{owned_holds, start_holds, on_in_holds, on_and_holds, on_then_holds, on_end_holds, on_bar_holds, on_op_holds}
+use Rattle.cg_base.proofs.Spans.{either_way as choose}
+use Rattle.cg_parser_exprs.proofs.CompleteSteps.{loose_le}
 
 module _ {TS PS : Type 0} (types : Reader TS Seen Written) (patterns : Reader PS Seen Pattern) (OfType : List Seen → Written → Type 0) (OfPattern : List Seen → Pattern → Type 0)
     (asked : Asked TS PS types patterns OfType OfPattern) where

@@ -16,14 +16,15 @@ use Rattle.cg_parser_symbols.specs.Readings.{Reading, ◌then◌}
 use Rattle.cg_parser_exprs.specs.Bars.{Choice, New, Joins, Wrong, bar_choice}
 use Rattle.cg_parser_exprs.specs.Grammar.{level, left_of, looseness, Stands, op_sign, Binds, FieldsBind, ReadsFields}
 use Rattle.cg_parser_exprs.specs.Machine as machine
-use Rattle.cg_parser_exprs.specs.Machine.{Owner, Record, Put, Prefix, Operation, Upcast, InParen, InTuple, InField, Argument, Payload, Operand, RightOf, Bound, Body, Condition, Then, Else, Branch, Want, Have, AfterUpper, InPattern, WantAlt, Stuck, WrongBar, operator}
+use Rattle.cg_parser_exprs.specs.Machine.{Owner, Record, Put, Prefix, Operation, Upcast, InParen, InTuple, InField, Argument, Payload, Operand, RightOf, Bound, Body, Condition, Then, Else, Branch, Want, Have, AfterUpper, InPattern, WantAlt, Stuck, WrongBar}
 use Rattle.cg_parser_build.specs.Plain.{trees}
 use Rattle.cg_parser_exprs.specs.Unfinished as unfinished
 use Rattle.cg_parser_exprs.specs.Unfinished.{Frame, Open, OwnerFits}
 use Rattle.cg_parser_exprs.proofs.Parts.{nothing_read}
 use Rattle.cg_parser_exprs.proofs.SoundStates as states
-use Rattle.cg_parser_exprs.proofs.SoundFacts.{left_le, op_least, choose, at}
+use Rattle.cg_parser_exprs.proofs.SoundFacts.{left_le, op_least, at}
 use Rattle.cg_parser_exprs.proofs.SoundFrames.{anywhere, whole_of, alts_read, fill_holds, closed_holds}
+use Rattle.cg_base.proofs.Spans.{either_way as choose}
 
 module _ {TS PS : Type 0} (types : Reader TS Seen Written) (patterns : Reader PS Seen Pattern) (OfType : List Seen → Written → Type 0) (OfPattern : List Seen → Pattern → Type 0) where
   abbrev Mode : Type 0

@@ -1,34 +1,19 @@
 -- What the machine's soundness needs of levels and signs.
-use Rattle.std.proofs.Common.{◌≡◌, ◌≤◌, List, ◌∷◌, refl, sym, arith, true, false, true≢false, Bool, cond, Option, Some, None}
+use Rattle.std.proofs.Common.{◌≡◌, ◌≤◌, List, ◌∷◌, refl, sym, arith, true, false, true≢false, Option, Some, None}
 use Rattle.std.specs.Prelude.{⊤}
 use Rattle.cg_base.specs.declared.place.Place.{Place}
 use Rattle.cg_core.specs.declared.op.Op.{Op}
 use Rattle.cg_core.specs.declared.op.Op.TheVariants.{Mul, Complement, Not}
-use Rattle.cg_surface.specs.Exprs.{Expr, app, member, put, binary}
+use Rattle.cg_surface.specs.Exprs.{Expr, app, member, put}
 use Rattle.cg_parser_symbols.specs.Symbols.{Symbol, Seen}
 use Rattle.cg_parser_symbols.specs.Symbols as symbols
 use Rattle.cg_parser_symbols.specs.Readings.{token}
-use Rattle.cg_parser_exprs.specs.Grammar.{level, left_of, right_of, looseness, Heads, Stands, op_sign}
+use Rattle.cg_parser_exprs.specs.Grammar.{level, left_of, right_of, Heads, Stands, op_sign}
 use Rattle.cg_parser_exprs.specs.Machine.{Angle, ToLeft, ToRight, operator, alone_op, shift_op, is_second}
-
--- what holds of both sides holds of the choice
-pub choose : {A : Type 0} (P : A → Type 0) (b : Bool) (x y : A) → (b ≡ true → P x) → (b ≡ false → P y) → P (cond b x y)
-choose P true x y f g = f refl
-choose P false x y f g = g refl
 
 -- the symbol that is read
 abbrev pub at : Symbol → Place → List Seen → List Seen
 at y p rest = record { symbol = y; place = p } ∷ rest
-
--- operators bind so loosely at most
-pub level_le : (o : Op) → level o ≤ 11
-level_le Mul = omega arith
-level_le o = omega arith
-
--- how loose expressions are
-pub loose_le : (e : Expr) → looseness e ≤ 12
-loose_le (binary p o a b) = omega (arith, level_le o)
-loose_le e = omega arith
 
 -- and their operands
 pub left_le : (o : Op) → left_of o ≤ 11

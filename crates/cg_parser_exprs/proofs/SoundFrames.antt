@@ -8,7 +8,7 @@ use Rattle.cg_core.specs.declared.at.At.{At}
 use Rattle.cg_surface.specs.Written.{Written}
 use Rattle.cg_surface.specs.Patterns.{Pattern}
 use Rattle.cg_surface.specs.Exprs.{Expr, name, number, bool, unit, paren, sig, tuple, fields, con, con_of, app, member, put, unary, upcast, binary, lets, if_else, match_of, Alts, no_alts, and_alt}
-use Rattle.cg_parser_symbols.specs.Symbols.{Symbol, Seen}
+use Rattle.cg_parser_symbols.specs.Symbols.{Seen}
 use Rattle.cg_parser_symbols.specs.Symbols as symbols
 use Rattle.cg_parser_symbols.specs.Readings.{Reading, ◌then◌, token, sign}
 use Rattle.cg_parser_exprs.specs.Grammar.{looseness, Heads, ReadsHead, ReadsAlts}
@@ -18,7 +18,8 @@ use Rattle.cg_parser_build.specs.Plain.{trees}
 use Rattle.cg_parser_exprs.specs.Unfinished as unfinished
 use Rattle.cg_parser_exprs.specs.Unfinished.{Frame, AtomFits, Fits}
 use Rattle.cg_parser_exprs.proofs.SoundStates as states
-use Rattle.cg_parser_exprs.proofs.SoundFacts.{right_le, right_least, stands_of, choose, at}
+use Rattle.cg_parser_exprs.proofs.SoundFacts.{right_le, right_least, stands_of, at}
+use Rattle.cg_base.proofs.Spans.{either_way as choose}
 
 module _ {TS PS : Type 0} (types : Reader TS Seen Written) (patterns : Reader PS Seen Pattern) (OfType : List Seen → Written → Type 0) (OfPattern : List Seen → Pattern → Type 0) where
   abbrev opens : List Frame → List ℕ

@@ -16,7 +16,7 @@ use Rattle.cg_parser_exprs.specs.Plain.{plain_reader}
 use Rattle.cg_parser_exprs.proofs.Reached as reached
 use Rattle.cg_parser_exprs.proofs.Reached.{Frame, Came}
 use Rattle.cg_parser_exprs.proofs.Completed as completed
-use Rattle.cg_parser_exprs.proofs.Completed.{there, at}
+use Rattle.cg_parser_exprs.proofs.Completed.{at}
 
 -- what is left of a part, and a tree that comes of it
 abbrev Left : {S Tree : Type 0} → Reader S Seen Tree → S → Type 0

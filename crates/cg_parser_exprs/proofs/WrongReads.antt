@@ -11,11 +11,11 @@ use Rattle.cg_surface.specs.Exprs.{Expr, unit, unary, no_exprs, and_expr, no_fie
 use Rattle.cg_parser_symbols.specs.Symbols.{Symbol, Seen, lower, upper, opening, unboxed, brace, in_word, then_word, else_word, not_word, complement_word, upcast_word, let_word, if_word, bar, equals}
 use Rattle.cg_parser_symbols.specs.Readings.{token}
 use Rattle.cg_parser_exprs.specs.Asked.{Asked}
-use Rattle.cg_parser_exprs.specs.Grammar.{looseness, AreNamed, AltsBind, FieldsBind}
+use Rattle.cg_parser_exprs.specs.Grammar.{looseness, AreNamed, AltsBind}
 use Rattle.cg_parser_exprs.specs.Grammar as grammar
 use Rattle.cg_parser_exprs.specs.Machine.{Owner, Record, Put, Operation, Upcast, InParen, InTuple, InField, Argument, Payload, Operand, RightOf, Bound, Body, Condition, Then, Else, Branch, Want, AfterUpper, WantField, AfterField, InPattern, WantAlt, starts_atom, is_second, ToLeft, ToRight}
 use Rattle.cg_parser_exprs.specs.Unfinished as unfinished
-use Rattle.cg_parser_exprs.specs.Unfinished.{Frame, Open, outcome, Fits, OwnerFits}
+use Rattle.cg_parser_exprs.specs.Unfinished.{Frame, outcome, Fits, OwnerFits}
 use Rattle.cg_parser_exprs.proofs.CompleteSteps.{level_high, left_high, loose_le, anywhere, stands, First, first}
 use Rattle.cg_parser_exprs.proofs.CompleteModes as modes
 use Rattle.cg_parser_exprs.proofs.CompleteModes.{go, called, as_wanted, upper_starts, op_read, ended, seen_ends, bar_opens, bar_joins, open_of}

@@ -17,8 +17,8 @@ use Rattle.cg_parser_exprs.specs.Machine as machine
 use Rattle.cg_parser_exprs.specs.Machine.{Owner, Prefix, Operation, Upcast, Angle, InParen, InTuple, InField, Argument, Payload, Operand, RightOf, Bound, Condition, Then, Branch, Want, Have, AfterLower, AfterUpper, InArgs, InSig, AfterDot, WantField, AfterField, InPattern, AfterAngle, AfterBang, Observed, WantAlt, AfterCon, InAltPattern, WantArrow, Stuck, WrongBar, starts_atom, operator, alone_op, shift_op, is_second}
 use Rattle.cg_parser_build.specs.Plain.{trees}
 use Rattle.cg_parser_exprs.specs.Unfinished.{Frame, Open}
-use Rattle.cg_parser_exprs.proofs.SoundFacts.{choose}
 use Rattle.cg_parser_exprs.proofs.CompleteModes as modes
+use Rattle.cg_base.proofs.Spans.{either_way as choose}
 
 -- what a bar that belongs nowhere would tell
 module _ {TS PS : Type 0} (types : Reader TS Seen Written) (patterns : Reader PS Seen Pattern) (W : Type 0) where

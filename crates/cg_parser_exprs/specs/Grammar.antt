@@ -8,7 +8,7 @@ use Rattle.cg_surface.specs.Written.{Written, Writtens, no_types, and_type}
 use Rattle.cg_surface.specs.Patterns.{Pattern}
 use Rattle.cg_surface.specs.Patterns as patterns
 use Rattle.cg_surface.specs.Exprs.{Expr, name, number, bool, unit, paren, sig, tuple, fields, con, con_of, app, member, put, unary, upcast, binary, lets, if_else, match_of, Exprs, no_exprs, and_expr, FieldExprs, no_fields, and_field, Binds as Bindings, no_binds, and_bind, Alts, no_alts, and_alt, place_of}
-use Rattle.cg_parser_symbols.specs.Symbols.{Symbol, Seen}
+use Rattle.cg_parser_symbols.specs.Symbols.{Seen}
 use Rattle.cg_parser_symbols.specs.Symbols as symbols
 use Rattle.cg_parser_symbols.specs.Readings.{Reading, ◌then◌, token, sign, IsSpelled}
 use Rattle.cg_parser_build.specs.Plain.{first_place}

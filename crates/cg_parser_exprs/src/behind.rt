@@ -15,8 +15,8 @@ use crate::operators::{alone_op, is_second, left_of, level, operator, shift_op, 
 use crate::readers::Parts;
 use crate::start::start;
 use cg_base::{Items, Memory, Name, Place};
-use cg_parser_build::{BuiltExpr, build, lists};
 use cg_core::{At, Op};
+use cg_parser_build::{BuiltExpr, build, lists};
 use cg_parser_stack::Stack;
 use cg_parser_symbols::Symbol;
 use std::alloc::Global;

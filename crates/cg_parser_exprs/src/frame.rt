@@ -1,7 +1,7 @@
 // What is open where an expression is read. What is too deep is none.
 use cg_base::{Items, Name, Place};
-use cg_parser_build::{BuiltAlts, BuiltArgs, BuiltBinds, BuiltExpr, BuiltExprs, BuiltFields};
 use cg_core::{At, Op};
+use cg_parser_build::{BuiltAlts, BuiltArgs, BuiltBinds, BuiltExpr, BuiltExprs, BuiltFields};
 use cg_parser_patterns::BuiltPattern;
 
 /// What the fields in braces belong to: a record, or a put of an expression.

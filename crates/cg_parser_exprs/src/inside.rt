@@ -14,9 +14,9 @@ use crate::readers::Parts;
 use cg_base::{Memory, Name, Place};
 use cg_parser_build::{BuiltArgs, BuiltBinds, BuiltExpr, build, lists};
 use cg_parser_patterns::{BuiltPattern, PatternEnd, PatternReader};
-use cg_parser_types::{BuiltType, TypeEnd, TypeReader};
 use cg_parser_stack::Stack;
 use cg_parser_symbols::Symbol;
+use cg_parser_types::{BuiltType, TypeEnd, TypeReader};
 use std::alloc::Global;
 
 /// The type that ends where a reader stands, if one does; otherwise the reader stays.

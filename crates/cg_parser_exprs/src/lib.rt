@@ -1,6 +1,8 @@
-//! Reads an expression, one symbol at a time: `ExprReader`. It goes from an expression's first token to the expression that the tokens
-//! spell, or to the first token that no expression goes on with (docs/LANGUAGE.md, "Expressions" and "Bars"). Types and patterns
-//! are read by readers of their own, and trees are built by `cg_parser_build`.
+//! Stage: reading. The reader of expressions, one symbol at a time, with the rule of bars.
+//! Role: part of `cg_parser`.
+//! Promises: `ExprReader`; laws: `reads_exactly`, `open_exactly`, `keeps_to_depth`, `stops_at_wrong_bars`.
+//! May cite: anything below it, of its stage and of those below; no crate above.
+//! docs/LANGUAGE.md, "Expressions" and "Bars", says what is spelled. Types and patterns are read by readers of their own.
 #![tactic(auto)]
 
 mod bars;

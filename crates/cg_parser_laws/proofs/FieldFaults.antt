@@ -1,6 +1,6 @@
 -- The faults of a field of a record stand in order: those of its name and of its value.
-use Rattle.std.proofs.Common.{◌≡◌, ℕ, ◌==◌, ◌&&◌, Bool, true, false, List, [], ◌∷◌, ◌++◌, refl, sym, subst, append-nil, arith, if◌then◌else◌}
-use Rattle.std.proofs.lemmas.Bool.{false≢true, false_from_ne_true, eqb-true, eq-eqb}
+use Rattle.std.proofs.Common.{◌≡◌, ℕ, ◌==◌, ◌&&◌, true, false, List, [], ◌∷◌, ◌++◌, refl, sym, subst, append-nil, arith, if◌then◌else◌}
+use Rattle.std.proofs.lemmas.Bool.{false_from_ne_true, eqb-true, eq-eqb}
 use Rattle.cg_base.specs.declared.place.Place.{Place}
 use Rattle.cg_base.specs.Places.{IsBefore, is_at}
 use Rattle.cg_core.specs.declared.at.At.{At}
@@ -13,11 +13,7 @@ use Rattle.cg_parser_laws.proofs.Names.{again_stands, fault_key, mention_is}
 use Rattle.cg_parser_laws.proofs.Places.{before_self}
 use Rattle.cg_parser_laws.proofs.Rising.{Rising}
 use Rattle.cg_parser_laws.proofs.Spans.{Between, Spans, StandAt, between_then, stands_one, stands_two}
-
--- two places, one before the other, aren't one; and a place is itself
-both_true : (a b : Bool) → (a && b) ≡ true → (a ≡ true) × (b ≡ true)
-both_true true b t = (refl, t)
-both_true false b t = absurd (false≢true t)
+use Rattle.cg_base.proofs.Truths.{both as both_true}
 
 one_place : (p q : Place) → is_at p q ≡ true → p ≡ q
 one_place p q t =

@@ -1,17 +1,16 @@
 -- The names that tokens spell begin with a small letter or `_` and go on as names do, and so do those of the functions of a program that a
 -- text spells.
-use Rattle.std.proofs.Common.{◌≡◌, ◌⊎◌, inl, inr, ℕ, Bool, true, false, cond, List, [], ◌∷◌, ◌++◌, map, Option, Some, None, sym, subst, codes}
+use Rattle.std.proofs.Common.{◌≡◌, inl, inr, ℕ, Bool, true, false, cond, List, [], ◌∷◌, ◌++◌, map, subst, codes}
 use Rattle.std.specs.List.{AllByRecursion, filter_map}
 use Rattle.std.specs.Str.{bytes_eq}
 use Rattle.cg_base.specs.declared.kind.Bound.{Bound}
 use Rattle.cg_base.specs.declared.place.Place.{Place}
 use Rattle.cg_core.specs.declared.at.At.{At}
-use Rattle.cg_core.specs.Kernels.{Function}
-use Rattle.cg_resolve_def.specs.Desugar.{function_of_entry, functions_of}
+use Rattle.cg_resolve_def.specs.Desugar.{function_of_entry}
 use Rattle.cg_lexer.specs.declared.token.TokenKind.{TokenKind}
 use Rattle.cg_lexer.specs.declared.token.TokenKind.TheVariants.{Lower, Upper, Number, Word, Sign, End}
 use Rattle.cg_lexer.specs.Tokens.{Cursor, Divides, IsTextOf, Lexeme, start}
-use Rattle.cg_parser.specs.Grammar.{ReadsAll, ReadsEntry, ReadsParams, ReadsProgram, ReadsVar, ReadsVars, Spells, SpellsExpr, VarsBefore, nothing, alone, listed}
+use Rattle.cg_parser.specs.Grammar.{ReadsAll, ReadsEntry, ReadsParams, ReadsProgram, ReadsVar, ReadsVars, SpellsExpr, VarsBefore, nothing, alone, listed}
 use Rattle.cg_parser_laws.specs.Laws.{IsNamed, SpelledIsNamed}
 use Rattle.cg_parser_patterns.specs.Grammar.{SpellsPattern}
 use Rattle.cg_parser_types.specs.Grammar.{SpellsType}

@@ -1,14 +1,10 @@
 -- Lists of the code with one item more.
 use Rattle.std.proofs.Common.{◌≡◌, List, [], ◌∷◌, ◌++◌, map, ◌∙◌, ap}
 use Rattle.std.proofs.lemmas.List.{map-append}
-use Rattle.cg_base.specs.declared.place.Place.{Place}
 use Rattle.cg_surface.specs.declared.pattern.Pat.{Pat}
-use Rattle.cg_surface.specs.declared.pattern.FPat.{FPat, fold_out-FPat}
-use Rattle.cg_surface.specs.Patterns.{Pattern, OneField, layer, field_layer, pattern_layer, pattern_of, field_of, Patterns, no_patterns, and_pattern, to_patterns, patterns_push, patterns_none, FieldPatterns, no_fields, and_field, to_fields, fields_push, fields_none}
-
--- a field, part by part
-field_is : (f : FPat) → field_of f ≡ record { at = f.at; pattern = pattern_of f.pat }
-field_is f = fold_out-FPat (Place → Pattern) OneField Pattern layer field_layer pattern_layer f
+use Rattle.cg_surface.specs.declared.pattern.FPat.{FPat}
+use Rattle.cg_surface.specs.Patterns.{OneField, pattern_of, field_of, and_pattern, to_patterns, patterns_push, patterns_none, and_field, to_fields, fields_push, fields_none}
+use Rattle.cg_surface.proofs.Views.{pattern_field_is as field_is}
 
 pub pattern_pushed : (xs : List Pat) (x : Pat) → to_patterns (map pattern_of (xs ++ x ∷ [])) ≡ and_pattern (to_patterns (map pattern_of xs)) (pattern_of x)
 pattern_pushed xs x = ap to_patterns (map-append pattern_of xs (x ∷ [])) ∙ patterns_push (map pattern_of xs) (pattern_of x)

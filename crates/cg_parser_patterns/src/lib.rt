@@ -1,6 +1,8 @@
-//! `PatternReader` reads a pattern, one symbol at a time: from its first token to the pattern that the tokens spell, or to the
-//! first token that no pattern goes on with (docs/LANGUAGE.md, "Patterns"). It is exact for the grammar of patterns, which is the
-//! law `patterns_are_read_exactly`. The readers of expressions and of items stand on it.
+//! Stage: reading. The reader of patterns, one symbol at a time.
+//! Role: part of `cg_parser`.
+//! Promises: `PatternReader` is the machine over patterns; laws: `patterns_are_read_exactly`, `whole_patterns_are_read_exactly`.
+//! May cite: anything below it, of its stage and of those below; no crate above.
+//! docs/LANGUAGE.md, "Patterns", says what is spelled.
 #![tactic(auto)]
 
 mod build;

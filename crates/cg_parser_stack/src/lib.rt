@@ -1,6 +1,7 @@
-//! `Stack` holds what is open where a text is read, the innermost on top: a bracket, the left of an operator, a field. The readers
-//! of types, of patterns and of expressions keep one each, so that parentheses may lie in each other as deep as they like
-//! (docs/ARCHITECTURE.md).
+//! Stage: reading. What is open where a text is read: a stack for each reader, as deep as parentheses lie in each other.
+//! Role: part of `cg_parser`.
+//! Promises: `Stack` is a list with the innermost first.
+//! May cite: anything below it, of its stage and of those below; no crate above.
 #![tactic(auto)]
 
 ghost use Rattle.std.specs.Prelude.{◌≡◌, [], ◌∷◌, reverse, OnOk, MatchOption};

@@ -1,5 +1,5 @@
 -- What it means that a reader of a part of a source, a type, a pattern or an expression, is exact for its grammar.
-use Rattle.std.specs.Prelude.{◌≡◌, ◌↔◌, ℕ, ◌≤◌, ◌<◌, List, Bool, true, Option, Some, None}
+use Rattle.std.specs.Prelude.{◌≡◌, ◌↔◌, ℕ, ◌≤◌, ◌<◌, List, true, Option, Some, None}
 use Rattle.cg_base.specs.Reader.{Reader, run, Begins}
 use Rattle.cg_parser_symbols.specs.Symbols.{Seen}
 

@@ -1,18 +1,15 @@
 -- Lists of the code with an item more, and the place of a type.
-use Rattle.std.proofs.Common.{◌≡◌, List, [], ◌∷◌, ◌++◌, map, Some, None, refl, ap, ◌∙◌}
+use Rattle.std.proofs.Common.{◌≡◌, List, [], ◌∷◌, ◌++◌, map, Some, None, ap, ◌∙◌}
 use Rattle.std.proofs.lemmas.List.{map-append}
 use Rattle.cg_base.specs.declared.place.Place.{Place}
 use Rattle.cg_core.specs.declared.at.At.{At}
-use Rattle.cg_surface.specs.declared.written.STy.{STy, fold_out-STy}
+use Rattle.cg_surface.specs.declared.written.STy.{STy}
 use Rattle.cg_surface.specs.declared.written.STyForm.{STyForm, fold-STyForm, fold_out-STyForm}
 use Rattle.cg_surface.specs.declared.written.STyForm.TheOpen as open'
-use Rattle.cg_surface.specs.declared.written.STyForm.TheOpen.{STyForm-F}
-use Rattle.cg_surface.specs.declared.written.SPart.{SPart, fold_out-SPart}
+use Rattle.cg_surface.specs.declared.written.SPart.{SPart}
 use Rattle.cg_surface.specs.declared.written.SAlt.{SAlt, roll-SAlt, fold-roll-SAlt}
 use Rattle.cg_surface.specs.Written.{Written, OneAlt, OneField, layer, alt_layer, field_layer, type_layer, written_of, field_of, alt_of, and_type, and_field, and_plain, and_alt, and_one, to_types, to_fields, to_alts, types_push, fields_push, alts_push, types_none, fields_none, alts_none, place_of}
-
-field_is : (g : SPart) → field_of g ≡ record { at = g.at; ty = written_of g.ty }
-field_is g = fold_out-SPart (Place → Written) OneAlt OneField Written layer alt_layer field_layer type_layer g
+use Rattle.cg_surface.proofs.Views.{type_field_is as field_is, layer_at}
 
 -- an alternative without, and with a payload
 abbrev plain_alt : At → SAlt
@@ -31,25 +28,9 @@ alt_is at t = fold-roll-SAlt (Place → Written) OneAlt OneField Written layer a
 form_of : STyForm → Place → Written
 form_of = fold-STyForm (Place → Written) OneAlt OneField Written layer alt_layer field_layer type_layer
 
-layer_at : (l : STyForm-F (Place → Written) OneAlt OneField Written) (p : Place) → place_of (layer l p) ≡ p
-layer_at (open'.Name n ts) p = refl
-layer_at open'.Unit p = refl
-layer_at (open'.Tuple ts) p = refl
-layer_at (open'.Paren t) p = refl
-layer_at (open'.Arrow a b) p = refl
-layer_at (open'.Fields gs boxed) p = refl
-layer_at (open'.Variant choices) p = refl
-layer_at (open'.Bang t) p = refl
-layer_at (open'.TakeSome t ns) p = refl
-layer_at (open'.TakeAll t q) p = refl
-
 form_at : (f : STyForm) (p : Place) → place_of (form_of f p) ≡ p
 unfolding form_of
 form_at f p = ap (λ g. place_of (g p)) (fold_out-STyForm (Place → Written) OneAlt OneField Written layer alt_layer field_layer type_layer f) ∙ layer_at _ p
-
-pub place_at : (t : STy) → place_of (written_of t) ≡ t.place
-unfolding form_of
-place_at t = ap place_of (fold_out-STy (Place → Written) OneAlt OneField Written layer alt_layer field_layer type_layer t) ∙ form_at t.form t.place
 
 pub types_added : (ts : List STy) (t : STy) → to_types (map written_of (ts ++ t ∷ [])) ≡ and_type (to_types (map written_of ts)) (written_of t)
 types_added ts t = ap to_types (map-append written_of ts (t ∷ [])) ∙ types_push (map written_of ts) (written_of t)

@@ -10,7 +10,7 @@ use Rattle.cg_parser_symbols.specs.Symbols.{Symbol, lower, upper, take_word, ope
 use Rattle.cg_parser_symbols.specs.Readings.{token}
 use Rattle.cg_parser_types.specs.Grammar.{looseness, record_sign, NamesBefore, ReadsNames, ReadsType, ReadsArgs, TypesBefore, FieldsBefore, AltsBefore, Binds, ArgsBind, TypesBind, FieldsBind, AltsBind, SpellsType}
 use Rattle.cg_parser_types.specs.Machine as machine
-use Rattle.cg_parser_types.specs.Machine.{InParen, InTuple, InField, InAlt, InArgs, InArrow, Want, Alone, Head, Taken, WantField, AfterField, WantAlt, AfterAlt, AfterTake, TakeOpen, TakeDots, TakeName, TakeMore, Stuck, name_at, starts, strength}
+use Rattle.cg_parser_types.specs.Machine.{InParen, InTuple, InField, InAlt, InArgs, InArrow, Want, Alone, Head, Taken, WantField, AfterField, WantAlt, AfterAlt, AfterTake, TakeOpen, TakeDots, TakeName, TakeMore, starts, strength}
 use Rattle.cg_parser_types.specs.Plain.{trees}
 use Rattle.cg_parser_types.proofs.Short.{Frame, Mode, closed, hole, room, closes, bare, go_past, start, mode_step, end_whole, mode_end, run}
 

@@ -4,7 +4,7 @@ use Rattle.cg_base.specs.declared.place.Place.{Place}
 use Rattle.cg_surface.specs.Written.{Written}
 use Rattle.cg_parser_symbols.specs.Symbols.{closing, closing_bracket, comma}
 use Rattle.cg_parser_types.specs.Machine as machine
-use Rattle.cg_parser_types.specs.Machine.{Want, Alone, Head, Taken, WantField, AfterField, WantAlt, AfterAlt, AfterTake, TakeOpen, TakeDots, TakeName, TakeMore, Stuck, mode_is_open}
+use Rattle.cg_parser_types.specs.Machine.{Alone, Head, Taken, mode_is_open}
 use Rattle.cg_parser_types.specs.Plain as plain
 use Rattle.cg_parser_types.specs.Plain.{trees, plain_reader}
 use Rattle.cg_parser_types.proofs.Short.{Frame, whole, closed, bare}

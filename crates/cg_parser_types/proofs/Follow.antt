@@ -65,7 +65,7 @@ module _ {X L F V Y M G W : Type 0} (x : X → Y) (l : L → M) (f : F → G) (v
   mode_map (TakeMore t ns fs) = TakeMore (x t) ns (frames_map fs)
   mode_map Stuck = Stuck
 
-same_cond : {A D : Type 0} (k : A → D) (b : Bool) (x y : A) → cond b (k x) (k y) ≡ k (cond b x y)
+pub same_cond : {A D : Type 0} (k : A → D) (b : Bool) (x y : A) → cond b (k x) (k y) ≡ k (cond b x y)
 same_cond k true x y = refl
 same_cond k false x y = refl
 

@@ -1,6 +1,6 @@
 -- What the machine has read is what its mode spells.
-use Rattle.std.proofs.Common.{◌≡◌, ℕ, ◌≤◌, List, [], ◌∷◌, ◌++◌, inl, inr, refl, sym, subst, arith, true, false, Bool, cond, Option, Some, None}
-use Rattle.std.specs.Prelude.{nat_le, if◌then◌else◌, ⊤}
+use Rattle.std.proofs.Common.{◌≡◌, ℕ, ◌≤◌, List, [], ◌∷◌, ◌++◌, inl, inr, refl, sym, subst, arith, Bool, Option, Some, None}
+use Rattle.std.specs.Prelude.{nat_le, ⊤}
 use Rattle.std.proofs.lemmas.Bool.{leb-true}
 use Rattle.cg_base.specs.declared.place.Place.{Place}
 use Rattle.cg_core.specs.declared.at.At.{At}
@@ -13,6 +13,7 @@ use Rattle.cg_parser_types.specs.Machine.{InParen, InTuple, InField, InAlt, InAr
 use Rattle.cg_parser_types.specs.Plain.{trees}
 use Rattle.cg_parser_types.proofs.Short.{Frame, Mode, closed, room, closes, fill, bare, on_end, go_past, start, mode_step, whole, end_whole, mode_end, step, run}
 use Rattle.cg_parser_types.proofs.Complete.{loose_le}
+use Rattle.cg_base.proofs.Spans.{either_way as choose}
 
 -- how loosely the type of a frame is bound
 abbrev pub outcome : Frame → ℕ
@@ -124,11 +125,6 @@ fill_loose (InField p boxed gs at) t h = absurd (omega arith)
 fill_loose (InAlt p choices at) t h = absurd (omega arith)
 fill_loose (InArgs p n args) t h = omega arith
 fill_loose (InArrow a) t h = omega arith
-
--- what holds of both sides holds of the choice
-pub choose : {A : Type 0} (P : A → Type 0) (b : Bool) (x y : A) → (b ≡ true → P x) → (b ≡ false → P y) → P (cond b x y)
-choose P true x y f g = f refl
-choose P false x y f g = g refl
 
 -- what is done behind the closed frames
 abbrev closed_to : {A : Type 0} → ℕ → (Written → List Frame → A) → Written → List Frame → A

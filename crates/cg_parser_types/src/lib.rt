@@ -1,6 +1,8 @@
-//! `TypeReader` reads a type, one symbol at a time: docs/LANGUAGE.md, "Types". It is exact for the grammar of types, which is the
-//! law `types_are_read_exactly`. The readers of expressions and of whole sources stand on it; `specs/` has the grammar,
-//! and the reader that this one is.
+//! Stage: reading. The reader of types, one symbol at a time.
+//! Role: part of `cg_parser`.
+//! Promises: `TypeReader` is the machine over types; laws: `types_are_read_exactly`, `whole_types_are_read_exactly`.
+//! May cite: anything below it, of its stage and of those below; no crate above.
+//! docs/LANGUAGE.md, "Types", says what is spelled. `specs/` has the grammar, and the reader that this one is.
 #![tactic(auto)]
 
 mod build;

@@ -28,7 +28,7 @@ of_name (unknown p) = N1 p
 of_name (twice p) = N2 p
 of_name (arguments p) = N4 p
 
-no_first : (fault : NameFault) (faults : List NameFault) → IsFirst fault faults → faults ≡ [] → ⊥
+pub no_first : (fault : NameFault) (faults : List NameFault) → IsFirst fault faults → faults ≡ [] → ⊥
 no_first fault [] is none = is
 no_first fault (first ∷ later) is none = cc
 
@@ -36,11 +36,11 @@ the_first : (fault first : NameFault) (later faults : List NameFault) → IsFirs
 the_first fault first later [] is first_is = absurd is
 the_first fault first later (found ∷ rest) is first_is = let same : found ≡ first = cc in sym same ∙ is
 
-no_place : (p : Place) (places : List Place) → takes.IsFirst p places → places ≡ [] → ⊥
+pub no_place : (p : Place) (places : List Place) → takes.IsFirst p places → places ≡ [] → ⊥
 no_place p [] is none = is
 no_place p (first ∷ later) is none = cc
 
-same_place : (p q : Place) (places : List Place) → takes.IsFirst p places → takes.IsFirst q places → p ≡ q
+pub same_place : (p q : Place) (places : List Place) → takes.IsFirst p places → takes.IsFirst q places → p ≡ q
 same_place p q [] is also = absurd is
 same_place p q (first ∷ later) is also = sym is ∙ also
 

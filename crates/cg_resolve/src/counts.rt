@@ -7,8 +7,8 @@ ghost use Rattle.cg_resolve.specs.Answers.{CountsSay};
 
 use crate::fault::Fault;
 use cg_base::Limit;
-use cg_surface::Item;
 use cg_resolve_written::is_too_wide;
+use cg_surface::Item;
 
 // No program has more functions.
 const FUNCTIONS_LIMIT: usize = 4096;

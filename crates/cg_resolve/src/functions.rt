@@ -16,9 +16,9 @@ use crate::copies::{copy_bounds, names_of};
 use cg_base::{Bound, Items, Memory};
 use cg_core::{At, KBody, KFun, Kernel, TyArg};
 use cg_resolve_declared::Declarations;
-use cg_surface::{Item, STy};
 use cg_resolve_terms::{TermFault, body};
 use cg_resolve_written::{Synonyms, written_type};
+use cg_surface::{Item, STy};
 use std::alloc::Global;
 
 /// The kernel of a program: the functions of its signatures, in order, each with the body of the first definition of its name

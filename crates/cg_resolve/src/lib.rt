@@ -1,5 +1,8 @@
-//! From a surface program to its kernel: names become positions and functions, synonyms are expanded, and patterns, matches and
-//! observers become terms (docs/LANGUAGE.md, "Names", "Synonyms" and "Desugaring").
+//! Stage: names. A surface program to its kernel: positions for names, synonyms expanded, patterns and matches as terms.
+//! Role: public.
+//! Promises: `resolve` answers the kernel, the first fault of names or the first limit, exactly; law: `one_answer`.
+//! May cite: anything of its stage and of those below; no crate above.
+//! docs/LANGUAGE.md, "Names", "Synonyms" and "Desugaring", says what that is.
 #![tactic(auto)]
 
 ghost use Rattle.std.specs.Prelude.{IfOk};
@@ -19,9 +22,9 @@ mod order;
 use cg_core::Kernel;
 use cg_resolve_declared::Declarations;
 use cg_resolve_names::check_names;
-use cg_surface::Program;
 use cg_resolve_takes::check_takes;
 use cg_resolve_written::synonyms;
+use cg_surface::Program;
 use counts::check_counts;
 pub use fault::Fault;
 use functions::kernel;

@@ -1,5 +1,8 @@
-//! What a program declares, in tables by name, [`Declarations`], and what is declared beforehand, [`plain_type`] and
-//! [`library_function`] (docs/LANGUAGE.md, "Names").
+//! Stage: names. What a program declares, in tables by name, and what is declared beforehand.
+//! Role: part of `cg_resolve`.
+//! Promises: `Declarations`, `plain_type`, `library_function`, `is_variable`, exactly as defined.
+//! May cite: anything below it, of its stage and of those below; no crate above.
+//! docs/LANGUAGE.md, "Names", says what is declared.
 #![tactic(auto)]
 
 mod beforehand;

@@ -1,7 +1,5 @@
 -- What is without a fault of names: so are its parts, and a name that isn't twice is among none before it.
 use Rattle.std.proofs.Common.{◌≡◌, ℕ, Bool, true, false, cond, List, [], ◌∷◌, ◌++◌, refl}
-use Rattle.std.specs.Cmp.Lexicographic.{bytes_decides}
-use Rattle.std.specs.Str.{bytes_eq}
 use Rattle.cg_base.specs.declared.place.Place.{Place}
 use Rattle.cg_surface.specs.Programs.{Entry}
 use Rattle.cg_resolve_def.specs.Declared.{is_among}
@@ -23,10 +21,6 @@ not_again before p n none = pick (is_among before n) none
     pick : (b : Bool) → cond b (twice p ∷ []) [] ≡ [] → b ≡ false
     pick true e = absurd (cc)
     pick false e = refl
-
--- a name has its own bytes
-pub same_name : (n : List ℕ) → bytes_eq n n ≡ true
-same_name n = (bytes_decides n n).1 refl
 
 -- what is without a fault behind an item
 pub behind : (entries : List Entry) (before : Before) (e : Entry) (es : List Entry) → faults_from entries before (e ∷ es) ≡ [] → faults_from entries (declared_with before e) es ≡ []

@@ -8,7 +8,7 @@ use Rattle.std.specs.Fmt.{decimal}
 use Rattle.std.specs.List.{All, Contains}
 use Rattle.std.specs.Str.{bytes_eq}
 use Rattle.cg_base.specs.declared.place.Place.{Place}
-use Rattle.cg_base.specs.Types.{Tau, var, abs, Piece, to_taus}
+use Rattle.cg_base.specs.Types.{Tau, var, Piece}
 use Rattle.cg_base.specs.Types as kernel
 use Rattle.cg_core_def.specs.Lawful.{AreSome, HasArguments, IsLawfulType}
 use Rattle.cg_surface.specs.Written.{Written, Writtens, WrittenFields, WrittenAlts}
@@ -22,9 +22,10 @@ use Rattle.cg_resolve_def.specs.Mentions.{alts_mentions, fields_mentions, type_m
 use Rattle.cg_resolve_def.specs.Takes.{alts_length, fields_length, widest, widest_alt, widest_field, widest_of}
 use Rattle.cg_resolve_def.proofs.Faultless.{none_left, none_right, not_again}
 use Rattle.cg_resolve_def.specs.Shaped.{AreShapedAlts, AreShapedFields, AreShapedTypes, IsShapedType}
-use Rattle.cg_resolve_laws.proofs.Lists.{AreNew, is_name, new_here, one_new}
+use Rattle.cg_resolve_laws.proofs.Lists.{AreNew, new_here, one_new}
 use Rattle.cg_resolve_laws.proofs.Rising.{in_order_rising}
 use Rattle.cg_resolve_laws.proofs.Types.{ArePieces, alts_of_pieces, bang_lawful, in_order_pieces, in_order_some, list_count, list_lawful, names_of_pieces, parts_of_pieces, subst_lawful, take_all_lawful, take_some_lawful}
+use Rattle.cg_base.proofs.Sequences.{is_name}
 
 -- ---- numbers of arguments
 

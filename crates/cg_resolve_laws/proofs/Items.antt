@@ -16,7 +16,7 @@ use Rattle.cg_resolve_def.specs.Faults.{Before, again, ats_of, declared_with, en
 use Rattle.cg_resolve_def.specs.Takes.{widest_entry, widest_part}
 use Rattle.cg_resolve_def.proofs.Faultless.{behind, none_left, not_again}
 use Rattle.cg_resolve_def.specs.Shaped.{IsShapedEntry}
-use Rattle.cg_resolve_laws.proofs.Lists.{is_name}
+use Rattle.cg_base.proofs.Sequences.{is_name}
 
 -- an item without a fault, behind some others
 pub record IsWithout (entries : List Entry) (e : Entry) : Type 0 where

@@ -16,11 +16,11 @@ use Rattle.cg_resolve_def.specs.Desugar.{function_of, functions_of}
 use Rattle.cg_resolve_def.specs.Expand.{bodies, component, components, types_length}
 use Rattle.cg_resolve_def.specs.Faults.{program_faults, types_faults}
 use Rattle.cg_resolve_def.specs.Mentions.{mentions}
-use Rattle.cg_resolve_def.proofs.Faultless.{same_name}
 use Rattle.cg_resolve_def.proofs.PartNames.{piece_names}
 use Rattle.cg_base.specs.Types.{Piece, unit}
 use Rattle.cg_resolve_def.specs.Shaped.{AreShapedTypes, IsShaped, IsShapedEntry}
 use Rattle.cg_resolve_laws.proofs.Types.{names_of_pieces}
+use Rattle.cg_base.proofs.Sequences.{itself as same_name}
 
 -- the law without a limit
 abbrev Unlimited : Type 0

@@ -1,13 +1,13 @@
 -- Fields without a fault, names among names, and names that are apart.
 use Rattle.std.proofs.Common.{◌≡◌, ℕ, ◌||◌, Bool, true, false, cond, List, [], ◌∷◌, ◌++◌, ◌⊎◌, inl, inr, refl, ap, subst as carry}
 use Rattle.std.proofs.lemmas.Bool.{or_right}
-use Rattle.std.specs.Cmp.Lexicographic.{bytes_decides}
 use Rattle.std.specs.Str.{bytes_eq}
 use Rattle.cg_resolve_def.specs.Declared.{is_among}
 use Rattle.cg_base.specs.Places.{is_at}
 use Rattle.cg_core.specs.declared.at.At.{At}
 use Rattle.cg_resolve_def.specs.Faults.{NameFault, again, arguments, field_with, twice, unknown}
-use Rattle.cg_resolve_def.proofs.Faultless.{none_right, same_name}
+use Rattle.cg_resolve_def.proofs.Faultless.{none_right}
+use Rattle.cg_base.proofs.Sequences.{itself as same_name, is_name}
 
 -- a field without a fault is new, and its value has none
 pub field_none : (before : List (List ℕ)) (at : At) (faults : List NameFault) → field_with before at faults ≡ [] → (again before at.place at.name ≡ []) × (faults ≡ [])
@@ -19,10 +19,6 @@ field_none before at (unknown p ∷ later) e = absurd (pick (is_at p at.place) e
     pick false h = let no = none_right (again before at.place at.name) (unknown p ∷ later) h in cc
 field_none before at (twice p ∷ later) e = absurd (let no = none_right (again before at.place at.name) (twice p ∷ later) e in cc)
 field_none before at (arguments p ∷ later) e = absurd (let no = none_right (again before at.place at.name) (arguments p ∷ later) e in cc)
-
--- names that have the same bytes are the same
-pub is_name : (n m : List ℕ) → bytes_eq n m ≡ true → n ≡ m
-is_name n m e = (bytes_decides n m).0 e
 
 -- none of the names before is one of these
 abbrev pub AreNew : List (List ℕ) → List (List ℕ) → Type 0

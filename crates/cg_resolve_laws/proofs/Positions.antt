@@ -13,8 +13,9 @@ use Rattle.cg_resolve_def.specs.Declared.{OfProgram, function_from, is_among}
 use Rattle.cg_resolve_def.specs.Desugar.{function_of, function_of_entry}
 use Rattle.cg_resolve_def.specs.Faults.{Before, declared_with, entry_faults, faults_from}
 use Rattle.cg_resolve_def.specs.Mentions.{signature_from}
-use Rattle.cg_resolve_def.proofs.Faultless.{behind, same_name}
+use Rattle.cg_resolve_def.proofs.Faultless.{behind}
 use Rattle.cg_resolve_laws.proofs.Items.{here, signature_new}
+use Rattle.cg_base.proofs.Sequences.{itself as same_name}
 
 -- the position among the items of the signature at this position among the signatures
 abbrev pub item_at : List Entry → ℕ → ℕ

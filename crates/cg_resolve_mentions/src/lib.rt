@@ -1,5 +1,8 @@
-//! Which items of a program mention which, [`mentions`], through the bodies of synonyms and functions: the graph whose circles are
-//! at fault (docs/LANGUAGE.md, "Names", N3).
+//! Stage: names. Which items mention which through bodies.
+//! Role: part of `cg_resolve`.
+//! Promises: `mentions` gives the graph of mentions of a program, exactly as defined (`specs/Positions.antt`).
+//! May cite: anything below it, of its stage and of those below; no crate above.
+//! Its circles are at fault (docs/LANGUAGE.md, "Names", N3).
 #![tactic(auto)]
 
 mod exprs;

@@ -1,5 +1,8 @@
-//! Where names are at fault, [`check_names`]: the first name of a program in reading order that isn't defined where it stands (N1),
-//! that is defined twice (N2), or that has a wrong number of type arguments (N4) (docs/LANGUAGE.md, "Names").
+//! Stage: names. Names that are not defined where they stand, or twice, or with a wrong number of type arguments.
+//! Role: part of `cg_resolve`.
+//! Promises: `check_names` answers the first of N1, N2 and N4 in reading order, exactly; `Scope` is a list of names.
+//! May cite: anything below it, of its stage and of those below; no crate above.
+//! docs/LANGUAGE.md, "Names", says the rules.
 #![tactic(auto)]
 
 mod exprs;

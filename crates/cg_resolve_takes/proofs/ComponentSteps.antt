@@ -1,10 +1,8 @@
 -- A name is that of a component exactly where its digits say so.
-use Rattle.std.proofs.Common.{◌≡◌, ◌⊎◌, inl, inr, ℕ, zero, suc, ◌+◌, ◌-◌, ◌<◌, ◌≤◌, ◌^◌, Bool, true, false, List, [], ◌∷◌, length, get_or, Option, Some, None, refl, sym, ap, ◌∙◌, subst, arith, rules, decimal, ⊎_elim}
+use Rattle.std.proofs.Common.{◌≡◌, ◌⊎◌, inl, inr, ℕ, zero, suc, ◌+◌, ◌-◌, ◌<◌, ◌≤◌, ◌^◌, true, List, [], ◌∷◌, length, get_or, Option, Some, None, refl, sym, ap, ◌∙◌, subst, arith, decimal, ⊎_elim}
 use Rattle.std.specs.Prelude.{◌&&◌, ◌==◌, not}
 use Rattle.std.proofs.lemmas.Bool.{and_parts, and_from, or_cases, or_left, or_right, not-true, not_from_false, eqb-true, eqb-false, ne_eqb, leb-true, le-leb, cases_lt}
-use Rattle.std.proofs.lemmas.Bool.Decides.{nat_tests}
 use Rattle.std.proofs.lemmas.Fmt.{digits_decimal, digits_value-decimal, decimal-digits_value, first_decimal, decimal_digit, decimal_nonempty}
-use Rattle.std.proofs.lemmas.Str.Parse.{IsNumeralModel, numerals_by_fold}
 use Rattle.std.specs.Cmp.Lexicographic.{bytes_decides}
 use Rattle.std.specs.List.{list_all}
 use Rattle.std.specs.Str.{bytes_eq}
@@ -15,17 +13,11 @@ use Rattle.cg_resolve_def.specs.Expand.{component}
 use Rattle.cg_resolve_takes.specs.Components.{counts_to, is_position, is_numbered}
 use Rattle.cg_resolve_takes.specs.Heads.{component_names}
 use Rattle.cg_resolve_takes.proofs.FieldSteps.{among_more}
+use Rattle.cg_base.proofs.Counts.{own}
+use Rattle.cg_base.proofs.Options.{word_is, word_of}
+use Rattle.cg_base.proofs.Truths.{same_test}
 
 -- ---- numbers and their digits
-
-own : IsNumeralModel (λ ds. list_all digit ds ≡ true) (number_from 0)
-own = numerals_by_fold _ (search rules) number_from (search rules)
-
-word_is : (n m : ℕ) → word64 n ≡ Some m → (n ≡ m) × (m < 2 ^ 64)
-word_is n m e = grind (arith, nat_tests)
-
-word_of : (n : ℕ) → n < 2 ^ 64 → word64 n ≡ Some n
-word_of n h = grind (arith, nat_tests)
 
 -- a number from 1 on, written out
 position_from : (most n : ℕ) (ds : List ℕ) → ds ≡ decimal n → 0 < n → n ≤ most → n < 2 ^ 64 → is_position most ds ≡ true
@@ -93,11 +85,6 @@ numbered_some most (b ∷ digits) h =
     let back : digits ≡ decimal (found.0 - 1 + 1) = found.3 ∙ ap decimal (omega (arith, found.1)) in
     let first : b ≡ 112 = eqb-true b 112 parts.0 in
     (found.0 - 1, omega (arith, found.1, found.2), ap (λ c. c ∷ digits) first ∙ ap (λ l. 112 ∷ l) back)
-
-same_test : (a b : Bool) → (a ≡ true → b ≡ true) → (b ≡ true → a ≡ true) → a ≡ b
-same_test true b to from = sym (to refl)
-same_test false true to from = from refl
-same_test false false to from = refl
 
 pub numbered_is : (most : ℕ) (name : List ℕ) → most < 2 ^ 64 → is_numbered most name ≡ is_among (component_names most) name
 numbered_is most name small =

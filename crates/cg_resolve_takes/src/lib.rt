@@ -1,5 +1,8 @@
-//! The first field that is taken of a type that has none of its name, by [`check_takes`] (docs/LANGUAGE.md, "Names": N5). No written
-//! type is built, since synonyms may double: of each synonym only the head of its body is kept.
+//! Stage: names. The first field that is taken of a type that has none of its name.
+//! Role: part of `cg_resolve`.
+//! Promises: `check_takes` answers the first N5 in reading order, exactly.
+//! May cite: anything below it, of its stage and of those below; no crate above.
+//! No written type is built, since synonyms may double: of each synonym only the head of its body is kept.
 #![tactic(auto)]
 
 mod component;

@@ -20,9 +20,9 @@ use Rattle.cg_resolve_terms.specs.Sites.{scope_of, scope_in, inside, level, Fits
 use Rattle.cg_resolve_terms.specs.Stands.{under, under_last, under_choices, HasRoom}
 use Rattle.cg_resolve_terms.proofs.BinderSteps.{variable_room, drop_next}
 use Rattle.cg_resolve_terms.proofs.ScopeSteps.{scope_long}
-use Rattle.cg_resolve_terms.proofs.ChoiceSteps.{alt_is}
 use Rattle.cg_resolve_terms.proofs.SiteLaws.{weaker, no_room, err_binds}
 use Rattle.cg_resolve_terms.proofs.TermSteps.{err_says}
+use Rattle.cg_surface.proofs.Views.{alternative_is as alt_is}
 use denote.Ref.{Bor}
 
 -- So far the alternatives of a match have become those that are left, at another site and of another subject.

@@ -6,8 +6,8 @@ use Rattle.cg_base.specs.declared.place.Place.{Place}
 use Rattle.cg_core.specs.declared.at.At.{At}
 use Rattle.cg_core.specs.declared.term.Term.{the_lemmas as term_lemmas}
 use Rattle.cg_core.specs.Terms.{term, esac, case_of}
-use Rattle.cg_surface.specs.declared.expr.Alt.{Alt, fold_out-Alt}
-use Rattle.cg_surface.specs.Exprs.{OneAlt, alt_of, expr_of, layer, alt_layer, bind_layer, field_layer, expr_layer}
+use Rattle.cg_surface.specs.declared.expr.Alt.{Alt}
+use Rattle.cg_surface.specs.Exprs.{OneAlt, alt_of}
 use Rattle.cg_surface.specs.Patterns.{Pattern, pattern_of}
 use Rattle.cg_resolve_def.specs.Terms.{Term, Rest, inner_place, or_empty, bound_to, last_bound}
 use Rattle.cg_resolve_terms.specs.declared.fault.TermFault.{TermFault}
@@ -18,10 +18,7 @@ use Rattle.cg_resolve_terms.specs.Stands.{under, under_last, under_choices, HasR
 use Rattle.cg_resolve_terms.proofs.FrameLaws.{depth_pos}
 use Rattle.cg_resolve_terms.proofs.SiteLaws.{no_room}
 use Rattle.cg_resolve_terms.proofs.StandLaws.{bound_under}
-
--- an alternative by its parts
-pub alt_is : (a : Alt) → alt_of a ≡ record { place = a.place; con = a.con; pattern = pattern_of a.pat; body = expr_of a.body }
-alt_is a = fold_out-Alt _ _ _ _ _ layer alt_layer bind_layer field_layer expr_layer a
+use Rattle.cg_surface.proofs.Views.{alternative_is as alt_is}
 
 pub ruleset choice_steps = (alt_is, term_lemmas)
 

@@ -8,8 +8,8 @@ use Rattle.cg_core.specs.declared.at.At.{At}
 use Rattle.cg_core.specs.declared.term.Term as code
 use Rattle.cg_core.specs.Kernels.{the_term}
 use Rattle.cg_core.specs.Terms.{to_named, OneField}
-use Rattle.cg_surface.specs.declared.expr.Bind.{Bind, fold_out-Bind}
-use Rattle.cg_surface.specs.Exprs.{Expr, OneBind, bind_of, expr_of, layer, alt_layer, bind_layer, field_layer, expr_layer}
+use Rattle.cg_surface.specs.declared.expr.Bind.{Bind}
+use Rattle.cg_surface.specs.Exprs.{Expr, OneBind, bind_of, expr_of}
 use Rattle.cg_surface.specs.Patterns.{Pattern, pattern_of}
 use Rattle.cg_resolve_def.specs.Desugar.{depth_of, deepest_named, term_limit}
 use Rattle.cg_resolve_def.specs.Terms.{Scope, Term, Rest, its_name, inner_place, first_place, bind, bound_to, let_bound, seen_bound, payload_bound}
@@ -27,6 +27,7 @@ use Rattle.cg_resolve_terms.proofs.ScopeSteps.{scope_push, scope_long}
 use Rattle.cg_resolve_terms.proofs.SiteLaws.{weaker, no_room, err_binds, binds_then, first_deep}
 use Rattle.cg_resolve_terms.proofs.StandLaws.{bound_under, bound_alike}
 use Rattle.cg_resolve_terms.proofs.TermSteps.{err_says}
+use Rattle.cg_surface.proofs.Views.{bind_is}
 use denote.Ref.{Bor}
 
 -- ---- fields of a record that is made
@@ -150,9 +151,6 @@ small_more None small = tt
 small_more (Some k) small = omega (arith, small)
 
 -- ---- a binding of a `let`
-
-pub bind_is : (b : Bind) → bind_of b ≡ record { pattern = pattern_of b.pat; value = expr_of b.value; seen = b.seen }
-bind_is b = fold_out-Bind _ _ _ _ _ layer alt_layer bind_layer field_layer expr_layer b
 
 module _ (names : Names) (a b : Site) (p : Place) (one : Bind) where
   -- its value, observed

@@ -11,7 +11,7 @@ use Rattle.cg_core.specs.Terms as kernel
 use Rattle.cg_core.proofs.Views as views
 use Rattle.cg_surface.specs.declared.expr.FExpr.{FExpr, fold_out-FExpr}
 use Rattle.cg_surface.specs.declared.expr.SExpr.{SExpr}
-use Rattle.cg_surface.specs.Exprs.{Expr, expr_of, field_of, to_fields, layer, alt_layer, bind_layer, field_layer, expr_layer}
+use Rattle.cg_surface.specs.Exprs.{expr_of, field_of, to_fields, layer, alt_layer, bind_layer, field_layer, expr_layer}
 use Rattle.cg_surface.specs.Exprs as exprs
 use Rattle.cg_resolve_def.specs.Desugar.{depth_of, deepest_named, term_limit}
 use Rattle.cg_resolve_def.specs.Expand.{bodies, component}

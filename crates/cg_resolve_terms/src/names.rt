@@ -11,8 +11,8 @@ use crate::nodes::mentioned;
 use cg_base::{Fun, Items, Lib, Memory, Place};
 use cg_core::{Term, TyArg};
 use cg_resolve_declared::{Declarations, library_function};
-use cg_surface::STy;
 use cg_resolve_written::{Synonyms, written_type};
+use cg_surface::STy;
 use std::alloc::Global;
 
 /// What names mean where an expression stands: the program's declarations, what its synonyms are for, and the names of type

@@ -9,7 +9,8 @@ use Rattle.cg_surface.specs.Written.{Written}
 use Rattle.cg_resolve_def.specs.Declared.{is_among, type_named}
 use Rattle.cg_resolve_def.specs.Faults.{Before, again, declared_with, entry_faults, faults_from, twins, type_faults, names_of}
 use Rattle.cg_resolve_def.specs.Mentions.{synonym_from}
-use Rattle.cg_resolve_def.proofs.Faultless.{behind, none_left, not_again, same_name}
+use Rattle.cg_resolve_def.proofs.Faultless.{behind, none_left, not_again}
+use Rattle.cg_base.proofs.Sequences.{itself as same_name}
 
 module _ (entries : List Entry) where
   -- a synonym's name is none of those before it

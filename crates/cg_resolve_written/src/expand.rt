@@ -15,8 +15,8 @@ use crate::named::{applied, component, position, sigil};
 use crate::order::in_order;
 use crate::take::{take_all, take_some};
 use cg_base::{Items, Memory, Name, Part, Sigil, Ty};
-use cg_resolve_declared::is_variable;
 use cg_kinds::bang;
+use cg_resolve_declared::is_variable;
 use cg_surface::{SAlt, SPart, STy, STyForm};
 use std::alloc::Global;
 

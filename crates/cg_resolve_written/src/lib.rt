@@ -1,5 +1,8 @@
-//! What written types are: how wide, [`is_too_wide`], and how large they are, [`synonyms`], and what they become in a kernel,
-//! [`written_type`] (docs/LANGUAGE.md, "Synonyms" and "Limits").
+//! Stage: names. Written types: how wide and how large they are, and what they become in a kernel.
+//! Role: part of `cg_resolve`.
+//! Promises: `is_too_wide`, `synonyms`, `written_type`, exactly as defined.
+//! May cite: anything below it, of its stage and of those below; no crate above.
+//! docs/LANGUAGE.md, "Synonyms" and "Limits", says what they mean.
 #![tactic(auto)]
 
 mod build;

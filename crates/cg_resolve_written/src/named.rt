@@ -12,8 +12,8 @@ ghost use Rattle.cg_resolve_written.specs.Pieces.{applied_type};
 
 use crate::Synonyms;
 use cg_base::{Items, Memory, Name, Sigil, Ty};
-use cg_resolve_declared::{Plain, plain_type};
 use cg_kinds::subst;
+use cg_resolve_declared::{Plain, plain_type};
 use std::alloc::Global;
 
 /// The type of this name with these arguments: one that is declared beforehand, or what a synonym is for, or an abstract type

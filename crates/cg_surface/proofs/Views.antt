@@ -61,7 +61,7 @@ choices_none = refl
 form_of : STyForm → Place → Written
 form_of = fold-STyForm (Place → Written) types.OneAlt types.OneField Written types.layer types.alt_layer types.field_layer types.type_layer
 
-layer_at : (l : STyForm-F (Place → Written) types.OneAlt types.OneField Written) (p : Place) → types.place_of (types.layer l p) ≡ p
+pub layer_at : (l : STyForm-F (Place → Written) types.OneAlt types.OneField Written) (p : Place) → types.place_of (types.layer l p) ≡ p
 layer_at (open'.Name n ts) p = refl
 layer_at open'.Unit p = refl
 layer_at (open'.Tuple ts) p = refl

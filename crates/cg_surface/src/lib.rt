@@ -1,5 +1,8 @@
-//! Surface programs: what a source spells, before names are resolved (docs/LANGUAGE.md, "Grammar"). It has types alone; the
-//! plain trees that contracts speak of, and what each value stands for, are in `specs/`.
+//! Stage: reading. Surface programs: what a source spells, before names are resolved.
+//! Role: public.
+//! Promises: no calls: types alone (`Program`, `Item`, `SExpr`, `Pat`, `STy`), and in `specs/` what their values stand for.
+//! May cite: anything of its stage and of those below; no crate above.
+//! docs/LANGUAGE.md, "Grammar", says what is written.
 #![tactic(auto)]
 
 mod expr;

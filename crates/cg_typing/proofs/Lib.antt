@@ -1,2 +1,4 @@
 pub mod Sides
 pub mod NodeSteps
+pub mod Lists
+pub mod CoreTypes

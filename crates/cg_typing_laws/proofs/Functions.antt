@@ -15,11 +15,11 @@ use Rattle.cg_kinds.specs.Laws.{AreKept}
 use Rattle.cg_typing.specs.Functions.{Asked, these, a_cell, an_element, nothing, asked_by, next_asked, later_asked, meets_asked, are_good_arguments, has_kinds, arg_types, fun_type}
 use Rattle.cg_typing.specs.Library.{given as argument, library_type, state, pair, maybe}
 use Rattle.cg_typing.specs.Parts.{has_word_arrays, is_cell, all_taken}
-use Rattle.cg_check_laws.proofs.Basics.{and_both}
 use Rattle.cg_typing_laws.specs.Laws.{AreInstance}
 use Rattle.cg_typing.specs.Subst.{subst_arg}
 use Rattle.cg_typing_laws.proofs.Named.{cell_kept, cell_taken}
 use Rattle.cg_typing_laws.proofs.Types.{and_kept, or_kept, subst_bang, subst_twice, word_kept, arrays_kept, kinds_kept}
+use Rattle.cg_base.proofs.Truths.{both as and_both}
 
 -- ---- what is asked of type arguments
 

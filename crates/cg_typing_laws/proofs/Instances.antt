@@ -9,9 +9,10 @@ use Rattle.cg_kinds.specs.Kinds.{kinds}
 use Rattle.cg_kinds.specs.Laws.{AreKept}
 use Rattle.cg_typing.specs.Functions.{Asked, these, meets_asked, next_asked, later_asked, are_good_arguments, has_kinds, arg_types}
 use Rattle.cg_typing.specs.Parts.{has_word_arrays}
-use Rattle.cg_check_laws.proofs.Basics.{and_both, not_or}
+use Rattle.cg_check_laws.proofs.Basics.{not_or}
 use Rattle.cg_typing_laws.specs.Laws.{CheckedArgumentsAreInstance, InstancesAreDerived}
 use Rattle.cg_typing_laws.proofs.Substitution.{substitution}
+use Rattle.cg_base.proofs.Truths.{both as and_both}
 
 -- the test of kinds says that they are kept
 has_kinds_is : (k wanted : Kinds) → IsTrue (has_kinds k wanted) → AreKept k wanted

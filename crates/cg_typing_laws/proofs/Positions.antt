@@ -6,8 +6,10 @@ use Rattle.cg_core.specs.declared.derivation.Mark.{Mark}
 use Rattle.cg_core.specs.declared.derivation.Mark.TheVariants.{Gone}
 use Rattle.cg_core.specs.declared.term.Seen.{Seen as Observer}
 use Rattle.cg_typing.specs.Contexts.{Context, look, mark_at, push, first_side, second_side, first, second, among, Fits, Splits, Drops, DropsBut}
-use Rattle.cg_check_laws.proofs.Basics.{length_first, length_second, length_push}
+use Rattle.cg_check_laws.proofs.Basics.{length_push}
 use Rattle.cg_typing.specs.Inserted.{inserted, raised, raise_observer}
+use Rattle.cg_base.proofs.Truths.{same_test as same_truth}
+use Rattle.cg_typing.proofs.Lists.{first_as_many as length_first, second_as_many as length_second}
 
 -- ---- positions
 
@@ -36,12 +38,7 @@ raised_past zero j e = absurd (omega arith)
 raised_past (suc k) zero e = absurd (omega arith)
 raised_past (suc k) (suc j) e = raised_past k j (omega arith)
 
-same_truth : (a b : Bool) → (a ≡ true → b ≡ true) → (b ≡ true → a ≡ true) → a ≡ b
-same_truth true b f g = sym (f refl)
-same_truth false true f g = g refl
-same_truth false false f g = refl
-
-no_truth : (a : Bool) → (a ≡ true → ⊥) → a ≡ false
+pub no_truth : (a : Bool) → (a ≡ true → ⊥) → a ≡ false
 no_truth true f = absurd (f refl)
 no_truth false f = refl
 

@@ -9,8 +9,8 @@ use Rattle.cg_kinds.specs.Kinds.{kinds, kinds_all, kinds_parts, both, at_least, 
 use Rattle.cg_kinds.specs.Laws.{AreKept}
 use Rattle.cg_kinds.proofs.Laws.{bang_twice, bang_free}
 use Rattle.cg_typing.specs.Parts.{has_word_arrays, have_word_arrays, parts_have_word_arrays, are_words}
-use Rattle.cg_check_laws.proofs.Basics.{and_both}
 use Rattle.cg_typing_laws.specs.Laws.{AreInstance, BangIsSubstituted, SubstitutionsCompose}
+use Rattle.cg_base.proofs.Truths.{both as and_both}
 
 -- a type is observed before or after its variables are replaced
 mutual

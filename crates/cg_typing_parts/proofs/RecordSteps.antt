@@ -11,18 +11,15 @@ use Rattle.cg_core.specs.Kernels.{the_field}
 use Rattle.cg_core.specs.Terms.{OneField, to_named}
 use Rattle.cg_core.specs.declared.term.FieldTerm.{FieldTerm}
 use Rattle.cg_faults.specs.Plain.{are_fields}
+use Rattle.cg_base.proofs.Truths.{and_false}
 
 -- what the fields are, of lists of parts and of fields
 fields_are : List Part → List (FieldTerm Place) → Bool
 fields_are ps fs = are_fields (to_parts (map part_of ps)) (to_named (map the_field fs))
 
-and_assoc : (a b c : Bool) → (a && (b && c)) ≡ ((a && b) && c)
+pub and_assoc : (a b c : Bool) → (a && (b && c)) ≡ ((a && b) && c)
 and_assoc true b c = refl
 and_assoc false b c = refl
-
-and_false : (b : Bool) → (b && false) ≡ false
-and_false true = refl
-and_false false = refl
 
 piece-more : (p : Piece) (ps : List Piece) (f : OneField Place) (fs : List (OneField Place))
     → are_fields (to_parts (p ∷ ps)) (to_named (f ∷ fs)) ≡ ((bytes_eq p.name f.name && not p.taken) && are_fields (to_parts ps) (to_named fs))

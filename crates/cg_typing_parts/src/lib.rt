@@ -1,6 +1,8 @@
-//! What typing asks of types: their parts by name ([`field_in`], [`alternative_in`], [`with_part`]), their forms and sizes
-//! ([`has_word_arrays`], [`is_small_enough`]), the types of functions ([`mentioned`]) and what these ask of their type arguments
-//! ([`arguments_fault`]). docs/LANGUAGE.md, "Typing", says what they mean.
+//! Stage: types. What typing asks of types: parts by name, forms and sizes, types of functions and their arguments.
+//! Role: part of `cg_typing`.
+//! Promises: `field_in`, `alternative_in`, `with_part`, `mentioned`, `arguments_fault`, `library_type` and so on, each exactly.
+//! May cite: anything below it, of its stage and of those below; no crate above.
+//! docs/LANGUAGE.md, "Typing", says what they mean.
 #![tactic(auto)]
 
 mod form;

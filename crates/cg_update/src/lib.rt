@@ -1,5 +1,8 @@
-//! The update semantics: what the instances of a source do on a heap that is written in place, over any table of abstract functions
-//! (docs/LANGUAGE.md, "Update semantics"). It has definitions alone, in `specs/`, and laws of them.
+//! Stage: update. The update semantics: what instances do on a heap that is written in place.
+//! Role: public.
+//! Promises: no calls: definitions in `specs/` (`Updates`, `Machines`, `Turns`, `Calls`); laws: `more_budget`, `depth_is_free`.
+//! May cite: anything of its stage and of those below; no crate above.
+//! docs/LANGUAGE.md, "Update semantics", says it in words, over any table of abstract functions.
 #![tactic(auto)]
 
 mod law;

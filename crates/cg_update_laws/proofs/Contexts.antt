@@ -4,7 +4,7 @@ use Rattle.std.proofs.Math.ListN.{get_or-append}
 use Rattle.std.proofs.Math.Seq.{get_or-append_seam}
 use Rattle.cg_base.specs.declared.kind.Kinds.{Kinds}
 use Rattle.cg_base.specs.Types.{Tau}
-use Rattle.cg_check_laws.proofs.Basics.{look_first, look_second, length_first, length_second, length_push, look_old, look_new, look_within, below_suc}
+use Rattle.cg_check_laws.proofs.Basics.{look_first, look_second, length_push, look_old, look_new, look_within, below_suc}
 use Rattle.cg_core.specs.declared.derivation.Mark.{Mark}
 use Rattle.cg_core.specs.declared.derivation.Mark.TheVariants.{Gone, Left, Right, Both, Seen}
 use Rattle.cg_core.specs.declared.term.Seen.{Seen as Observer}
@@ -15,6 +15,7 @@ use Rattle.cg_typing.specs.Contexts.{Context as Entries, look, mark_at, push, fi
 use Rattle.cg_value.specs.Values.{Val, gone}
 use Rattle.cg_update.specs.Unboxed.{is_unboxed}
 use Rattle.cg_update_laws.proofs.Held.{unboxed_bang}
+use Rattle.cg_typing.proofs.Lists.{first_as_many as length_first, second_as_many as length_second}
 
 -- one more at the end
 length_more : {A : Type 0} (xs : List A) (x : A) → length (xs ++ x ∷ []) ≡ suc (length xs)

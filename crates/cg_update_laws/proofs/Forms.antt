@@ -1,5 +1,5 @@
 -- What each form makes of scalars that represent values: numbers, records and variants.
-use Rattle.std.proofs.Common.{◌≡◌, ℕ, zero, suc, Bool, true, false, ◌||◌, not, nat_eq, IsTrue, Option, Some, None, List, [], ◌∷◌, unwrap_or, refl, sym, ap, ◌∙◌, arith, lt-ltb, ltb-true, eqb-true, eq-eqb, subst as at}
+use Rattle.std.proofs.Common.{◌≡◌, ℕ, zero, suc, Bool, true, false, not, nat_eq, IsTrue, Option, Some, None, List, [], ◌∷◌, unwrap_or, refl, sym, ap, ◌∙◌, arith, lt-ltb, ltb-true, eqb-true, eq-eqb, subst as at}
 use Rattle.std.proofs.lemmas.Bool.{and_from, and_parts, leb-true}
 use Rattle.std.proofs.Math.Pow.{pow_mono}
 use Rattle.std.specs.Prelude.{if◌then◌else◌}
@@ -12,7 +12,7 @@ use Rattle.cg_eval_laws.proofs.FitOperators.{operated_fits, operated_both_fit}
 use Rattle.cg_heap.specs.declared.cell.Scalar.{Scalar}
 use Rattle.cg_heap.specs.declared.cell.Scalar.TheVariants.{Word}
 use Rattle.cg_heap.specs.Reps.{first_number, Heap, HeapWorld, Holds, HoldsAt, tail}
-use Rattle.cg_inst.proofs.Names.{by_cases, either_way, name_is, name_same, never}
+use Rattle.cg_inst.proofs.Names.{by_cases, either_way}
 use Rattle.cg_kinds.specs.Kinds.{is_word, subst}
 use Rattle.cg_eval_operations.specs.Operators.{literal, on_one, on_two, operated, operated_both, truth, width}
 use Rattle.cg_eval_operations.specs.Positions.{position, position_among}
@@ -26,7 +26,12 @@ use Rattle.cg_value.specs.Fits.{World, fits}
 use Rattle.cg_value.specs.Forms.{field, has_name, is_true, payload_in, with_field, without}
 use Rattle.cg_value.specs.Values.{Val, chosen, nothing, number}
 use Rattle.cg_update.specs.Unboxed.{are_apart, are_unboxed, is_unboxed}
-use Rattle.cg_update_laws.proofs.Named.{IsRead, is_untaken, left_there, place_held, alternative_made, at_place, field_held, field_put, field_taken, last_name, others_held, payload_held, place_name, slots_with}
+use Rattle.cg_update_laws.proofs.Named.{IsRead, is_untaken, place_held, alternative_made, at_place, field_held, field_put, field_taken, last_name, others_held, payload_held, place_name, slots_with}
+use Rattle.cg_typing_laws.proofs.Named.{left_is_there as left_there}
+use Rattle.cg_base.proofs.Sequences.{itself as name_same, is_name as name_is}
+use Rattle.cg_base.proofs.Counts.{no_steps as never}
+use Rattle.cg_base.proofs.Truths.{first_holds}
+use Rattle.cg_typing.proofs.Lists.{scalar_taken}
 
 -- ---- types without cells
 
@@ -97,21 +102,6 @@ unboxed_apart t u = refl
 -- no functions and no abstract types
 abbrev plain : World
 plain = record { is_of = λ f ts t. false; holds = λ x v. false }
-
-first_holds : (a b : Bool) → IsTrue a → IsTrue (a || b)
-first_holds true b h = refl
-first_holds false b h = never h
-
-second_holds : (a b : Bool) → IsTrue b → IsTrue (a || b)
-second_holds true b h = refl
-second_holds false b h = h
-
--- operands are words or truth values, and so is what an operator gives
-scalar_taken : (sort : Sort) (t : Tau) → IsTrue (takes sort t) → IsTrue (takes equality t)
-scalar_taken arithmetic t h = first_holds (is_word t) (is_bool t) h
-scalar_taken equality t h = h
-scalar_taken order t h = first_holds (is_word t) (is_bool t) h
-scalar_taken logic t h = second_holds (is_word t) (is_bool t) h
 
 scalar_given : (sort : Sort) (t : Tau) → IsTrue (takes sort t) → IsTrue (takes equality (type_given sort t))
 scalar_given arithmetic t h = first_holds (is_word t) (is_bool t) h

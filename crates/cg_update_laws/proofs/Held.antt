@@ -7,13 +7,13 @@ use Rattle.cg_base.specs.Types.{Tau, var, seen, unit, word, bool, arrow, abs, va
 use Rattle.cg_base.specs.Words.{bits}
 use Rattle.cg_heap.specs.declared.cell.Scalar.{Scalar}
 use Rattle.cg_heap.specs.Reps.{first_number, Heap, HeapWorld, Holds, HoldsAll, HoldsAt, slots, slots_of_parts, tail}
-use Rattle.cg_inst.proofs.Names.{never}
 use Rattle.cg_inst.proofs.SameType.{same_self}
 use Rattle.cg_kinds.specs.Kinds.{bang, bang_parts}
 use Rattle.cg_update.specs.Machines.{are_machine, is_address, is_alternative, is_machine, is_number_below, is_place_of, is_tagged, is_type}
 use Rattle.cg_value.specs.Values as values
 use Rattle.cg_value.specs.Values.{Val, Vals}
 use Rattle.cg_update.specs.Unboxed.{are_apart, are_unboxed, is_unboxed}
+use Rattle.cg_base.proofs.Counts.{no_steps as never}
 
 -- ---- types without cells
 

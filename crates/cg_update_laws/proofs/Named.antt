@@ -1,5 +1,5 @@
 -- Parts by their names, in scalars that represent a record or an alternative: what is read, what is put, and what is left.
-use Rattle.std.proofs.Common.{◌≡◌, ℕ, zero, suc, ◌+◌, ◌-◌, ◌≤◌, Bool, true, false, ◌||◌, not, cond, IsTrue, Option, Some, None, List, [], ◌∷◌, ◌++◌, get_or, unwrap_or, length, take, drop, replicate, refl, sym, ap, ◌∙◌, subst, arith}
+use Rattle.std.proofs.Common.{◌≡◌, ℕ, zero, suc, ◌+◌, ◌-◌, ◌≤◌, Bool, true, false, ◌||◌, not, IsTrue, Option, Some, List, [], ◌∷◌, ◌++◌, get_or, unwrap_or, length, take, drop, replicate, refl, sym, ap, ◌∙◌, subst, arith}
 use Rattle.std.proofs.lemmas.Bool.{and_parts, le-leb}
 use Rattle.std.proofs.lemmas.List.{take_at, drop_at, length-append, length-drop, length-replicate, length-take-le}
 use Rattle.std.specs.Prelude.{slice_set, if◌then◌else◌}
@@ -9,7 +9,7 @@ use Rattle.cg_eval_laws.proofs.FitParts.{vals_back}
 use Rattle.cg_heap.specs.declared.cell.Scalar.{Scalar}
 use Rattle.cg_heap.specs.declared.cell.Scalar.TheVariants.{Unset}
 use Rattle.cg_heap.specs.Reps.{Heap, HeapWorld, Holds, HoldsAll, HoldsAt, slots, slots_of_parts}
-use Rattle.cg_inst.proofs.Names.{by_cases, either_way, name_is, name_same, never}
+use Rattle.cg_inst.proofs.Names.{by_cases, either_way}
 use Rattle.cg_eval_operations.specs.Positions.{position_among}
 use Rattle.cg_typing.specs.Parts.{are_others_taken, held, is_left, is_there, part_named, parts_with}
 use Rattle.cg_update.specs.Machines.{only_at, part_at, type_of_part, with_part_at}
@@ -17,6 +17,9 @@ use Rattle.cg_value.specs.Values as values
 use Rattle.cg_value.specs.Values.{Val, gone, Vals, to_vals, val_list}
 use Rattle.cg_update.specs.Unboxed.{are_apart}
 use Rattle.cg_update_laws.proofs.Held.{holds_slots}
+use Rattle.cg_base.proofs.Sequences.{itself as name_same, is_name as name_is}
+use Rattle.cg_base.proofs.Counts.{no_steps as never}
+use Rattle.cg_base.proofs.Truths.{cond_true}
 
 -- ---- parts
 
@@ -30,21 +33,11 @@ place_or b n ps = if b then zero else suc (position_among n ps)
 abbrev with_or : Bool → List ℕ → Bool → List ℕ → Tau → Bool → Parts → Parts
 with_or b n now x t taken ps = if b then part x t now ps else part x t taken (parts_with n now ps)
 
--- what is there at least is left, where it isn't taken
-pub left_there : (o : Option Piece) → IsTrue (is_left o) → IsTrue (is_there o)
-left_there None h = never h
-left_there (Some p) h = refl
-
 -- the part at a place isn't taken
 unfoldable pub is_untaken : ℕ → Parts → Bool
 is_untaken i end = false
 is_untaken zero (part x t taken ps) = not taken
 is_untaken (suc i) (part x t taken ps) = is_untaken i ps
-
--- a test that passes
-cond_true : {X : Type 0} (b : Bool) (x y : X) → b ≡ true → cond b x y ≡ x
-cond_true true x y e = refl
-cond_true false x y e = never e
 
 -- the first of so many scalars and more is there
 room : (n m k : ℕ) → m ≡ n + k → n ≤ m

@@ -8,7 +8,7 @@ use Rattle.std.specs.Prelude.{if◌then◌else◌}
 use Rattle.cg_base.specs.declared.fun.Fun.{Fun}
 use Rattle.cg_base.specs.declared.kind.Sigil.TheVariants.{R, W, U}
 use Rattle.cg_base.specs.Types as types
-use Rattle.cg_base.specs.Types.{Tau, arrow, fields, Parts, part}
+use Rattle.cg_base.specs.Types.{Tau, arrow, fields, Parts}
 use Rattle.cg_core.specs.declared.derivation.Mark.{Mark}
 use Rattle.cg_core.specs.declared.term.Seen.{Seen as Observer}
 use Rattle.cg_core.specs.Derivations.{Derivation, Derivations}
@@ -16,7 +16,7 @@ use Rattle.cg_core.specs.Terms.{Arg, Note, Tree, term, Shape, var, unit, bool, l
 use Rattle.cg_eval_laws.proofs.Checked.{has_checked_type}
 use Rattle.cg_heap.specs.declared.cell.Scalar.{Scalar}
 use Rattle.cg_heap.specs.Reps.{first_number, Heap, HeapWorld, Holds, HoldsAll, tail}
-use Rattle.cg_inst.proofs.Names.{by_cases, either_way, never}
+use Rattle.cg_inst.proofs.Names.{by_cases, either_way}
 use Rattle.cg_eval_def.specs.Evaluation as values
 use Rattle.cg_eval_def.specs.Evaluation.{Context, Table, Run, all_of, apply, node_shape}
 use Rattle.cg_eval_operations.specs.Positions.{position}
@@ -42,7 +42,9 @@ use Rattle.cg_update_laws.proofs.Agreeing.{Agrees, IsGiven, bind_agrees, pay_agr
 use Rattle.cg_update_laws.proofs.Contexts.{HoldContext, first_held, pushed_held, second_held}
 use Rattle.cg_update_laws.proofs.Forms.{cast_held, con_held, last_is, literal_held, member_held, name_held, nothing_held, operated_both_held, operated_held, others_are_held, payload_read, put_held, rest_held, truth_held, truth_is, unboxed_alternative, unboxed_apart, unboxed_field, unboxed_with}
 use Rattle.cg_update_laws.proofs.Held.{holds_machine}
-use Rattle.cg_update_laws.proofs.Named.{front_held, left_there, named_type}
+use Rattle.cg_update_laws.proofs.Named.{front_held, named_type}
+use Rattle.cg_typing_laws.proofs.Named.{left_is_there as left_there}
+use Rattle.cg_base.proofs.Counts.{no_steps as never}
 
 -- what holds of all of two lists holds of those of each
 all_front : {A : Type 0} (f : A → Bool) (xs ys : List A) → IsTrue (list_all f (xs ++ ys)) → IsTrue (list_all f xs)

@@ -13,7 +13,7 @@ use Rattle.cg_eval_laws.proofs.Turns.{Each, each_so, indices_below}
 use Rattle.cg_heap.specs.declared.cell.Scalar.{Scalar}
 use Rattle.cg_heap.specs.declared.cell.Scalar.TheVariants.{Word}
 use Rattle.cg_heap.specs.Reps.{first_number, Heap, HeapWorld, Holds, HoldsAll}
-use Rattle.cg_inst.proofs.Names.{either_way, never}
+use Rattle.cg_inst.proofs.Names.{either_way}
 use Rattle.cg_kinds.specs.Kinds.{bang}
 use Rattle.cg_eval_def.specs.Evaluation as values
 use Rattle.cg_eval_def.specs.Evaluation.{Table, Run, call, iterated}
@@ -36,6 +36,7 @@ use Rattle.cg_update.specs.Unboxed.{are_apart, is_sequence, is_unboxed}
 use Rattle.cg_update_laws.proofs.Agreeing.{Agrees, bind_agrees, pay_agrees, same_agrees}
 use Rattle.cg_update_laws.proofs.Forms.{con_held, name_held, nothing_held, place_of_held}
 use Rattle.cg_update_laws.proofs.Named.{front_held, is_untaken}
+use Rattle.cg_base.proofs.Counts.{no_steps as never}
 
 -- the argument of a loop
 abbrev loop_parts : Width → Tau → Tau → Tau → Parts

@@ -17,14 +17,13 @@ use Rattle.cg_heap.specs.Calls.{heap_of}
 use Rattle.cg_heap.specs.declared.cell.Scalar.{Scalar}
 use Rattle.cg_heap.specs.declared.cell.Scalar.TheVariants.{Word}
 use Rattle.cg_heap.specs.Reps.{first_number, Heap, HeapWorld, Holds}
-use Rattle.cg_inst.proofs.Names.{never}
 use Rattle.cg_inst.proofs.SameInstance.{instance_is}
 use Rattle.cg_inst.specs.Lists.{same_instance}
 use Rattle.cg_inst_laws.proofs.Closed.{closed_stays}
 use Rattle.cg_inst_laws.specs.Laws.{place_in}
 use Rattle.cg_kinds.specs.Kinds.{subst}
 use Rattle.cg_eval_def.specs.Evaluation as values
-use Rattle.cg_eval_def.specs.Evaluation.{Body, Context, Table, Run, apply, call, cost_of, enter, evaluate, evaluation, iterated, only, spent, stuck, with_fuel}
+use Rattle.cg_eval_def.specs.Evaluation.{Table, Run, apply, call, cost_of, enter, evaluate, evaluation, iterated, only, spent, stuck, with_fuel}
 use Rattle.cg_mono_laws.proofs.Listed.{found_at_place, is_found}
 use Rattle.cg_mono_laws.specs.Laws.{body_in, copies_table}
 use Rattle.cg_eval_operations.specs.Iterators.{is_iterator}
@@ -47,13 +46,11 @@ use Rattle.cg_update_laws.proofs.Contexts.{only_held}
 use Rattle.cg_update_laws.proofs.Held.{holds_machine}
 use Rattle.cg_update_laws.proofs.Nodes.{CallsAgree, MentionsHold, RunsAgree, node_agrees}
 use Rattle.cg_update_laws.proofs.Turns.{TurnsAgree, sequence_agrees}
+use Rattle.cg_base.proofs.Counts.{no_steps as never}
+use Rattle.cg_typing.proofs.Lists.{types_back as same_types}
+use Rattle.cg_base.proofs.Options.{later}
 
 -- ---- lists of instances
-
--- a place that is found behind the first
-later : (o : Option ℕ) (k : ℕ) → option_map suc o ≡ Some k → (j : ℕ) × (o ≡ Some j) × (suc j ≡ k)
-later None k e = absurd (cc)
-later (Some j) k e = (j, refl, cc)
 
 -- the instance stands at its place
 place_is : (x : Instance) (ys : List Instance) (k : ℕ) → place_of x ys ≡ Some k → slice_get ys k ≡ Some x
@@ -66,18 +63,13 @@ place_is x (y ∷ ys) k e = by_test (same_instance x y) refl e (place_is x ys)
     by_test true q h rest = let first : zero ≡ k = cc in at (λ i. slice_get (y ∷ ys) i ≡ Some x) first (ap Some (sym (instance_is x y q)))
     by_test false q h rest = let j = later (place_of x ys) k h in at (λ i. slice_get (y ∷ ys) i ≡ Some x) j.2 (rest j.0 j.1)
 
--- types as arguments are these types
-same_types : (ts : List Tau) → arg_types (as_arguments ts) ≡ ts
-same_types [] = refl
-same_types (t ∷ ts) = ap (λ us. t ∷ us) (same_types ts)
-
 -- the type of a function is by the types of its arguments alone
 same_fun_type : (functions : List Function) (f : Fun) (args : List Arg) → fun_type functions f (as_arguments (arg_types args)) ≡ fun_type functions f args
 same_fun_type functions (User i) args = ap (λ ts. option_map (λ g. subst ts g.ty.ty) (slice_get functions i)) (same_types (arg_types args))
 same_fun_type functions (OfLib l) args = ap (λ ts. Some (library_type l ts)) (same_types (arg_types args))
 
 -- types without type variables stay what they are
-all_stay : (ts : List Tau) → IsTrue (list_all is_closed ts) → map (subst []) ts ≡ ts
+pub all_stay : (ts : List Tau) → IsTrue (list_all is_closed ts) → map (subst []) ts ≡ ts
 all_stay [] c = refl
 all_stay (t ∷ ts) c = let b = and_parts (is_closed t) _ c in let p = closed_stays [] t b.0 in let q = all_stay ts b.1 in cc
 

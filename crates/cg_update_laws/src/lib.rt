@@ -1,4 +1,8 @@
-//! On values without cells, evaluation and the update semantics agree (docs/LANGUAGE.md, "Update semantics").
+//! Stage: update. On values without cells, evaluation and the update semantics agree.
+//! Role: laws.
+//! Promises: `unboxed_is_updated`, `words_are_updated`.
+//! May cite: definitions, laws and public crates below; no code above.
+//! docs/LANGUAGE.md, "Update semantics", says it in words.
 #![tactic(auto)]
 
 mod law;

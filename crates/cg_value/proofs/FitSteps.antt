@@ -9,7 +9,7 @@ use Rattle.cg_base.specs.Types.{Tau, var, seen, unit, word, bool, arrow, abs, va
 use Rattle.cg_value.specs.declared.value.Value.{Value}
 use Rattle.cg_value.specs.Fits.{World, fits, fits_abstract, fits_alternative, fits_fields, is_gone}
 use Rattle.cg_value.specs.Values.{Val, to_vals, value_of}
-use Rattle.cg_value.proofs.Printing.{same_unless, same_when}
+use Rattle.cg_base.proofs.Sequences.{same_when, same_unless}
 
 module _ (w : World) where
   -- alternatives

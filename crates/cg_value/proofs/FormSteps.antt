@@ -33,7 +33,7 @@ set_past (v ∷ vs) zero w h = absurd (omega (arith, h))
 set_past (v ∷ vs) (suc i) w h = ap (λ l. value_of v ∷ l) (set_past vs i w (omega (arith, h)))
 
 -- one of a record's fields is taken out
-fields_is : (vs : List Value) → value_of (Fields vs) ≡ parts (to_vals (map value_of vs))
+pub fields_is : (vs : List Value) → value_of (Fields vs) ≡ parts (to_vals (map value_of vs))
 fields_is vs = search (rules, the_lemmas)
 
 refilled_is : {A : Type 0} (olds news : List A) → length news ≡ length olds → take (length olds) (news ++ drop (length news) olds) ≡ news

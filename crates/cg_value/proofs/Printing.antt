@@ -1,7 +1,6 @@
 -- Printing, item by item.
-use Rattle.std.proofs.Common.{◌≡◌, ◌<◌, ◌≤◌, ◌+◌, ℕ, zero, suc, Bool, true, false, ◌&&◌, not, if◌then◌else◌, List, [], ◌∷◌, ◌++◌, length, drop, get_or, map, codes, append_assoc, refl, sym, ap, ◌∙◌, arith}
+use Rattle.std.proofs.Common.{◌≡◌, ◌<◌, ◌≤◌, ◌+◌, ℕ, zero, suc, Bool, true, false, ◌&&◌, not, if◌then◌else◌, List, [], ◌∷◌, ◌++◌, length, drop, get_or, map, codes, refl, sym, ap, ◌∙◌, arith}
 use Rattle.std.proofs.lemmas.List.{at_drop_more, at_drop_all, append-nil}
-use Rattle.std.proofs.lemmas.Slice.Eq.{bytes_eq-Decides}
 use Rattle.std.specs.Str.{bytes_eq}
 use Rattle.cg_base.proofs.Views.{piece_of}
 use Rattle.cg_base.specs.declared.kind.Sigil.TheVariants.{U}
@@ -10,21 +9,7 @@ use Rattle.cg_base.specs.Types.{part_of, to_parts, type_of}
 use Rattle.cg_value.specs.declared.value.Value.{Value}
 use Rattle.cg_value.specs.Printed.{are_components, component, field_text, fields_text, is_tuple, is_unit, listed, payload, payload_text, printed, shows_payload}
 use Rattle.cg_value.specs.Values.{Val, to_vals, value_of}
-
--- the bytes of names, by what is known of them
-pub same_when : (x y : List ℕ) → x ≡ y → bytes_eq x y ≡ true
-same_when x y e = (bytes_eq-Decides x y).1 e
-
-pub same_unless : (x y : List ℕ) → (x ≡ y → ⊥) → bytes_eq x y ≡ false
-same_unless x y ne = go (bytes_eq x y) (λ e. ne ((bytes_eq-Decides x y).0 e))
-  where
-    go : (b : Bool) → (b ≡ true → ⊥) → b ≡ false
-    go true n = absurd (n refl)
-    go false n = refl
-
--- an item behind what stands before it
-one_more : (out lead item rest : List ℕ) → ((out ++ lead) ++ item) ++ rest ≡ out ++ ((lead ++ item) ++ rest)
-one_more out lead item rest = append_assoc (out ++ lead) item rest ∙ append_assoc out lead (item ++ rest) ∙ ap (λ l. out ++ l) (sym (append_assoc lead item rest))
+use Rattle.cg_base.proofs.Sequences.{same_when, same_unless, one_more}
 
 -- items of a list
 module _ {A : Type 0} (text : A → List ℕ) where

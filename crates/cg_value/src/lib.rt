@@ -1,4 +1,8 @@
-//! Values, as evaluation gives them, and their printed text, by [`print_value`]. docs/LANGUAGE.md, "Values", says what they are.
+//! Stage: evaluation. Values, which fit a type, what is asked of them, their printed text, and tables of abstract functions.
+//! Role: public.
+//! Promises: `Value`, `print_value`, `fits`, each exactly; the trait `Extern`, which `NoExtern` keeps.
+//! May cite: anything of its stage and of those below; no crate above.
+//! docs/LANGUAGE.md, "Values", says what they are.
 #![tactic(auto)]
 
 mod fit;

@@ -4,7 +4,7 @@ use Rattle.cg_base.specs.declared.limit.Limit.TheVariants.{Ty}
 use Rattle.cg_base.specs.Types.{part_of, to_parts}
 use Rattle.cg_cert.specs.declared.fault.CertFault.TheVariants.{Limit}
 use Rattle.cg_certcheck.proofs.FormSteps.{check_is, goes_on}
-use Rattle.cg_certcheck.proofs.PassSteps.{fields_last, fields_more, fields_none, one_operand, other_operands, size_more, size_one, size_two, sizes, two_operands}
+use Rattle.cg_certcheck.proofs.PassSteps.{fields_last, fields_more, fields_none, other_operands, size_more, size_one, size_two, sizes}
 use Rattle.cg_certcheck.specs.Forms.{form_by}
 use Rattle.cg_check_pieces.specs.View.{bounds_of, shape_at, way_of}
 use Rattle.cg_certcheck_nodes.specs.Contexts.{context_of}
@@ -18,6 +18,7 @@ use Rattle.cg_typing.specs.Parts.{is_small_enough}
 use Rattle.cg_typing.specs.Rules.{note_at}
 use Rattle.cg_certcheck.proofs.pass.+check.Goals as goal
 use Rattle.cg_certcheck.proofs.pass.+check.Goals.{check_op-in_default-via-then-as_slice-lt1, check_op-in_default-via-else-as_slice-lt1+else-this-lt2+else-this-lt3}
+use Rattle.cg_core.proofs.Operands.{one_operand, two_operands}
 
 pub check_op-check_unary-requires : goal.check_op-check_unary-requires
 check_op-check_unary-requires t c =

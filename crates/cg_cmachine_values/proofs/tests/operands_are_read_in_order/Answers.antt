@@ -1,7 +1,7 @@
 use Rattle.std.proofs.Common.{arith}
 use Rattle.cg_base.specs.declared.kind.Word.TheVariants.{U32}
-use Rattle.cg_cmachine_values.proofs.Giving.{size_word}
 use Rattle.cg_cmachine_values.proofs.tests.operands_are_read_in_order.Goals as goal
+use Rattle.cg_cmachine_layout.proofs.Groups.{one_word as size_word}
 
 pub write-requires : goal.write-requires
 write-requires g c = record { within = let one = size_word U32 in omega arith }

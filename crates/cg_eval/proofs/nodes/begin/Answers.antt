@@ -2,7 +2,7 @@ use Rattle.std.proofs.Common.{arith}
 use Rattle.cg_core.specs.Terms.{note_of}
 use Rattle.cg_eval_machine.specs.Machine.{rest, context_of}
 use Rattle.cg_eval.proofs.Begins as steps
-use Rattle.cg_eval.proofs.GroupSteps.{is_rest}
+use Rattle.cg_core.proofs.FormGroups.{is_rest}
 use Rattle.cg_eval.proofs.nodes.begin.Goals as goal
 
 pub returns-in-Op-clause-gives : goal.returns-in-Op-clause-gives

@@ -2,8 +2,9 @@ use Rattle.std.proofs.Common.{arith}
 use Rattle.cg_core.specs.Terms.{note_of}
 use Rattle.cg_eval_machine.specs.Machine.{rest, context_of}
 use Rattle.cg_eval.proofs.Begins as steps
-use Rattle.cg_eval.proofs.GroupSteps.{no_data, second}
+use Rattle.cg_core.proofs.FormGroups.{no_data}
 use Rattle.cg_eval.proofs.nodes.begin_data.Goals as goal
+use Rattle.cg_base.proofs.Truths.{second}
 
 pub returns-in-Con-clause-gives : goal.returns-in-Con-clause-gives
 returns-in-Con-clause-gives c = λ table.

@@ -2,7 +2,7 @@ use Rattle.std.proofs.Common.{arith}
 use Rattle.cg_core.specs.Terms.{note_of}
 use Rattle.cg_eval_machine.specs.Machine.{rest, context_of}
 use Rattle.cg_eval.proofs.Begins as steps
-use Rattle.cg_eval.proofs.GroupSteps.{no_leaf}
+use Rattle.cg_core.proofs.FormGroups.{no_leaf}
 use Rattle.cg_eval.proofs.nodes.leaf.Goals as goal
 
 pub returns-in-Var-clause-gives : goal.returns-in-Var-clause-gives

@@ -1,8 +1,8 @@
 use Rattle.std.proofs.Common.{arith, sym, ◌∙◌}
-use Rattle.cg_inst.proofs.Names.{never}
 use Rattle.cg_inst.specs.Views.{instance_of}
 use Rattle.cg_inst.proofs.MakeSteps.{not_yet, nowhere}
 use Rattle.cg_inst.proofs.list.place_of.Goals as goal
+use Rattle.cg_base.proofs.Counts.{no_steps as never}
 
 pub loop-at-preserved : goal.loop-at-preserved
 loop-at-preserved c =

@@ -2,8 +2,8 @@ use Rattle.std.proofs.Common.{◌++◌, ◌∷◌, [], ap, map, sym, ◌∙◌}
 use Rattle.std.proofs.lemmas.List.{map-append}
 use Rattle.cg_inst.specs.Founds.{found_in}
 use Rattle.cg_inst.specs.Views.{instance_of}
-use Rattle.cg_inst.proofs.MakeSteps.{one_more}
 use Rattle.cg_inst.proofs.make.with_trees.Goals as goal
+use Rattle.cg_base.proofs.Sequences.{one_more' as one_more}
 
 pub loop-at-preserved : goal.loop-at-preserved
 loop-at-preserved c =

@@ -2,8 +2,9 @@ use Rattle.std.proofs.Common.{ltb-true, Some, ap, sym, subst, map, ◌∙◌}
 use Rattle.std.proofs.lemmas.List.{length-map}
 use Rattle.cg_base.specs.Types.{type_of}
 use Rattle.cg_lower_tables.specs.Hints.{IsHint}
-use Rattle.cg_lower_tables.proofs.HintSteps.{got, number_first, number_none}
+use Rattle.cg_lower_tables.proofs.HintSteps.{number_first, number_none}
 use Rattle.cg_lower_tables.proofs.hints.hinted_number.Goals as goal
+use Rattle.cg_inst.proofs.MakeSteps.{at_place as got}
 
 pub returns-in-Some-get : goal.returns-in-Some-get
 returns-in-Some-get c =

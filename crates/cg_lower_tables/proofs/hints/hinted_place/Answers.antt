@@ -1,8 +1,9 @@
 use Rattle.std.proofs.Common.{ltb-true, Some, ap, sym, subst, map, unwrap_or, ◌∙◌}
 use Rattle.cg_inst.specs.Views.{instance_of}
 use Rattle.cg_lower_tables.specs.Hints.{IsHint}
-use Rattle.cg_lower_tables.proofs.HintSteps.{got, place_first, place_none}
+use Rattle.cg_lower_tables.proofs.HintSteps.{place_first, place_none}
 use Rattle.cg_lower_tables.proofs.hints.hinted_place.Goals as goal
+use Rattle.cg_inst.proofs.MakeSteps.{at_place as got}
 
 pub returns-in-Some-get : goal.returns-in-Some-get
 returns-in-Some-get c =

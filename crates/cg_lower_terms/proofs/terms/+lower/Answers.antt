@@ -10,10 +10,13 @@ use Rattle.cg_lower_nodes.specs.declared.place.Base.TheVariants as base
 use Rattle.cg_lower_nodes.specs.declared.place.Place.TheVariants as place
 use Rattle.cg_lower_terms.specs.Forms.{LowersNode}
 use Rattle.cg_lower_nodes.specs.Views.{place_of, step_of}
-use Rattle.cg_lower_terms.proofs.FormSteps.{after_app, after_case, after_if, after_many, after_one, after_put, after_take, after_two, arm_made, arm_within, arms_both, fields_more, fields_none, one_term, two_terms}
-use Rattle.cg_lower_terms.proofs.GroupSteps.{is_rest, no_data, second}
-use Rattle.cg_lower_terms.proofs.TermSteps.{after_let, after_within, type_of_core}
+use Rattle.cg_core.proofs.Forms.{one_term, two_terms}
+use Rattle.cg_lower_terms.proofs.FormSteps.{after_app, after_case, after_if, after_many, after_one, after_put, after_take, after_two, arm_made, arm_within, arms_both, fields_more, fields_none}
+use Rattle.cg_core.proofs.FormGroups.{is_rest, no_data}
+use Rattle.cg_lower_terms.proofs.TermSteps.{after_let, after_within}
+use Rattle.cg_typing.proofs.CoreTypes.{type_of_core}
 use Rattle.cg_lower_terms.proofs.terms.+lower.Goals as goal
+use Rattle.cg_base.proofs.Truths.{second}
 
 pub lower_term-lower_data-requires : goal.lower_term-lower_data-requires
 lower_term-lower_data-requires t c = let d = c.in_default in (omega arith, is_rest c.args.term.now.form d.not-Op d.not-App d.not-Let d.not-LetBang d.not-If d.not-Cast d.not-Annot)

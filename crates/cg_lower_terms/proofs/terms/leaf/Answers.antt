@@ -1,4 +1,4 @@
-use Rattle.cg_lower_terms.proofs.GroupSteps.{no_leaf}
+use Rattle.cg_core.proofs.FormGroups.{no_leaf}
 use Rattle.cg_lower_terms.proofs.terms.leaf.Goals as goal
 
 pub unreachable-requires : goal.unreachable-requires

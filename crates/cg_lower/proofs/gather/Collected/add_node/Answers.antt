@@ -1,7 +1,8 @@
 use Rattle.std.proofs.Common.{arith, refl}
 use Rattle.cg_core.specs.declared.term.Form.{the_lemmas}
-use Rattle.cg_lower.proofs.CollectSteps.{core_is, grown_as, grown_both}
+use Rattle.cg_lower.proofs.CollectSteps.{grown_as, grown_both}
 use Rattle.cg_lower.proofs.gather.Collected.add_node.Goals as goal
+use Rattle.cg_core.proofs.Operands.{core_is}
 
 pub returns-in_ok-add_call-in-App : goal.returns-in_ok-add_call-in-App
 returns-in_ok-add_call-in-App c =

@@ -1,5 +1,5 @@
 -- The groups of forms: what is none of some forms is one of the others.
-use Rattle.std.proofs.Common.{◌≡◌, ℕ, Bool, true, false, ◌||◌, IsTrue, Option, List, sym, ap, ◌∙◌, Box}
+use Rattle.std.proofs.Common.{◌≡◌, ℕ, Bool, false, ◌||◌, IsTrue, Option, List, sym, ap, ◌∙◌, Box}
 use Rattle.std.specs.declared.alloc.Global.{Global}
 use Rattle.cg_base.specs.declared.fun.Fun.{Fun}
 use Rattle.cg_base.specs.declared.place.Place.{Place as Spot}
@@ -14,8 +14,8 @@ use Rattle.cg_core.specs.declared.term.Seen.{Seen}
 use Rattle.cg_core.specs.declared.term.Term.{Term}
 use Rattle.cg_core.specs.declared.term.Typed.{Typed}
 use Rattle.cg_core.specs.Kernels.{the_core_form}
-use Rattle.cg_eval.specs.Groups.{is_data, is_leaf}
-use Rattle.cg_eval.proofs.Begins.{var_is, unit_is, bool_is, lit_is, fun_is, op_is, app_is, lets_is, bang_is, if_is, con_is, case_is, esac_is, struct_is, member_is, take_is, put_is, cast_is, annot_is}
+use Rattle.cg_core.specs.Groups.{is_data, is_leaf}
+use Rattle.cg_core.proofs.Forms.{var_is, unit_is, bool_is, lit_is, fun_is, op_is, app_is, lets_is, bang_is, if_is, con_is, case_is, esac_is, struct_is, member_is, take_is, put_is, cast_is, annot_is}
 
 -- a form whose parts stand by themselves
 abbrev Layer : Type 0
@@ -139,8 +139,3 @@ pub no_leaf : (t : Form Typed)
     → ((f : Fun) (ts : List TyArg) → t ≡ form.Fun f ts → ⊥)
     → is_leaf (the_core_form t) ≡ false
 no_leaf t = no_leaf_at t (out-Form Typed t) (roll-out-Form Typed t)
-
--- what is one of two groups, and none of the first
-pub second : (b c : Bool) → IsTrue (b || c) → b ≡ false → IsTrue c
-second true c e d = absurd (cc)
-second false c e d = e

@@ -1,4 +1,4 @@
--- The forms of terms in groups, by which the evaluation of a node begins.
+-- The forms of terms in groups, by which functions go down them.
 use Rattle.std.specs.Prelude.{Bool, true, false}
 use Rattle.cg_core.specs.Terms.{Note, Shape, var, unit, bool, lit, fun, con, case_of, esac, struct, member, take_field, put}
 
