@@ -1,20 +1,26 @@
 // Real files and the real output: the trusted edge. No contract can say what they hold, so they tell nothing of it.
+// A call that a signal interrupted is made anew: opening a file by std, reading and writing here.
 ghost use Rattle.std.specs.Prelude.{◌≡◌, ◌+◌, ◌<◌, ◌≤◌, ◌^◌, [], None, length, vec_len, IfOk, IsTrue};
 ghost use Rattle.std.specs.IoError.{error_kind};
+ghost use Rattle.std.specs.Io.{ReadsAtMost, WritesAtMost};
+ghost use Rattle.std.specs.Io.KnownBytes.{ReadConsumes, WriteAppends};
 ghost use Rattle.cg_outside.specs.Failures.{times};
 ghost use Rattle.cg_cli.specs.Loops.{told_as, ReadsTurn, ReadsFront, WritesWhole};
 
 use cg_outside::{Failures, FileFault, Files, Sink};
 use std::alloc::Global;
-use std::io::{ErrorKind, Read, Write};
+use std::io::{Error, ErrorKind, Read, Write};
 use std::rt::Files as FileSystem;
 use std::{fs, io};
 
 /// How many bytes one turn of a read asks for at most.
 const CHUNK: usize = 4096;
 
+/// How often a call is made that signals interrupt; then it has failed.
+const TRIES: u32 = 1000;
+
 /// What an error of std's is where nothing has changed yet.
-fn fault_of(error: &io::Error) -> FileFault
+fn fault_of(error: &Error) -> FileFault
     ensures { result ≡ told_as (error_kind error.now) }
 {
     if error.kind() == ErrorKind::OutOfMemory {
@@ -24,6 +30,34 @@ fn fault_of(error: &io::Error) -> FileFault
     }
 }
 
+/// One call of a reader, made anew while it is interrupted.
+fn read_some<R: Read>(reader: &mut R, buf: &mut [u8]) -> io::Result<usize>
+    ensures bound { ReadsAtMost result buf.new }
+    ensures bytes { ReadConsumes (R.remaining reader.old) (R.remaining reader.new) result buf.new }
+{
+    'tries: for _ in 0..TRIES {
+        match reader.read(buf) {
+            Err(error) if error.kind() == ErrorKind::Interrupted => {}
+            answer => return answer,
+        }
+    }
+    Err(Error::from(ErrorKind::Interrupted))
+}
+
+/// One call of a writer, made anew while it is interrupted.
+fn write_some<W: Write>(writer: &mut W, bytes: &[u8]) -> io::Result<usize>
+    ensures bound { WritesAtMost result bytes.now }
+    ensures bytes { WriteAppends (W.contents writer.old) (W.contents writer.new) result bytes.now }
+{
+    'tries: for _ in 0..TRIES {
+        match writer.write(bytes) {
+            Err(error) if error.kind() == ErrorKind::Interrupted => {}
+            answer => return answer,
+        }
+    }
+    Err(Error::from(ErrorKind::Interrupted))
+}
+
 /// One turn of a read: appends what the reader gives, at most `room` bytes, and answers how many these are. None is the
 /// end of what it has.
 fn read_turn<R: Read>(reader: &mut R, bytes: &mut Vec<u8>, room: usize) -> Result<usize, FileFault>
@@ -31,7 +65,7 @@ fn read_turn<R: Read>(reader: &mut R, bytes: &mut Vec<u8>, room: usize) -> Resul
     ensures { ReadsTurn room (R.remaining reader.old) (R.remaining reader.new) bytes.old.items bytes.new.items result }
 {
     let mut chunk = [0u8; CHUNK];
-    match reader.read(&mut chunk[..CHUNK.min(room)]) {
+    match read_some(reader, &mut chunk[..CHUNK.min(room)]) {
         Ok(count) => {
             bytes.extend_from_slice(&chunk[..count])?;
             Ok(count)
@@ -62,7 +96,7 @@ fn write_whole<W: Write>(writer: &mut W, bytes: &[u8]) -> Result<(), FileFault>
 {
     let mut at = 0;
     while at < bytes.len() {
-        match writer.write(&bytes[at..]) {
+        match write_some(writer, &bytes[at..]) {
             Ok(0) => return Err(FileFault::Failed),
             Ok(count) => at += count,
             Err(error) if at == 0 => return Err(fault_of(&error)),
@@ -73,6 +107,13 @@ fn write_whole<W: Write>(writer: &mut W, bytes: &[u8]) -> Result<(), FileFault>
 }
 
 /// Files of the system, with the names of the calls that failed. It implements docs/LANGUAGE.md, "The outside".
+///
+/// What it doesn't do: no call asks whether closing a file went well, so a write that the system puts off and that fails
+/// later isn't told. Nothing is synced: what was written can be lost where the machine stops. Names are compared as texts:
+/// `a.cg` and `./a.cg`, or two links to one file, are two names, and what is written to one is read from the other.
+///
+/// A file that can't be opened for writing keeps what it held, which needn't be a prefix of the bytes that were to be
+/// written: the system empties a file only where it opens it.
 #[derive(Drop)]
 pub struct RealFiles<'a, R: FileSystem> {
     alloc: Global,
@@ -112,7 +153,8 @@ fn read_file<R: FileSystem>(
     }
 }
 
-/// Makes a file's contents these bytes. Once the file is made or emptied, whatever stops the write is a failure.
+/// Makes a file's contents these bytes. One call of the system opens the file and makes or empties it, so one that can't
+/// be opened keeps what it held. Once it is made or emptied, whatever stops the write is a failure.
 fn write_file<R: FileSystem>(system: &R, name: &str, bytes: &[u8]) -> Result<(), FileFault> {
     match fs::create(system, name) {
         Ok(mut file) => write_whole(&mut file, bytes).map_err(|_| FileFault::Failed),
@@ -148,7 +190,8 @@ impl<'a, R: FileSystem> Files for RealFiles<'a, R> {
     }
 }
 
-/// Standard output, with the count of its faults.
+/// Standard output, with the count of its faults. It is neither closed nor synced here: what the system puts off and
+/// fails to write later isn't told.
 #[derive(Drop)]
 pub struct RealOutput<'a, P: Print> {
     system: &'a P,
@@ -182,7 +225,6 @@ impl<'a, P: Print> Sink for RealOutput<'a, P> {
 mod tests {
     use super::*;
     use std::fmt::Display;
-    use std::io::Error;
     use std::test::Fail;
 
     /// So many bytes. The chunks that a read asks for differ.
@@ -209,6 +251,63 @@ mod tests {
             self.turns -= 1;
             let count = buf.len().min(7);
             self.taken.extend_from_slice(&buf[..count])?;
+            Ok(count)
+        }
+
+        fn flush(&mut self) -> io::Result<()> {
+            Ok(())
+        }
+    }
+
+    /// A reader and a writer that are interrupted so often before each turn, which takes few bytes.
+    #[derive(Drop)]
+    struct Disturbed {
+        bytes: Vec<u8>,
+        at: usize,
+        before_each: u32,
+        left: u32,
+    }
+
+    impl Disturbed {
+        fn new(bytes: Vec<u8>, before_each: u32) -> Disturbed {
+            Disturbed {
+                bytes,
+                at: 0,
+                before_each,
+                left: before_each,
+            }
+        }
+
+        /// Whether the next call is interrupted.
+        fn is_interrupted(&mut self) -> bool {
+            if self.left == 0 {
+                self.left = self.before_each;
+                return false;
+            }
+            self.left -= 1;
+            true
+        }
+    }
+
+    impl Read for Disturbed {
+        fn read(&mut self, buf: &mut [u8]) -> io::Result<usize> {
+            if self.is_interrupted() {
+                return Err(Error::from(ErrorKind::Interrupted));
+            }
+            let mut rest = self.bytes.get(self.at..).unwrap_or(&[]);
+            let count = rest.read(buf)?;
+            self.at = self.at.saturating_add(count);
+            Ok(count)
+        }
+    }
+
+    impl Write for Disturbed {
+        fn write(&mut self, buf: &[u8]) -> io::Result<usize> {
+            if self.is_interrupted() {
+                return Err(Error::from(ErrorKind::Interrupted));
+            }
+            let count = buf.len().min(7);
+            self.bytes.extend_from_slice(&buf[..count])?;
             Ok(count)
         }
 
@@ -250,10 +349,10 @@ mod tests {
     }
 
     /// Whether a read of a name gives just these bytes.
-    fn reads<F: Files>(alloc: Global, files: &mut F, most: usize, bytes: &[u8]) -> bool
+    fn reads<F: Files>(alloc: Global, files: &mut F, name: &str, most: usize, bytes: &[u8]) -> bool
         requires { most < 2 ^ 32 }
     {
-        match files.read(alloc, "real.bin", most) {
+        match files.read(alloc, name, most) {
             Ok(read) => read.as_slice() == bytes,
             Err(_) => false,
         }
@@ -275,10 +374,10 @@ mod tests {
         let front = pattern(alloc, 5_001)?;
         let mut files = RealFiles::new(alloc, &rt);
         files.write("real.bin", &bytes)?;
-        assert!(rt; reads(alloc, &mut files, 10_000, &bytes));
-        assert!(rt; reads(alloc, &mut files, 5_000, &front));
+        assert!(rt; reads(alloc, &mut files, "real.bin", 10_000, &bytes));
+        assert!(rt; reads(alloc, &mut files, "real.bin", 5_000, &front));
         files.write("real.bin", &front)?;
-        assert!(rt; reads(alloc, &mut files, 10_000, &front));
+        assert!(rt; reads(alloc, &mut files, "real.bin", 10_000, &front));
         Ok(())
     }
 
@@ -291,6 +390,42 @@ mod tests {
         assert!(rt; read_fails(alloc, &mut files, "absent.bin"));
         // A directory can be opened and not read.
         assert!(rt; read_fails(alloc, &mut files, "."));
+    }
+
+    #[test]
+    fn a_file_that_cannot_be_opened_for_writing_keeps_what_it_held(
+        rt: HostRuntime,
+    ) -> Result<(), Fail> {
+        let alloc = rt.alloc();
+        let mut files = RealFiles::new(alloc, &rt);
+        files.write("kept.bin", b"kept")?;
+        assert!(rt; write_fails(&mut files, "kept.bin/below"));
+        assert!(rt; reads(alloc, &mut files, "kept.bin", 100, b"kept"));
+        let mut permissions = fs::metadata(&rt, "kept.bin")?.permissions();
+        permissions.set_readonly(true);
+        fs::set_permissions(&rt, "kept.bin", permissions)?;
+        // Whoever may write every file isn't refused.
+        if write_fails(&mut files, "kept.bin") {
+            assert!(rt; reads(alloc, &mut files, "kept.bin", 100, b"kept"));
+        }
+        fs::remove_file(&rt, "kept.bin")?;
+        Ok(())
+    }
+
+    #[test]
+    fn what_is_interrupted_is_tried_again(rt: HostRuntime) -> Result<(), Fail> {
+        let alloc = rt.alloc();
+        let bytes = pattern(alloc, 20)?;
+        let mut writer = Disturbed::new(Vec::new(alloc), TRIES - 1);
+        assert_eq!(rt; write_whole(&mut writer, &bytes), Ok(()));
+        assert!(rt; writer.bytes == bytes);
+        let mut reader = Disturbed::new(bytes.clone()?, TRIES - 1);
+        assert!(rt; read_front(alloc, &mut reader, 100) == Ok(bytes.clone()?));
+        let mut writer = Disturbed::new(Vec::new(alloc), TRIES);
+        assert_eq!(rt; write_whole(&mut writer, &bytes), Err(FileFault::Failed));
+        let mut reader = Disturbed::new(bytes, TRIES);
+        assert!(rt; read_front(alloc, &mut reader, 100) == Err(FileFault::Failed));
+        Ok(())
     }
 
     #[test]
