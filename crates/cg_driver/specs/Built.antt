@@ -35,7 +35,7 @@ abbrev pub RefusesPlace : List ℕ → Checked → List Instance → ℕ → Sta
 RefusesPlace file checked list at status text = (found : Found) → KeepsCopies checked list found → found.at ≡ at → Settles Judges (on_words file ∷ []) found (refuses status text)
 
 -- what is written of a checked source with these instances
-pub record IsBuilt (checked : Checked) (list : List Instance) (built : Built) : Type 0 where
+pub record IsWritten (checked : Checked) (list : List Instance) (built : Built) : Type 0 where
   pub text : built.text.items ≡ emitted (copies_in checked list)
   pub meant : IsMeant (copies_in checked list)
   pub certificate : built.certificate.items ≡ certified_text (functions_in checked)
