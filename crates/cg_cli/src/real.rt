@@ -13,7 +13,7 @@ use std::{fs, io};
 /// How many bytes one turn of a read asks for at most.
 const CHUNK: usize = 4096;
 
-/// What an error of std's is where nothing has changed yet.
+/// What an error of std's is where nothing has changed.
 fn fault_of(error: &io::Error) -> FileFault
     ensures { result ≡ told_as (error_kind error.now) }
 {
@@ -82,7 +82,7 @@ pub struct RealFiles<'a, R: FileSystem> {
 }
 
 impl<'a, R: FileSystem> RealFiles<'a, R> {
-    /// The files that a system reaches; no call has failed yet.
+    /// The files that a system reaches; no call has failed.
     pub fn new(alloc: Global, system: &'a R) -> RealFiles<'a, R>
         ensures reads { result.reads ≡ [] }
         ensures writes { result.writes ≡ [] }
@@ -156,7 +156,7 @@ pub struct RealOutput<'a, P: Print> {
 }
 
 impl<'a, P: Print> RealOutput<'a, P> {
-    /// The output that a system prints to; no call has failed yet.
+    /// The output that a system prints to; no call has failed.
     pub fn new(system: &'a P) -> RealOutput<'a, P>
         ensures { result.faults ≡ 0 }
     {

@@ -52,7 +52,7 @@ use Rattle.cg_driver.specs.Run.{Evaluates, RunsOut, IsReport}
 -- limit: else the first condition that fails in the order of nodes is told, which is C2 or C3 with its node, or that limit (`type`); the
 -- instances are within all their limits, else the first that they pass is told; the certificate that would be written is within its own; the
 -- source has the entry (E1), whose type is allowed (E2), and which reaches no abstract function (M1); the entry is one of those that can be run
--- so far (F1); the heap file holds a number (H1), which is a word (H5); evaluation ends within the steps.
+-- (F1); the heap file holds a number (H1), which is a word (H5); evaluation ends within the steps.
 pub data Judgement : Type 0 where
   no_command : Judgement
   within : Limit → Judgement
