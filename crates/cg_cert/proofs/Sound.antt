@@ -44,7 +44,7 @@ abbrev pub Ready : Stage → State → Type 0
 Ready Inner s = AreFunctions (all_of s) × (s.strings ≡ []) × (s.string ≡ [])
 Ready _ s = (s.funs ≡ []) × (s.nodes ≡ []) × (s.strings ≡ []) × (s.string ≡ [])
 
--- what a node with mark strings spells so far
+-- what a node with mark strings spells up to here
 abbrev node_text : Node → State → List ℕ
 node_text n s = node_word n ++ (strings_text s.strings ++ (codes " " ++ map mark_sign s.string))
 

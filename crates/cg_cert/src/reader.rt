@@ -27,7 +27,7 @@ pub(crate) enum Mode {
     Stuck,
 }
 
-/// What is read so far: where the reader stands, the bytes of the word or the name at hand, the functions before, the name and the
+/// What was read: where the reader stands, the bytes of the word or the name at hand, the functions before, the name and the
 /// nodes of the function at hand, and the mark strings of the node at hand with the one that is read.
 pub(crate) struct Reader {
     mode: Mode,

@@ -29,7 +29,7 @@ fn meets_held(direction: Option<&Ty>, part: Option<&Part>) -> bool
     }
 }
 
-/// What an alternative holds, of a match on it or of a value of it: it is there and not handled yet. Else C2 with the number of the node;
+/// What an alternative holds, of a match on it or of a value of it: it is there and not handled before. Else C2 with the number of the node;
 /// and `Memory` for want of memory.
 pub fn alternative_type(source: &Source, number: u64, name: &Name, ty: &Ty) -> Result<Ty, CertFault>
     ensures { Agrees type_of result (steps.alternative_held number name.now (type_of ty.now)) }
@@ -41,7 +41,7 @@ pub fn alternative_type(source: &Source, number: u64, name: &Name, ty: &Ty) -> R
     Ok(held(source.alloc, part)?)
 }
 
-/// What the last alternative holds: it is there, not handled yet, and the only one left, and what it holds is the type that is checked
+/// What the last alternative holds: it is there, not handled before, and the only one left, and what it holds is the type that is checked
 /// against, if any is. Else C2 with the number of the node; and `Memory` for want of memory.
 pub fn last_type(
     source: &Source,

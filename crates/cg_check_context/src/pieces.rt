@@ -44,7 +44,7 @@ fn type_held(source: &Source, part: Option<&Part>) -> Result<Ty, Stop>
     }
 }
 
-/// What an alternative holds, which is there (T8) and not handled yet (T10).
+/// What an alternative holds, which is there (T8) and not handled before (T10).
 pub fn alternative_type(source: &Source, at: &At, ty: &Ty) -> Result<Ty, Stop>
     ensures { Agrees type_of result (need_of T8 at.now.place (parts.is_there (parts.alternative_in at.now.name (type_of ty.now)))
         (need_of T10 at.now.place (parts.is_left (parts.alternative_in at.now.name (type_of ty.now)))
@@ -60,7 +60,7 @@ pub fn alternative_type(source: &Source, at: &At, ty: &Ty) -> Result<Ty, Stop>
     type_held(source, part)
 }
 
-/// What the last alternative holds, which is there (T8), not handled yet (T10), and the only one left (T9).
+/// What the last alternative holds, which is there (T8), not handled before (T10), and the only one left (T9).
 pub fn last_type(source: &Source, at: &At, ty: &Ty) -> Result<Ty, Stop>
     ensures { Agrees type_of result (need_of T8 at.now.place (parts.is_there (parts.alternative_in at.now.name (type_of ty.now)))
         (need_of T10 at.now.place (parts.is_left (parts.alternative_in at.now.name (type_of ty.now)))

@@ -124,7 +124,7 @@ pub fn seen_places(
     Ok(seen)
 }
 
-// Notes an observer, where there is none yet of its variable.
+// Notes an observer, where there is none of its variable.
 fn see(seen: &mut Vec<Option<Place>>, observer: Seen)
     ensures { seen.new.items ≡ noted seen.old.items observer }
 {

@@ -19,7 +19,7 @@ const CHUNK: usize = 4096;
 /// How often a call is made that signals interrupt; then it has failed.
 const TRIES: u32 = 1000;
 
-/// What an error of std's is where nothing has changed yet.
+/// What an error of std's is where nothing has changed.
 fn fault_of(error: &Error) -> FileFault
     ensures { result ≡ told_as (error_kind error.now) }
 {
@@ -108,12 +108,10 @@ fn write_whole<W: Write>(writer: &mut W, bytes: &[u8]) -> Result<(), FileFault>
 
 /// Files of the system, with the names of the calls that failed. It implements docs/LANGUAGE.md, "The outside".
 ///
-/// What it doesn't do: no call asks whether closing a file went well, so a write that the system puts off and that fails
-/// later isn't told. Nothing is synced: what was written can be lost where the machine stops. Names are compared as texts:
-/// `a.cg` and `./a.cg`, or two links to one file, are two names, and what is written to one is read from the other.
-///
-/// A file that can't be opened for writing keeps what it held, which needn't be a prefix of the bytes that were to be
-/// written: the system empties a file only where it opens it.
+/// Names are compared as texts: `a.cg` and `./a.cg`, or two links to one file, are two names, and what is written to one
+/// is read from the other. A file that can't be opened for writing keeps what it held, which needn't be a prefix of the
+/// bytes: the system empties a file only where it opens it. Closing a file reports nothing, so an error that the system
+/// has only then is lost. Nothing is synced: the system has taken what was written, and can lose it where it stops.
 #[derive(Drop)]
 pub struct RealFiles<'a, R: FileSystem> {
     alloc: Global,
@@ -123,7 +121,7 @@ pub struct RealFiles<'a, R: FileSystem> {
 }
 
 impl<'a, R: FileSystem> RealFiles<'a, R> {
-    /// The files that a system reaches; no call has failed yet.
+    /// The files that a system reaches; no call has failed.
     pub fn new(alloc: Global, system: &'a R) -> RealFiles<'a, R>
         ensures reads { result.reads ≡ [] }
         ensures writes { result.writes ≡ [] }
@@ -190,8 +188,8 @@ impl<'a, R: FileSystem> Files for RealFiles<'a, R> {
     }
 }
 
-/// Standard output, with the count of its faults. It is neither closed nor synced here: what the system puts off and
-/// fails to write later isn't told.
+/// Standard output, with the count of its faults. It is neither closed nor synced here, so an error that the system has
+/// only then is lost.
 #[derive(Drop)]
 pub struct RealOutput<'a, P: Print> {
     system: &'a P,
@@ -199,7 +197,7 @@ pub struct RealOutput<'a, P: Print> {
 }
 
 impl<'a, P: Print> RealOutput<'a, P> {
-    /// The output that a system prints to; no call has failed yet.
+    /// The output that a system prints to; no call has failed.
     pub fn new(system: &'a P) -> RealOutput<'a, P>
         ensures { result.faults ≡ 0 }
     {
@@ -259,7 +257,7 @@ mod tests {
         }
     }
 
-    /// A reader and a writer that are interrupted so often before each turn, which takes few bytes.
+    /// A reader and a writer that are interrupted so often before each turn; one of a write takes few bytes.
     #[derive(Drop)]
     struct Disturbed {
         bytes: Vec<u8>,
@@ -358,6 +356,31 @@ mod tests {
         }
     }
 
+    /// Takes away the leave to write a file.
+    fn lock<R: FileSystem>(system: &R, name: &str) -> io::Result<()> {
+        let mut permissions = fs::metadata(system, name)?.permissions();
+        permissions.set_readonly(true);
+        fs::set_permissions(system, name, permissions)
+    }
+
+    /// A piece of more than one turn of what is disturbed.
+    const PIECE: &[u8] = b"one two three";
+
+    /// Whether a piece is written that is interrupted so often before each turn.
+    fn writes_disturbed(alloc: Global, before_each: u32) -> bool {
+        let mut writer = Disturbed::new(Vec::new(alloc), before_each);
+        write_whole(&mut writer, PIECE) == Ok(()) && writer.bytes.as_slice() == PIECE
+    }
+
+    /// Whether a piece is read that is interrupted so often before each turn.
+    fn reads_disturbed(alloc: Global, before_each: u32) -> Result<bool, FileFault> {
+        let mut reader = Disturbed::new(PIECE.to_vec(alloc)?, before_each);
+        match read_front(alloc, &mut reader, 100) {
+            Ok(bytes) => Ok(bytes.as_slice() == PIECE),
+            Err(_) => Ok(false),
+        }
+    }
+
     /// Whether a writer of so many turns takes just these bytes of a piece, with this answer.
     fn takes(piece: &[u8], turns: usize, taken: Vec<u8>, answer: Result<(), FileFault>) -> bool {
         let mut sips = Sips {
@@ -393,7 +416,7 @@ mod tests {
     }
 
     #[test]
-    fn a_file_that_cannot_be_opened_for_writing_keeps_what_it_held(
+    fn a_file_keeps_what_it_held_where_a_name_below_it_is_written(
         rt: HostRuntime,
     ) -> Result<(), Fail> {
         let alloc = rt.alloc();
@@ -401,30 +424,29 @@ mod tests {
         files.write("kept.bin", b"kept")?;
         assert!(rt; write_fails(&mut files, "kept.bin/below"));
         assert!(rt; reads(alloc, &mut files, "kept.bin", 100, b"kept"));
-        let mut permissions = fs::metadata(&rt, "kept.bin")?.permissions();
-        permissions.set_readonly(true);
-        fs::set_permissions(&rt, "kept.bin", permissions)?;
-        // Whoever may write every file isn't refused.
-        if write_fails(&mut files, "kept.bin") {
-            assert!(rt; reads(alloc, &mut files, "kept.bin", 100, b"kept"));
-        }
-        fs::remove_file(&rt, "kept.bin")?;
+        Ok(())
+    }
+
+    #[test]
+    fn a_file_that_may_not_be_written_keeps_what_it_held(rt: HostRuntime) -> Result<(), Fail> {
+        let alloc = rt.alloc();
+        let mut files = RealFiles::new(alloc, &rt);
+        files.write("locked.bin", b"kept")?;
+        lock(&rt, "locked.bin")?;
+        // Who may write every file isn't refused.
+        let refused = write_fails(&mut files, "locked.bin");
+        assert!(rt; !refused || reads(alloc, &mut files, "locked.bin", 100, b"kept"));
+        fs::remove_file(&rt, "locked.bin")?;
         Ok(())
     }
 
     #[test]
     fn what_is_interrupted_is_tried_again(rt: HostRuntime) -> Result<(), Fail> {
         let alloc = rt.alloc();
-        let bytes = pattern(alloc, 20)?;
-        let mut writer = Disturbed::new(Vec::new(alloc), TRIES - 1);
-        assert_eq!(rt; write_whole(&mut writer, &bytes), Ok(()));
-        assert!(rt; writer.bytes == bytes);
-        let mut reader = Disturbed::new(bytes.clone()?, TRIES - 1);
-        assert!(rt; read_front(alloc, &mut reader, 100) == Ok(bytes.clone()?));
-        let mut writer = Disturbed::new(Vec::new(alloc), TRIES);
-        assert_eq!(rt; write_whole(&mut writer, &bytes), Err(FileFault::Failed));
-        let mut reader = Disturbed::new(bytes, TRIES);
-        assert!(rt; read_front(alloc, &mut reader, 100) == Err(FileFault::Failed));
+        assert!(rt; writes_disturbed(alloc, TRIES - 1));
+        assert!(rt; !writes_disturbed(alloc, TRIES));
+        assert!(rt; reads_disturbed(alloc, TRIES - 1)?);
+        assert!(rt; !reads_disturbed(alloc, TRIES)?);
         Ok(())
     }
 

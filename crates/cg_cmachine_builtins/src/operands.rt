@@ -16,7 +16,7 @@ use cg_cmachine_values::{CValue, fits, same};
 use cg_ctree::Why;
 use cg_heap::Store;
 
-/// The cell that an operand points to has to be there; of one that is no pointer nothing is asked yet.
+/// The cell that an operand points to has to be there; of one that is no pointer nothing is asked here.
 pub(crate) fn is_there<S: Store>(store: &S, value: &CValue<'_>) -> Result<(), Why>
     ensures { Gives (λ _. tt) (built_ins.is_there (S.stored store.now) (value_of value.now)) result }
 {

@@ -64,7 +64,7 @@ array_of w = pointer (codes "W" ++ width_text w)
 
 -- ---- what is asked of operands
 
--- the cell that an operand points to has to be there; of one that is no pointer nothing is asked yet
+-- the cell that an operand points to has to be there; of one that is no pointer nothing is asked here
 abbrev pub is_there : Stored → Value → Judged (Unit {0})
 is_there m (typed (pointer x) us) = on (address_in (typed (pointer x) us)) (λ p. on (present m p) (λ c. ok tt))
 is_there m v = ok tt

@@ -39,7 +39,7 @@ bind (stuck why m) f = stuck why m
 bind (needs m) f = needs m
 bind astray f = astray
 
--- what is judged in a step that has changed nothing yet, or whose changes don't count where it is stuck: this store stands then
+-- what is judged in a step that has changed nothing, or whose changes don't count where it is stuck: this store stands then
 abbrev pub lift : {A B : Type 0} → Stored → Judged A → (A → Outcome B) → Outcome B
 lift m (ok a) f = f a
 lift m (no why) f = stuck why m

@@ -51,7 +51,7 @@ declares ss d name before between after named joins list slots names pushed next
   };
 }
 
--- none yet, and more behind others
+-- none, and more behind others
 pub added_none : (ss : List CStruct) (variables : Variables) → AreAdded ss [] variables variables
 added_none ss variables = record { added = λ vs is. subst (λ vs. IsScope ss vs variables) (sym (append-nil vs)) is }
 

@@ -69,7 +69,7 @@ module _ (bytes : List ℕ) (at : Cursor) (s : State) (g : Going bytes at s) whe
   viable : Viable bytes g.front at
   viable = record { walks = g.walks; begins = begun g.front (sym (ap is_open g.state) ∙ g.opened) }
 
-  -- each program that is spelled has tokens that go on from those walked so far
+  -- each program that is spelled has tokens that go on from those walked
   further : (p : Program) → CSpells bytes p → (more : List Lexeme) × Lexes at.rest more × SpellsTokens (g.front ++ more) p
   further p sp =
       let w = goes_on bytes g.front sp.0 at g.walks sp.1 in

@@ -27,7 +27,7 @@ use Rattle.cg_cread.specs.Machine.{State, InHead, InMembers, InBody, in_body, on
 abbrev pub run : State → List Lexeme → State
 run = reader_run reader
 
--- a function so far
+-- a function as it is read
 abbrev pub nest_at : Signature → List CDecl → List Frame → ℕ → List Stmt → Nest
 nest_at s ls fs room ss = record { head = s; locals = ls; frames = fs; level = record { room = room; stmts = ss } }
 

@@ -1,4 +1,4 @@
--- What stands behind the tokens that were walked so far, in each whole division of a text.
+-- What stands behind the tokens that were walked, in each whole division of a text.
 use Rattle.std.proofs.Common.{◌≡◌, ℕ, List, [], ◌∷◌, refl, sym, ap, subst}
 use Rattle.cg_base.specs.declared.place.Place.{Place}
 use Rattle.cg_cread_lexer.proofs.Walking.{walks_divide, none_at_finish, none_at_unknown, no_gap_at_unknown}

@@ -6,12 +6,12 @@ use Rattle.cg_ctree.specs.Trees.{Stmt, switch, Case, to_cases}
 use Rattle.cg_cread_parts.specs.Symbols.{Symbol, keyed, count, colon, semicolon}
 use Rattle.cg_cread_parts.specs.declared.symbol.Keyword.TheVariants as key
 
--- a block so far: how many statements may be open inside each other in it, and its statements ("The C text", depth)
+-- a block as it is read: how many statements may be open inside each other in it, and its statements ("The C text", depth)
 pub record Level : Type 0 where
   pub room : ℕ
   pub stmts : List Stmt
 
--- a `switch` so far: its operand and its cases ("The C text", `stmt`)
+-- a `switch` as it is read: its operand and its cases ("The C text", `stmt`)
 pub record Arms : Type 0 where
   pub operand : COpnd
   pub cases : List Case

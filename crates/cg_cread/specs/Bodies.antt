@@ -16,7 +16,7 @@ use Rattle.cg_cread_pieces.specs.declared.line.Test.TheVariants as test
 use Rattle.cg_cread_pieces.specs.declared.line.Line.{Line}
 use Rattle.cg_cread.specs.Blocks.{Level, Opened, Yes, No, Loop, InCase, Frame, frame, Gap, BehindYes, CaseWanted, CaseClosed, no_case, gap_step, gap_opens, gap_end, gap_is_open}
 
--- a function so far: its head, its locals, what is open, the innermost first, and the block that is read ("The C text", `decl`)
+-- a function as it is read: its head, its locals, what is open, the innermost first, and the block that is read ("The C text", `decl`)
 pub record Nest : Type 0 where
   pub head : Signature
   pub locals : List CDecl

@@ -22,11 +22,11 @@ use Rattle.cg_cread.specs.declared.file.Done.{Done}
 use Rattle.cg_cread.specs.declared.file.Phase.{Phase}
 use Rattle.cg_cread.specs.declared.file.Phase.TheVariants.{Start, First, Second, Between, InHead, InMembers, MembersClosed, InBody, Failed}
 
--- a block so far
+-- a block as it is read
 abbrev pub level_of : Level → blocks.Level
 level_of l = record { room = l.room; stmts = map stmt_of l.stmts }
 
--- a `switch` so far
+-- a `switch` as it is read
 abbrev pub arms_of : Arms → blocks.Arms
 arms_of a = record { operand = a.operand; cases = map case_of a.cases }
 
@@ -53,7 +53,7 @@ gap_of (gap.CaseClosed a c) = blocks.CaseClosed (arms_of a) (case_of c)
 gap_of (gap.BreakRead a c) = blocks.BreakRead (arms_of a) (case_of c)
 gap_of gap.Stuck = blocks.Stuck
 
--- a function so far
+-- a function as it is read
 abbrev pub nest_of : Nest → bodies.Nest
 nest_of n = record { head = n.head; locals = n.locals; frames = map frame_of n.frames; level = level_of n.level }
 

@@ -10,7 +10,7 @@ use cg_ctree::{CCase, COpnd, CStmt};
 use std::alloc::Global;
 use std::marker::Model;
 
-/// A block so far: how many statements may be open inside each other in it, and its statements.
+/// A block as it is read: how many statements may be open inside each other in it, and its statements.
 pub(crate) struct Level {
     pub(crate) room: u32,
     pub(crate) stmts: Items<CStmt>,
@@ -33,7 +33,7 @@ impl Level {
     }
 }
 
-/// A `switch` so far: its operand and its cases.
+/// A `switch` as it is read: its operand and its cases.
 pub(crate) struct Arms {
     pub(crate) operand: COpnd,
     pub(crate) cases: Items<CCase>,

@@ -14,7 +14,7 @@ use cg_cread_pieces::{Line, Test};
 use cg_ctree::{CBody, CCase, CDecl, CFun, COpnd, CStmt};
 use std::alloc::Global;
 
-/// A function so far: its head, its locals, what is open, and the block that is read.
+/// A function as it is read: its head, its locals, what is open, and the block that is read.
 pub(crate) struct Nest {
     pub(crate) head: Signature,
     pub(crate) locals: Items<CDecl>,

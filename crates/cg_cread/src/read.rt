@@ -10,7 +10,7 @@ use cg_ctree::CProgram;
 use std::alloc::Global;
 use std::mem::drop;
 
-// What is read so far is let go: nothing goes on with it at this place.
+// What was read is let go: nothing goes on with it at this place.
 fn unexpected(phase: Phase, place: Place) -> Result<CProgram, CFault>
     ensures { result ≡ Err (CFault.Text place) }
 {

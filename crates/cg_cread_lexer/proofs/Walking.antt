@@ -1,4 +1,4 @@
--- What tokens that were walked so far say of each whole division of a C text.
+-- What tokens that were walked say of each whole division of a C text.
 use Rattle.std.proofs.Common.{◌≡◌, ℕ, ◌<◌, Bool, true, false, List, [], ◌∷◌, ◌++◌, length, codes, refl, sym, ap, ◌∙◌, subst, arith, length-append}
 use Rattle.std.specs.Prelude.{◌||◌}
 use Rattle.std.specs.List.{AllByRecursion}
@@ -66,7 +66,7 @@ goes_on_from (t ∷ front) bytes at last (u ∷ us) d space e =
     let r = goes_on_from front d.0 at last us d.2 space (subst (λ (x : List ℕ). Divides x us (gap_text last)) (sym one.1) e.2) in
     (r.0, (λ i. sym one.0 i ∷ r.1 i), r.2)
 
--- each whole division goes on from the tokens that were walked so far
+-- each whole division goes on from the tokens that were walked
 pub goes_on : (bytes : List ℕ) (front ts : List Lexeme) (at : Cursor) → Walks (start bytes) front at → Lexes bytes ts → (more : List Lexeme) × (last : List Piece) × (ts ≡ front ++ more) × AllByRecursion IsPiece last × Divides at.rest more (gap_text last)
 goes_on bytes front ts at w l =
     let r = goes_on_from front bytes at.rest l.0 ts (walks_divide front (start bytes) at w) l.1 l.2 in

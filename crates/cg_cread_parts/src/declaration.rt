@@ -189,7 +189,7 @@ fn declared(mut before: Items<CDecl>, declaration: Option<CDecl>) -> Result<Row,
 }
 
 impl Row {
-    /// A row of no declaration yet.
+    /// A row of no declaration.
     pub fn new(alloc: Global) -> Row
         ensures { result ≡ machine.row [] Wanted }
     {

@@ -9,7 +9,7 @@ use cg_base::{Items, Memory, Name};
 use cg_ctree::{CBody, CDecl, CFun, CTy};
 use std::alloc::Global;
 
-/// A function's type and its name, and its parameters so far.
+/// A function's type and its name, and the parameters read.
 pub struct Signature {
     pub ty: CTy,
     pub name: Name,

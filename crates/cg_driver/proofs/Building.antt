@@ -41,8 +41,8 @@ use Rattle.cg_typing.specs.declared.checked.Checked.{Checked}
 use Rattle.cg_typing.specs.Holds.{cores_in, kernel_in, trees_in}
 use Rattle.cg_typing.specs.Instances.{Entry, Instance}
 use Rattle.cg_typing.specs.Kept.{maybe_core, maybe_tree}
-use Rattle.cg_driver.specs.Built.{IsBuilt, IsListed, KeepsCopies, RefusesCertificate, RefusesInstances}
-use Rattle.cg_driver.specs.Commands.{Judges, built_line, certifiable, instanced}
+use Rattle.cg_driver.specs.Built.{IsWritten, IsListed, KeepsCopies, RefusesCertificate, RefusesInstances}
+use Rattle.cg_driver.specs.Commands.{Judges, IsBuilt, certifiable, instanced}
 use Rattle.cg_driver.specs.declared.build.Built.{Built}
 use Rattle.cg_driver.specs.Found.{Found, certificate_limit, functions, with_copies}
 use Rattle.cg_driver.specs.Instanced.{HasInstances, IsMeant, IsProved, PassesInstances, bodies_in, certified_text, emitted, too_large, too_many, too_wide}
@@ -155,18 +155,18 @@ certificate_refused checked long f same = inl (tt, (refl, refl, subst (λ fs. ce
 -- a state in which the instances were found of which this is written
 pub record KeepsBuilt (checked : Checked) (list : List Instance) (built : Built) (found : Found) : Type 0 where
   pub kept : KeepsCopies checked list found
-  pub is : IsBuilt checked list built
+  pub is : IsWritten checked list built
 
 pub made_judged : (checked : Checked) (list : List Instance) (f : Found) → KeepsCopies checked list f → (r : Result (Step Built) Memory)
-    → IfOk r (Steps (IsBuilt checked list) (RefusesCertificate (functions_in checked))) → Judged Judges (KeepsBuilt checked list) (certifiable ∷ []) f r
+    → IfOk r (Steps (IsWritten checked list) (RefusesCertificate (functions_in checked))) → Judged Judges (KeepsBuilt checked list) (certifiable ∷ []) f r
 made_judged checked list f kept r said =
-    steps_judged (IsBuilt checked list) (RefusesCertificate (functions_in checked)) (KeepsBuilt checked list) (certifiable ∷ []) f
+    steps_judged (IsWritten checked list) (RefusesCertificate (functions_in checked)) (KeepsBuilt checked list) (certifiable ∷ []) f
     (λ built b. (f, inr (f, (refl, subst (λ fs. length (certified_text fs) ≤ certificate_limit) (sym kept.same) b.brief), refl), record { kept = kept; is = b }))
     (λ s text j. j f kept.same) r said
 
 -- ---- what is written
 
-module _ (checked : Checked) (list : List Instance) (found : Found) (built : Built) (b : IsBuilt checked list built) (kept : KeepsCopies checked list found) where
+module _ (checked : Checked) (list : List Instance) (found : Found) (built : Built) (b : IsWritten checked list built) (kept : KeepsCopies checked list found) where
   pub text_is : (bytes : List ℕ) → bytes ≡ built.text.items → bytes ≡ emitted found.copies
   text_is bytes is = is ∙ b.text ∙ ap emitted (sym kept.copies)
 
@@ -185,8 +185,8 @@ proved checked ready =
     }
 
 -- the line of what is written
-pub built_said : (checked : Checked) (list : List Instance) (built : Built) (found : Found) → CanBeBuilt checked → IsBuilt checked list built → KeepsCopies checked list found
-    → (kernel : Kernel) (fs : List KFun) → kernel ≡ kernel_in checked → fs ≡ kernel.funs → (line : List ℕ) → line ≡ written_line (map function_of fs) built.instances → built_line found line
+pub built_said : (checked : Checked) (list : List Instance) (built : Built) (found : Found) → CanBeBuilt checked → IsWritten checked list built → KeepsCopies checked list found
+    → (kernel : Kernel) (fs : List KFun) → kernel ≡ kernel_in checked → fs ≡ kernel.funs → (line : List ℕ) → line ≡ written_line (map function_of fs) built.instances → IsBuilt found line
 built_said checked list built found ready b kept kernel fs k is line said =
     let functions_are : map function_of fs ≡ functions found = ap (map function_of) is ∙ ap kernel_of k ∙ sym kept.same in
     let count : built.instances ≡ length found.copies = b.counted ∙ sym (length-map list _) ∙ ap length (sym kept.copies) in (
@@ -196,9 +196,9 @@ built_said checked list built found ready b kept kernel fs k is line said =
     )
 
 -- what is said once all is written
-pub concluded : (checked : Checked) (list : List Instance) (built : Built) (found : Found) → CanBeBuilt checked → IsBuilt checked list built → KeepsCopies checked list found
+pub concluded : (checked : Checked) (list : List Instance) (built : Built) (found : Found) → CanBeBuilt checked → IsWritten checked list built → KeepsCopies checked list found
     → (kernel : Kernel) (fs : List KFun) → kernel ≡ kernel_in checked → fs ≡ kernel.funs → (r : Result Report Memory)
-    → IfOk r (IsLine Done (written_line (map function_of fs) built.instances)) → Rules Judges built_line [] found r
+    → IfOk r (IsLine Done (written_line (map function_of fs) built.instances)) → Rules Judges IsBuilt [] found r
 concluded checked list built found ready b kept kernel fs k is (Ok r) said =
     (goes found, refl, (said.0, built_said checked list built found ready b kept kernel fs k is (string_bytes r.text) said.1))
 concluded checked list built found ready b kept kernel fs k is (Err e) said = tt

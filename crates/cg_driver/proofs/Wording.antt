@@ -1,5 +1,5 @@
 -- The usage text is for words that are no command, and for all of them; and what follows where no fault is answered.
-use Rattle.std.proofs.Common.{◌≡◌, ◌⊎◌, ◌∙◌, ◌<◌, arith, inl, inr, ℕ, List, Option, Some, None, Result, Ok, Err, refl, sym, subst}
+use Rattle.std.proofs.Common.{◌≡◌, ◌⊎◌, ◌∙◌, ◌<◌, arith, inl, inr, ℕ, List, ◌∷◌, Option, Some, None, Result, Ok, Err, refl, sym, subst}
 use Rattle.std.specs.Prelude.{IfOk}
 use Rattle.cg_base.specs.declared.memory.Memory.{Memory as NoMemory}
 use Rattle.cg_outside.specs.Causes.{Rose}
@@ -7,12 +7,15 @@ use Rattle.cg_driver_steps.specs.declared.report.Report.{Report}
 use Rattle.cg_driver_steps.specs.declared.status.Status.{Status}
 use Rattle.cg_driver_steps.specs.declared.status.Status.TheVariants.{Usage, ReadFault, WriteFault, Memory}
 use Rattle.cg_driver_steps.specs.World.{World}
-use Rattle.cg_driver_steps.specs.Steps.{refuses, goes, Each}
+use Rattle.cg_driver_steps.specs.Steps.{Runs, refuses, goes, Each}
 use Rattle.cg_driver_steps.specs.Scripts.{IsSaid, Says, Answers, printed, unprinted, no_memory, IsVerdict}
 use Rattle.cg_driver_steps.specs.Parts.{IsLine, Concludes}
 use Rattle.cg_driver_steps.proofs.Deciding.{Refuses, by_read, by_write, by_judgement, refused_by}
 use Rattle.cg_driver_words.specs.Words.{Command, check, build, recheck, run}
-use Rattle.cg_driver.specs.Commands.{Judges, script_of}
+use Rattle.std.specs.Io.KnownBytes.{append_known}
+use Rattle.cg_driver.specs.Commands.{Judges, build_steps, reads_source, script_of}
+use Rattle.cg_driver.specs.Found.{Found, functions, nothing}
+use Rattle.cg_driver.specs.Instanced.{IsMeant, IsProved}
 use Rattle.cg_driver.specs.Lines.{usage_text}
 use Rattle.cg_driver.proofs.Judging.{IsOfCommand, IsNotUsage, not_usage}
 
@@ -90,3 +93,15 @@ usage_concludes c same old r h = planned None c same old old r (go r h)
     go : (r : Result Report NoMemory) → IfOk r (IsLine Usage usage_text) → Concludes Judges (script_of None).line (script_of None).steps (script_of None).start old old r
     go (Ok r) h = (refuses Usage usage_text, inl (tt, ((refl, refl), refl)), h)
     go (Err e) h = inl refl
+
+-- ---- what `build` means by its line
+
+-- a command went through all its steps, and what it printed
+abbrev Finished : Option Command → World → World → Option (List ℕ) → Option (List ℕ) → Type 0
+Finished c old new taken taken' =
+    (found : Found) × (text : List ℕ) × Runs Judges (script_of c).steps (script_of c).start old (goes found) new × (script_of c).line found text × (taken' ≡ append_known taken text)
+
+pub compiled : (c : Option Command) (file text certificate : List ℕ) → c ≡ Some (build file text certificate) → (old new : World) (taken taken' : Option (List ℕ))
+    → Finished c old new taken taken'
+    → (found : Found) × Runs Judges (reads_source file ∷ build_steps file text certificate) nothing old (goes found) new × IsMeant found.copies × IsProved (functions found)
+compiled c file text certificate is old new taken taken' h = let g = subst (λ x. Finished x old new taken taken') is h in (g.0, g.2, g.3.1, g.3.2)

@@ -30,12 +30,12 @@ pub record KeepsCopies (checked : Checked) (list : List Instance) (found : Found
   pub same : functions found ≡ functions_in checked
   pub copies : found.copies ≡ copies_in checked list
 
--- what is said of an entry that can't be run yet, with these instances
+-- what is said of an entry that can't be run, with these instances
 abbrev pub RefusesPlace : List ℕ → Checked → List Instance → ℕ → Status → List ℕ → Type 0
 RefusesPlace file checked list at status text = (found : Found) → KeepsCopies checked list found → found.at ≡ at → Settles Judges (on_words file ∷ []) found (refuses status text)
 
 -- what is written of a checked source with these instances
-pub record IsBuilt (checked : Checked) (list : List Instance) (built : Built) : Type 0 where
+pub record IsWritten (checked : Checked) (list : List Instance) (built : Built) : Type 0 where
   pub text : built.text.items ≡ emitted (copies_in checked list)
   pub meant : IsMeant (copies_in checked list)
   pub certificate : built.certificate.items ≡ certified_text (functions_in checked)

@@ -52,7 +52,7 @@ use Rattle.cg_driver.specs.Run.{Evaluates, RunsOut, IsReport}
 -- limit: else the first condition that fails in the order of nodes is told, which is C2 or C3 with its node, or that limit (`type`); the
 -- instances are within all their limits, else the first that they pass is told; the certificate that would be written is within its own; the
 -- source has the entry (E1), whose type is allowed (E2), and which reaches no abstract function (M1); the entry is one of those that can be run
--- so far (F1); the heap file holds a number (H1), which is a word (H5); evaluation ends within the steps.
+-- (F1); the heap file holds a number (H1), which is a word (H5); evaluation ends within the steps.
 pub data Judgement : Type 0 where
   no_command : Judgement
   within : Limit → Judgement
@@ -224,13 +224,13 @@ reads_certificate certificate = reads certificate certificate_limit with_certifi
 abbrev pub reads_heap : List ℕ → Step Judgement Found
 reads_heap heap = reads heap heap_limit with_heap
 
--- what is printed at status 0: how many functions there are; how many instances there are too, whose C text means what they do,
--- and the certificate is one of the source; that the certificate is in order; the seven lines of a run
+-- What is printed at status 0: how many functions there are; how many instances there are too, and then their C text means what they do and
+-- the certificate is one of the source; that the certificate is in order; the seven lines of a run.
 abbrev pub checked_line : Found → List ℕ → Type 0
 checked_line found text = text ≡ ok_line (functions found)
 
-abbrev pub built_line : Found → List ℕ → Type 0
-built_line found text = (text ≡ written_line (functions found) (length found.copies)) × IsMeant found.copies × IsProved (functions found)
+abbrev pub IsBuilt : Found → List ℕ → Type 0
+IsBuilt found text = (text ≡ written_line (functions found) (length found.copies)) × IsMeant found.copies × IsProved (functions found)
 
 abbrev pub rechecked_line : Found → List ℕ → Type 0
 rechecked_line found text = text ≡ accepted_text
@@ -267,7 +267,7 @@ run_steps file entry heap steps = judged_first (source_rules file ++ entry_rules
 abbrev pub script_of : Option Command → Script Judgement Found
 script_of None = record { steps = judged_first (no_command ∷ []) []; start = nothing; line = λ found text. ⊥ }
 script_of (Some (check file)) = record { steps = reads_source file ∷ judged_first (source_rules file) []; start = nothing; line = checked_line }
-script_of (Some (build file text certificate)) = record { steps = reads_source file ∷ build_steps file text certificate; start = nothing; line = built_line }
+script_of (Some (build file text certificate)) = record { steps = reads_source file ∷ build_steps file text certificate; start = nothing; line = IsBuilt }
 script_of (Some (recheck file certificate)) = record { steps = reads_source file ∷ recheck_steps file certificate; start = nothing; line = rechecked_line }
 script_of (Some (run file entry heap steps)) = record { steps = reads_source file ∷ run_steps file entry heap steps; start = nothing; line = ran_lines }
 

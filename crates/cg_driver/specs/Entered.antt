@@ -37,7 +37,7 @@ instance_at at = record { fun = User at; types = [] }
 abbrev pub entry_place : List Copy → ℕ → Option ℕ
 entry_place copies at = place_of (instance_at at) (list_of copies)
 
--- The entry can be run so far: it is a function on words, and its instance, at this place, reaches no body that needs cells.
+-- The entry can be run: it is a function on words, and its instance, at this place, reaches no body that needs cells.
 pub record IsOnWords (functions : List Function) (copies : List Copy) (at place : ℕ) : Type 0 where
   pub words : is_on_words (slice_get functions at) ≡ true
   pub stands : entry_place copies at ≡ Some place

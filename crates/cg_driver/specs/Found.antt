@@ -1,4 +1,4 @@
--- What the steps of a command have found so far, and which quantity each limit bounds (docs/LANGUAGE.md, "Commands" and "Limits").
+-- What the steps of a command have found, and which quantity each limit bounds (docs/LANGUAGE.md, "Commands" and "Limits").
 use Rattle.std.specs.Prelude.{ℕ, List, [], length}
 use Rattle.cg_base.specs.declared.limit.Limit.{Limit}
 use Rattle.cg_base.specs.declared.limit.Limit.TheVariants.{Source, Nesting, Functions, Fields, Ty, Depth, Instances, Core, Heap, Certificate}

@@ -6,8 +6,8 @@ ghost use Rattle.cg_driver_steps.specs.World.{world};
 ghost use Rattle.cg_driver_steps.specs.Steps.{judged_first};
 ghost use Rattle.cg_driver_steps.specs.Parts.{Concludes, Steps};
 ghost use Rattle.cg_typing.specs.Instances.{Instance};
-ghost use Rattle.cg_driver.specs.Built.{IsBuilt, IsListed, KeepsCopies, RefusesCertificate, RefusesInstances};
-ghost use Rattle.cg_driver.specs.Commands.{Judges, build_steps, built_line, certifiable, instanced, reads_source, writes_both, writes_certificate};
+ghost use Rattle.cg_driver.specs.Built.{IsWritten, IsListed, KeepsCopies, RefusesCertificate, RefusesInstances};
+ghost use Rattle.cg_driver.specs.Commands.{Judges, build_steps, IsBuilt, certifiable, instanced, reads_source, writes_both, writes_certificate};
 ghost use Rattle.cg_driver.specs.Found.{Found, nothing, functions as functions_found};
 ghost use Rattle.cg_driver.specs.Instanced.{IsMeant, emitted};
 ghost use Rattle.cg_driver.specs.Judged.{functions_in, CanBeBuilt, HoldsCores};
@@ -76,7 +76,7 @@ pub(crate) fn emit_text(
 fn make(alloc: Global, checked: &Checked, list: &Instances) -> Result<Step<Built>, Memory>
     requires list { IsListed checked.now list.now }
     requires ready { CanBeBuilt checked.now }
-    ensures { IfOk result (Steps (IsBuilt checked.now list.now) (RefusesCertificate (functions_in checked.now))) }
+    ensures { IfOk result (Steps (IsWritten checked.now list.now) (RefusesCertificate (functions_in checked.now))) }
 {
     let text = emit_text(alloc, checked, list)?;
     let certificate = print_cert(alloc, checked)?;
@@ -99,8 +99,8 @@ fn write_certificate<F: Files>(
     files: &mut F,
 ) -> Result<Report, Memory>
     requires ready { CanBeBuilt checked.now }
-    ensures { (list : List Instance) (found : Found) → IsBuilt checked.now list made.now → KeepsCopies checked.now list found
-        → Concludes Judges built_line (writes_certificate names.now.certificate.now) found
+    ensures { (list : List Instance) (found : Found) → IsWritten checked.now list made.now → KeepsCopies checked.now list found
+        → Concludes Judges IsBuilt (writes_certificate names.now.certificate.now) found
         (world (F.held files.old) (F.failed_reads files.old) (F.failed_writes files.old))
         (world (F.held files.new) (F.failed_reads files.new) (F.failed_writes files.new)) result }
 {
@@ -120,8 +120,8 @@ fn write_both<F: Files>(
     files: &mut F,
 ) -> Result<Report, Memory>
     requires ready { CanBeBuilt checked.now }
-    ensures { (list : List Instance) (found : Found) → IsBuilt checked.now list made.now → KeepsCopies checked.now list found
-        → Concludes Judges built_line (writes_both names.now.text.now names.now.certificate.now) found
+    ensures { (list : List Instance) (found : Found) → IsWritten checked.now list made.now → KeepsCopies checked.now list found
+        → Concludes Judges IsBuilt (writes_both names.now.text.now names.now.certificate.now) found
         (world (F.held files.old) (F.failed_reads files.old) (F.failed_writes files.old))
         (world (F.held files.new) (F.failed_reads files.new) (F.failed_writes files.new)) result }
 {
@@ -143,7 +143,7 @@ fn build_listed<F: Files>(
     requires list { IsListed checked.now list.now }
     requires ready { CanBeBuilt checked.now }
     ensures { (found : Found) → KeepsCopies checked.now list.now found
-        → Concludes Judges built_line (judged_first (certifiable ∷ []) (writes_both names.now.text.now names.now.certificate.now)) found
+        → Concludes Judges IsBuilt (judged_first (certifiable ∷ []) (writes_both names.now.text.now names.now.certificate.now)) found
         (world (F.held files.old) (F.failed_reads files.old) (F.failed_writes files.old))
         (world (F.held files.new) (F.failed_reads files.new) (F.failed_writes files.new)) result }
 {
@@ -164,7 +164,7 @@ fn build_checked<F: Files>(
     requires cores { HoldsCores checked.now }
     requires ready { CanBeBuilt checked.now }
     ensures { (found : Found) → functions_found found ≡ functions_in checked.now
-        → Concludes Judges built_line (judged_first (instanced ∷ certifiable ∷ []) (writes_both names.now.text.now names.now.certificate.now)) found
+        → Concludes Judges IsBuilt (judged_first (instanced ∷ certifiable ∷ []) (writes_both names.now.text.now names.now.certificate.now)) found
         (world (F.held files.old) (F.failed_reads files.old) (F.failed_writes files.old))
         (world (F.held files.new) (F.failed_reads files.new) (F.failed_writes files.new)) result }
 {
@@ -183,7 +183,7 @@ fn build_source<F: Files>(
     files: &mut F,
 ) -> Result<Report, Memory>
     ensures { (found : Found) → found.source ≡ source.now
-        → Concludes Judges built_line (build_steps names.now.file.now names.now.text.now names.now.certificate.now) found
+        → Concludes Judges IsBuilt (build_steps names.now.file.now names.now.text.now names.now.certificate.now) found
         (world (F.held files.old) (F.failed_reads files.old) (F.failed_writes files.old))
         (world (F.held files.new) (F.failed_reads files.new) (F.failed_writes files.new)) result }
 {
@@ -200,7 +200,7 @@ pub(crate) fn build_file<F: Files>(
     names: &Named<'_>,
     files: &mut F,
 ) -> Result<Report, Memory>
-    ensures { Concludes Judges built_line (reads_source names.now.file.now ∷ build_steps names.now.file.now names.now.text.now names.now.certificate.now) nothing
+    ensures { Concludes Judges IsBuilt (reads_source names.now.file.now ∷ build_steps names.now.file.now names.now.text.now names.now.certificate.now) nothing
         (world (F.held files.old) (F.failed_reads files.old) (F.failed_writes files.old))
         (world (F.held files.new) (F.failed_reads files.new) (F.failed_writes files.new)) result }
 {

@@ -7,9 +7,10 @@ ghost use Rattle.cg_driver_steps.specs.declared.status.Status.{Status as StatusO
 ghost use Rattle.cg_driver_steps.specs.World.{world, Unwritten};
 ghost use Rattle.cg_driver_steps.specs.Steps.{Runs, goes, Reads, Writes, WritesNone, IsCalm, unread_line, unwritten_line};
 ghost use Rattle.cg_driver_steps.specs.Scripts.{Answers, Leaves, Comes, ComesTo, IsVerdict, Decides};
-ghost use Rattle.cg_driver_words.specs.Words.{texts, command_of};
-ghost use Rattle.cg_driver.specs.Commands.{Judges, asked};
-ghost use Rattle.cg_driver.specs.Found.{Found};
+ghost use Rattle.cg_driver_words.specs.Words.{build, texts, command_of};
+ghost use Rattle.cg_driver.specs.Commands.{Judges, asked, build_steps, reads_source};
+ghost use Rattle.cg_driver.specs.Found.{Found, functions, nothing};
+ghost use Rattle.cg_driver.specs.Instanced.{IsMeant, IsProved};
 
 use crate::Status;
 use crate::plan::plan;
@@ -73,6 +74,15 @@ pub fn cogent<F: Files, O: Sink>(
         (world (F.held files.old) (F.failed_reads files.old) (F.failed_writes files.old)) (goes found)
         (world (F.held files.new) (F.failed_reads files.new) (F.failed_writes files.new))
         × (asked words.now).line found text × (O.taken out.new ≡ append_known (O.taken out.old) text) }
+
+    // At status 0 of `build` the C text means what the instances do, and the certificate is one of the source, whatever counts rose: both
+    // are those of what its steps found, which wrote them.
+    ensures compiles { result ≡ Status.Done → (file text certificate : List ℕ)
+        → command_of (texts words.now) ≡ Some (build file text certificate) → (found : Found)
+        × Runs Judges (reads_source file ∷ build_steps file text certificate) nothing
+        (world (F.held files.old) (F.failed_reads files.old) (F.failed_writes files.old)) (goes found)
+        (world (F.held files.new) (F.failed_reads files.new) (F.failed_writes files.new))
+        × IsMeant found.copies × IsProved (functions found) }
 
     // Where no count of the command's calls rose, the status is the one that its steps come to, unless memory runs out.
     ensures done { (held : Held) (status : StatusOf) → F.held files.old ≡ Some held

@@ -135,7 +135,7 @@ fn needs_cells(
     reaches_cells(alloc, &copies, place)
 }
 
-/// The place of the instance of an entry that can be run so far.
+/// The place of the instance of an entry that can be run.
 pub(crate) fn place_of(
     alloc: Global,
     file: &str,

@@ -69,7 +69,7 @@ pub fn only_build_writes()
 {}
 
 /// At status 0 of `build` the source is accepted, its instances are within the limits, the two files hold their C text and the source's
-/// certificate, and all others stand as they did. What is printed then says of both that they mean the source (`built_line`).
+/// certificate, and all others stand as they did. What is printed then says of both that they mean the source (`IsBuilt`).
 pub fn build_writes_both()
     ensures { BuildWrites }
 {}

@@ -77,7 +77,7 @@ pub(crate) fn broken(alloc: Global, file: &str, place: Place, rule: Rule) -> Res
     })
 }
 
-/// The refusal of what isn't built yet.
+/// The refusal of what has no run.
 pub(crate) fn not_built(alloc: Global, file: &str) -> Result<Report, Memory>
     ensures { IfOk result (λ r. IsLine Status.Refused (lines.not_built_line file.now) r) }
 {

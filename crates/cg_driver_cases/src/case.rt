@@ -124,7 +124,7 @@ impl Case {
         }
     }
 
-    // A line of a file before: of the first one, where none is named yet.
+    // A line of a file before: of the first one, where none is named.
     fn push_before(&mut self, alloc: Global, bytes: &[u8]) -> Result<(), TextFault> {
         if let Some(name) = self.first.take() {
             self.files.push((name, Vec::new(alloc)))?;

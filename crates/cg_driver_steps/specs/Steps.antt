@@ -1,4 +1,4 @@
--- Commands as lists of steps: the first step that refuses decides (docs/LANGUAGE.md, "Commands"). A state is what the steps so far have
+-- Commands as lists of steps: the first step that refuses decides (docs/LANGUAGE.md, "Commands"). A state is what the steps before have
 -- found, and a judgement is what a language says of a state; which outcome each judgement has is handed in.
 use Rattle.std.specs.Prelude.{◌≡◌, ℕ, ◌≤◌, List, [], ◌∷◌, ◌++◌, codes, ◌⊎◌, ⊤}
 use Rattle.cg_outside.specs.Held.{IsReadOf}

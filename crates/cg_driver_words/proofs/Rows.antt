@@ -81,7 +81,7 @@ pub value_in : (id : Text) (v : Option Text) (rows : List Row) → Slot rows id 
 value_in id None rows e = ap (option_and_then (λ r. slice_get r.values 0)) e
 value_in id (Some v) rows e = ap (option_and_then (λ r. slice_get r.values 0)) e
 
--- ---- names that are given, and names that aren't yet
+-- ---- names that are given, and names that aren't
 
 -- this id is none of those
 abbrev pub differs : Text → List Text → Bool

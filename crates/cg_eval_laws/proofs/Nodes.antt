@@ -155,7 +155,7 @@ module _ (functions : List Function) (among : ℕ → Bool) (world : World) wher
     abbrev P : Named Note → Parts
     P fs = subst_parts given (parts_made fs)
 
-    -- the values so far, with any that fit the fields that are left, are a record
+    -- the values up to here, with any that fit the fields that are left, are a record
     abbrev So : Parts → List Val → Named Note → Type 0
     So whole vs fs = (us : List Val) → IsTrue (fits_fields world (P fs) (to_vals us)) → IsTrue (fits_fields world whole (to_vals (vs ++ us)))
 

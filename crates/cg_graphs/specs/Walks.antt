@@ -1,5 +1,5 @@
 -- A walk down through a graph: how far each node is, how many of its mentions were followed, the way down, and the
--- order so far.
+-- order up to here.
 use Rattle.std.specs.Prelude.{◌≡◌, ℕ, ◌-◌, ◌<◌, List, [], ◌∷◌, ◌++◌, length, get_or, slice_get, set, take, replicate, sum_by, Some, Result, Ok, Err, ⊤}
 use Rattle.std.specs.Global.{Vec}
 use Rattle.std.specs.List.{All, Contains}

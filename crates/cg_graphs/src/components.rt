@@ -3,8 +3,8 @@
 use cg_base::Memory;
 use std::alloc::Global;
 
-// A search: the way down, which mention of each node is next, the nodes that were met and have no number yet, when each
-// node was met, the earliest of these that each is known to reach, and the numbers so far. Times and numbers go from 1.
+// A search: the way down, which mention of each node is next, the nodes that were met and have no number, when each
+// node was met, the earliest of these that each is known to reach, and the numbers given. Times and numbers go from 1.
 #[derive(Drop)]
 struct Search {
     way: Vec<usize>,

@@ -2,7 +2,7 @@
 use cg_base::Memory;
 use std::alloc::Global;
 
-// A search: the way down, which mention of each node is next, which nodes were met, and the ranks so far.
+// A search: the way down, which mention of each node is next, which nodes were met, and the ranks found.
 #[derive(Drop)]
 struct Search {
     way: Vec<usize>,

@@ -21,7 +21,7 @@ pub enum Mark {
 }
 
 /// A walk: how far each node is, how many of its mentions were followed, the way down to the node that is followed now,
-/// and the order so far.
+/// and the order up to here.
 #[derive(Drop)]
 pub struct Walk {
     marks: Vec<Mark>,

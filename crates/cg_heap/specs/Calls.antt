@@ -4,7 +4,7 @@ use Rattle.cg_base.specs.Types.{Tau}
 use Rattle.cg_base.specs.declared.kind.Sigil.TheVariants.{R, W}
 use Rattle.cg_heap.specs.declared.cell.Scalar.{Scalar}
 use Rattle.cg_heap.specs.Reps.{Heap, HeapWorld, Holds, foot}
-use Rattle.cg_heap.specs.Steps.{Step}
+use Rattle.cg_heap.specs.Steps.{Step, side}
 use Rattle.cg_heap.specs.Stored.{Stored, cell_at}
 use Rattle.cg_value.specs.Values.{Val}
 
@@ -30,5 +30,4 @@ heap_of s = λ q. cell_at s q
 -- What comes out of a call with an argument of a type is of another type, represents a value, and is a step.
 pub record Does (world : HeapWorld) (s : Stored) (t : Tau) (us : List Scalar) (o : Out) (t' : Tau) (v : Val) : Type 0 where
   pub holds : Holds world (heap_of o.store) t' o.result v
-  pub step : Step (heap_of s) s.top (foot (heap_of s) W t us) (foot (heap_of s) R t us) (heap_of o.store) o.store.top o.made o.freed
-      (foot (heap_of o.store) W t' o.result) (foot (heap_of o.store) R t' o.result)
+  pub step : Step (side (heap_of s) s.top (foot (heap_of s) W t us) (foot (heap_of s) R t us)) o.made o.freed (side (heap_of o.store) o.store.top (foot (heap_of o.store) W t' o.result) (foot (heap_of o.store) R t' o.result))

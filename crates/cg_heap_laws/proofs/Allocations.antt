@@ -13,7 +13,7 @@ use Rattle.cg_heap.specs.declared.cell.Fresh.{Fresh}
 use Rattle.cg_heap.specs.declared.cell.Scalar.{Scalar}
 use Rattle.cg_heap.specs.declared.cell.Scalar.TheVariants.{Unset, Word as AWord, Address}
 use Rattle.cg_heap.specs.Reps.{Heap, HeapWorld, Holds, slots, one_if, foot}
-use Rattle.cg_heap.specs.Steps.{Step}
+use Rattle.cg_heap.specs.Steps.{Step, side}
 use Rattle.cg_heap.specs.Stored.{Stored, answer_of, cell_at, changed, fresh_cell, in_cell, in_place, without_answer}
 use Rattle.cg_heap_laws.proofs.Slots.{holds_slots}
 use Rattle.cg_lib_heap.specs.Library.{granted, next_at}
@@ -88,8 +88,7 @@ module _ (world : HeapWorld) (s : Stored) (t : Tau) (us : List Scalar) (f : Fine
       some_does : (h' : Heap) → IsWritten (λ q. map.get m q) (s.top + 1) (Some (fresh_cell c)) h' → h' p ≡ Some (Answers bs) → Holds world h' e (Address (s.top + 1) ∷ []) x
           → ((q : ℕ) → (foot h' W e (Address (s.top + 1) ∷ []) q ≡ one_if (nat_eq (s.top + 1) q)) × (foot h' R e (Address (s.top + 1) ∷ []) q ≡ 0))
           → Holds world h' (pair state (maybe e)) (Address p ∷ AWord 1 ∷ Unset ∷ Address (s.top + 1) ∷ []) (forms.pair (answers bs) (chosen (codes "Some") x))
-          × Step (heap_of s) s.top (foot (heap_of s) W t us) (foot (heap_of s) R t us) h' (s.top + 1) ((s.top + 1) ∷ []) []
-          (foot h' W (pair state (maybe e)) (Address p ∷ AWord 1 ∷ Unset ∷ Address (s.top + 1) ∷ [])) (foot h' R (pair state (maybe e)) (Address p ∷ AWord 1 ∷ Unset ∷ Address (s.top + 1) ∷ []))
+          × Step (side (heap_of s) s.top (foot (heap_of s) W t us) (foot (heap_of s) R t us)) ((s.top + 1) ∷ []) [] (side h' (s.top + 1) (foot h' W (pair state (maybe e)) (Address p ∷ AWord 1 ∷ Unset ∷ Address (s.top + 1) ∷ [])) (foot h' R (pair state (maybe e)) (Address p ∷ AWord 1 ∷ Unset ∷ Address (s.top + 1) ∷ [])))
       some_does h' is' k r feet = (
         is_pair world h' state (maybe e) (Address p) (AWord 1 ∷ Unset ∷ Address (s.top + 1) ∷ []) (answers bs) (chosen (codes "Some") x) (is_state world h' p bs k) (is_some world h' e (s.top + 1) x r),
         step_make (heap_of s) (λ q. map.get m q) h' s.top p (Some (Answers bs)) (Some (fresh_cell c)) (foot (heap_of s) W t us) (foot (heap_of s) R t us) f own is is'

@@ -2,7 +2,7 @@
 use Rattle.std.proofs.Common.{◌≡◌, ℕ, ◌+◌, ◌<◌, ◌≤◌, Bool, true, false, nat_eq, Option, None, [], ◌∷◌, ⊎_elim, refl, sym, ◌∙◌, subst, arith}
 use Rattle.cg_heap.specs.declared.cell.Cell.{Cell}
 use Rattle.cg_heap.specs.Reps.{Heap, one_if}
-use Rattle.cg_heap.specs.Steps.{IsFine, Step, count}
+use Rattle.cg_heap.specs.Steps.{IsFine, Step, count, side}
 use Rattle.cg_heap_laws.specs.LibraryLaws.{StepsAreFrames, StepsKeepFine}
 use Rattle.cg_heap_laws.proofs.Stores.{IsWritten, is_or_not, written_here, written_other}
 use Rattle.cg_heap_laws.proofs.Frames.{by_count}
@@ -14,7 +14,7 @@ not_one true n e = absurd (omega arith)
 not_one false n e = refl
 
 -- nothing is done
-pub step_kept : (h : Heap) (top : ℕ) (w r w' r' : ℕ → ℕ) → IsFine h top w r → ((q : ℕ) → w' q ≡ w q) → ((q : ℕ) → r' q ≡ 0) → Step h top w r h top [] [] w' r'
+pub step_kept : (h : Heap) (top : ℕ) (w r w' r' : ℕ → ℕ) → IsFine (side h top w r) → ((q : ℕ) → w' q ≡ w q) → ((q : ℕ) → r' q ≡ 0) → Step (side h top w r) [] [] (side h top w' r')
 step_kept h top w r w' r' f e z = record {
   rise = omega arith;
   above = f.above;
@@ -26,7 +26,7 @@ step_kept h top w r w' r' f e z = record {
   once = λ q. omega arith;
 }
 
-module _ (h h' : Heap) (top p : ℕ) (o : Option Cell) (w r x : ℕ → ℕ) (f : IsFine h top w r) (own : (q : ℕ) → w q ≡ one_if (nat_eq p q) + x q) (is : IsWritten h p o h') where
+module _ (h h' : Heap) (top p : ℕ) (o : Option Cell) (w r x : ℕ → ℕ) (f : IsFine (side h top w r)) (own : (q : ℕ) → w q ≡ one_if (nat_eq p q) + x q) (is : IsWritten h p o h') where
   -- the owned address isn't above top
   low_own : (q : ℕ) → top < q → nat_eq p q ≡ false
   low_own q k = not_one (nat_eq p q) (x q + r q) (let z = f.low q k in let e = own q in omega arith)
@@ -40,7 +40,7 @@ module _ (h h' : Heap) (top p : ℕ) (o : Option Cell) (w r x : ℕ → ℕ) (f 
       other false w r x k e a = refl
 
   -- an owned cell is written
-  pub step_write : (w' r' : ℕ → ℕ) → ((q : ℕ) → w' q ≡ w q) → ((q : ℕ) → r' q ≡ 0) → Step h top w r h' top [] [] w' r'
+  pub step_write : (w' r' : ℕ → ℕ) → ((q : ℕ) → w' q ≡ w q) → ((q : ℕ) → r' q ≡ 0) → Step (side h top w r) [] [] (side h' top w' r')
   step_write w' r' e z = record {
     rise = omega arith;
     above = λ q k. written_other h h' p o is q (low_own q k) ∙ f.above q k;
@@ -53,8 +53,8 @@ module _ (h h' : Heap) (top p : ℕ) (o : Option Cell) (w r x : ℕ → ℕ) (f 
   }
 
 -- an owned cell is freed
-pub step_free : (h h' : Heap) (top p : ℕ) (w r x : ℕ → ℕ) → IsFine h top w r → ((q : ℕ) → w q ≡ one_if (nat_eq p q) + x q) → IsWritten h p None h'
-    → (w' r' : ℕ → ℕ) → ((q : ℕ) → w' q ≡ x q) → ((q : ℕ) → r' q ≡ 0) → Step h top w r h' top [] (p ∷ []) w' r'
+pub step_free : (h h' : Heap) (top p : ℕ) (w r x : ℕ → ℕ) → IsFine (side h top w r) → ((q : ℕ) → w q ≡ one_if (nat_eq p q) + x q) → IsWritten h p None h'
+    → (w' r' : ℕ → ℕ) → ((q : ℕ) → w' q ≡ x q) → ((q : ℕ) → r' q ≡ 0) → Step (side h top w r) [] (p ∷ []) (side h' top w' r')
 step_free h h' top p w r x f own is w' r' e z = record {
   rise = omega arith;
   above = λ q k. written_other h h' p None is q (low_own h h' top p None w r x f own is q k) ∙ f.above q k;
@@ -67,7 +67,7 @@ step_free h h' top p w r x f own is w' r' e z = record {
 }
 
 -- an owned cell is written, and then a cell is made above all others
-module _ (h h1 h' : Heap) (top p : ℕ) (o c : Option Cell) (w r : ℕ → ℕ) (f : IsFine h top w r) (own : (q : ℕ) → w q ≡ one_if (nat_eq p q) + 0)
+module _ (h h1 h' : Heap) (top p : ℕ) (o c : Option Cell) (w r : ℕ → ℕ) (f : IsFine (side h top w r)) (own : (q : ℕ) → w q ≡ one_if (nat_eq p q) + 0)
     (is : IsWritten h p o h1) (is' : IsWritten h1 (top + 1) c h') where
   make_other : (q : ℕ) → nat_eq p q ≡ false → nat_eq (top + 1) q ≡ false → h' q ≡ h q
   make_other q n n' = written_other h1 h' (top + 1) c is' q n' ∙ written_other h h1 p o is q n
@@ -77,7 +77,7 @@ module _ (h h1 h' : Heap) (top p : ℕ) (o c : Option Cell) (w r : ℕ → ℕ) 
   make_near = written_other h1 h' (top + 1) c is' p (⊎_elim (λ e. absurd (let z = low_own h h1 top p o w r (λ q. 0) f own is p (omega arith) in let y = eq_self p in cc)) (λ e. e) (is_or_not (top + 1) p))
 
   pub step_make : (w' r' : ℕ → ℕ) → ((q : ℕ) → w' q ≡ one_if (nat_eq p q) + one_if (nat_eq (top + 1) q)) → ((q : ℕ) → r' q ≡ 0)
-      → Step h top w r h' (top + 1) ((top + 1) ∷ []) [] w' r'
+      → Step (side h top w r) ((top + 1) ∷ []) [] (side h' (top + 1) w' r')
   step_make w' r' e z = record {
     rise = omega arith;
     above = λ q k. make_other q (low_own h h1 top p o w r (λ q. 0) f own is q (omega arith)) (⊎_elim (λ e. absurd (omega arith)) (λ e. e) (is_or_not (top + 1) q)) ∙ f.above q (omega arith);
@@ -91,7 +91,7 @@ module _ (h h1 h' : Heap) (top p : ℕ) (o c : Option Cell) (w r : ℕ → ℕ) 
 
 -- a step is a frame of what it writes
 pub step_frame : StepsAreFrames
-step_frame h top w r h' top' made freed w' r' f s = record {
+step_frame before after made freed f s = record {
   inert = λ q z n. by_count (count q made)
       (λ e. s.inert q z e)
       (λ k. let b = s.balance q in s.lost q (omega arith) ∙ sym (f.above q (s.fresh q k).0));
@@ -108,8 +108,8 @@ low_after q t w r w1 r1 m n a b c d e = grind arith
 
 -- after a step all is fine again
 pub step_fine : StepsKeepFine
-step_fine h top w r h' top' made freed w' r' f s = record {
-  apart = λ q k. apart_after (w q) (r q) (w' q) (r' q) (count q made) (count q freed) k (f.apart q) (s.balance q) (λ n. f.low q (s.fresh q n).0) (s.once q) (s.reads_less q);
-  low = λ q k. low_after q top' (w q) (r q) (w' q) (r' q) (count q made) (count q freed) (f.low q (let x = s.rise in omega arith)) (s.balance q) (λ n. (s.fresh q n).1) k (s.reads_less q);
+step_fine before after made freed f s = record {
+  apart = λ q k. apart_after (before.writes q) (before.reads q) (after.writes q) (after.reads q) (count q made) (count q freed) k (f.apart q) (s.balance q) (λ n. f.low q (s.fresh q n).0) (s.once q) (s.reads_less q);
+  low = λ q k. low_after q after.top (before.writes q) (before.reads q) (after.writes q) (after.reads q) (count q made) (count q freed) (f.low q (let x = s.rise in omega arith)) (s.balance q) (λ n. (s.fresh q n).1) k (s.reads_less q);
   above = s.above;
 }

@@ -14,7 +14,7 @@ use Rattle.cg_heap.specs.declared.cell.Cell.TheVariants.{Words, Answers}
 use Rattle.cg_heap.specs.declared.cell.Scalar.{Scalar}
 use Rattle.cg_heap.specs.declared.cell.Scalar.TheVariants.{Word as AWord, Address}
 use Rattle.cg_heap.specs.Reps.{Heap, HeapWorld, slots, one_if, foot}
-use Rattle.cg_heap.specs.Steps.{IsFine}
+use Rattle.cg_heap.specs.Steps.{IsFine, side}
 use Rattle.cg_heap.specs.Stored.{Stored, cell_at, changed, in_cell, in_place, with_element, without_cell}
 use Rattle.cg_lib_heap.specs.Library.{kept, freed_at}
 use Rattle.cg_heap_laws.proofs.Arrays.{set_behind, set_is_array}
@@ -31,7 +31,7 @@ abbrev pub Writes : Stored → Tau → List Scalar → ℕ → ℕ
 Writes s t us q = foot (heap_of s) W t us q
 
 abbrev pub Fine : Stored → Tau → List Scalar → Type 0
-Fine s t us = IsFine (heap_of s) s.top (foot (heap_of s) W t us) (foot (heap_of s) R t us)
+Fine s t us = IsFine (side (heap_of s) s.top (foot (heap_of s) W t us) (foot (heap_of s) R t us))
 
 -- a word reaches nothing
 pub word_foot : (h : Heap) (w : Word) (us : List Scalar) (q : ℕ) → (foot h W (word w) us q ≡ 0) × (foot h R (word w) us q ≡ 0)

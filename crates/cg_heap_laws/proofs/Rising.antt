@@ -10,7 +10,8 @@ use Rattle.cg_heap.specs.declared.cell.Fresh.{Fresh}
 use Rattle.cg_heap.specs.Reps.{first_address, number_of}
 use Rattle.cg_heap.specs.Stored.{Stored, with_element}
 use Rattle.cg_lib_heap.specs.Library.{granted, second, third}
-use Rattle.cg_heap_laws.specs.LibraryLaws.{AddressesRise, GoodArgumentsSuffice, is_argument, is_written, takes_function}
+use Rattle.cg_heap_laws.specs.LibraryLaws.{AddressesRise, GoodArgumentsSuffice, is_argument, is_written}
+use Rattle.cg_eval_operations.specs.Iterators.{is_iterator}
 use Rattle.cg_typing.specs.Functions.{are_good_arguments, asked_by_library, later_asked, meets_asked, next_asked}
 use Rattle.cg_typing.specs.Instances.{as_arguments}
 use Rattle.cg_typing.specs.Parts.{is_cell, has_word_arrays}
@@ -22,7 +23,7 @@ cell_is_written (fields ps W) k = refl
 cell_is_written _ k = absurd (cc)
 
 -- what is asked of the first type argument is what the laws ask
-asked_is_argument : (vars : List Kinds) (lib : Lib) (t : Tau) → takes_function lib ≡ false → IsTrue (meets_asked vars (next_asked (asked_by_library lib)) t) → IsTrue (is_argument lib t)
+asked_is_argument : (vars : List Kinds) (lib : Lib) (t : Tau) → is_iterator lib ≡ false → IsTrue (meets_asked vars (next_asked (asked_by_library lib)) t) → IsTrue (is_argument lib t)
 asked_is_argument vars New t e k = cell_is_written t k
 asked_is_argument vars Free t e k = cell_is_written t k
 asked_is_argument vars Create t e k = k

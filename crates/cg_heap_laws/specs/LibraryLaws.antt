@@ -10,7 +10,7 @@ use Rattle.cg_heap.specs.Calls.{Does, heap_of}
 use Rattle.cg_heap.specs.declared.cell.Scalar.{Scalar}
 use Rattle.cg_heap.specs.Frames.{Frame}
 use Rattle.cg_heap.specs.Reps.{Heap, HeapWorld, Holds, foot}
-use Rattle.cg_heap.specs.Steps.{IsFine, Step}
+use Rattle.cg_heap.specs.Steps.{IsFine, Side, Step, side}
 use Rattle.cg_heap.specs.Stored.{Stored}
 use Rattle.cg_lib_heap.specs.Library.{HasArray, library_heap}
 use Rattle.cg_lib_value.specs.Library.{library_value}
@@ -22,6 +22,7 @@ use Rattle.cg_typing.specs.Library.{given, library_type}
 use Rattle.cg_typing.specs.Parts.{taken_by, given_by}
 use Rattle.cg_value.specs.Forms.{answers_in, field}
 use Rattle.cg_value.specs.Values.{Val}
+use Rattle.cg_eval_operations.specs.Iterators.{is_iterator}
 
 -- a record that can be written
 abbrev pub is_written : Tau → Bool
@@ -44,7 +45,7 @@ abbrev pub LibraryDoes : Type 0
 LibraryDoes =
     (world : HeapWorld) (s : Stored) (lib : Lib) (args : List Tau) (us : List Scalar) (v : Val) → IsTrue (is_argument lib (given args 0))
     → Holds world (heap_of s) (taken_by (library_type lib args)) us v
-    → IsFine (heap_of s) s.top (foot (heap_of s) W (taken_by (library_type lib args)) us) (foot (heap_of s) R (taken_by (library_type lib args)) us)
+    → IsFine (side (heap_of s) s.top (foot (heap_of s) W (taken_by (library_type lib args)) us) (foot (heap_of s) R (taken_by (library_type lib args)) us))
     → Does world s (taken_by (library_type lib args)) us (library_heap lib args us s) (given_by (library_type lib args)) (library_value lib args v)
 
 -- the array that a function reads is there, so that who calls lib_heap with what represents a value meets its condition on arrays
@@ -78,32 +79,19 @@ AnswersSuffice =
 -- a step is a frame of what it writes
 abbrev pub StepsAreFrames : Type 0
 StepsAreFrames =
-    (h : Heap) (top : ℕ) (writes reads : ℕ → ℕ) (h' : Heap) (top' : ℕ) (made freed : List ℕ) (writes' reads' : ℕ → ℕ)
-    → IsFine h top writes reads → Step h top writes reads h' top' made freed writes' reads' → Frame h writes h' writes'
+    (before after : Side) (made freed : List ℕ) → IsFine before → Step before made freed after → Frame before.heap before.writes after.heap after.writes
 
 -- after a step all is fine again
 abbrev pub StepsKeepFine : Type 0
 StepsKeepFine =
-    (h : Heap) (top : ℕ) (writes reads : ℕ → ℕ) (h' : Heap) (top' : ℕ) (made freed : List ℕ) (writes' reads' : ℕ → ℕ)
-    → IsFine h top writes reads → Step h top writes reads h' top' made freed writes' reads' → IsFine h' top' writes' reads'
+    (before after : Side) (made freed : List ℕ) → IsFine before → Step before made freed after → IsFine after
 
 -- the highest address rises by one for each cell that is made
 abbrev pub AddressesRise : Type 0
 AddressesRise = (s : Stored) (lib : Lib) (args : List Tau) (us : List Scalar) → (library_heap lib args us s).store.top ≡ s.top + length (library_heap lib args us s).made
 
--- it takes a function
-abbrev pub takes_function : Lib → Bool
-takes_function New = false
-takes_function Free = false
-takes_function Create = false
-takes_function FreeArray = false
-takes_function Length = false
-takes_function Get = false
-takes_function Put = false
-takes_function _ = true
-
 -- type arguments that typing lets through are what these laws ask
 abbrev pub GoodArgumentsSuffice : Type 0
 GoodArgumentsSuffice =
-    (functions : List Function) (vars : List Kinds) (lib : Lib) (types : List Tau) → takes_function lib ≡ false → IsTrue (takes_as_many functions (OfLib lib) (length types))
+    (functions : List Function) (vars : List Kinds) (lib : Lib) (types : List Tau) → is_iterator lib ≡ false → IsTrue (takes_as_many functions (OfLib lib) (length types))
     → IsTrue (are_good_arguments vars (asked_by functions (OfLib lib)) (as_arguments types)) → IsTrue (is_argument lib (given types 0))

@@ -1,5 +1,4 @@
--- Which bytes are a heap file (docs/LANGUAGE.md, "Heap files"). So far it holds one argument, which is a number. Cells and values
--- of other forms join here.
+-- Which bytes are a heap file (docs/LANGUAGE.md, "Heap files"): one that holds one argument, which is a number, and no cells.
 use Rattle.std.specs.Prelude.{◌≡◌, ℕ, ◌<◌, ◌≤◌, ◌^◌, List, ◌++◌, codes, Result, Ok, Err}
 use Rattle.cg_base.specs.Bytes.{white, digit, Each, Starts}
 use Rattle.cg_base.specs.Numbers.{number_from}

@@ -25,7 +25,7 @@ use cg_typing::Checked;
 use std::alloc::Global;
 use std::marker::Model;
 
-/// The instances that are found so far, each once, over a table of their types.
+/// The instances that were found, each once, over a table of their types.
 #[derive(Drop)]
 pub(crate) struct Found {
     table: TypeTable,

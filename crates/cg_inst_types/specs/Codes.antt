@@ -7,7 +7,7 @@ use Rattle.cg_base.specs.declared.kind.Sigil.{Sigil}
 use Rattle.cg_base.specs.Types.{Tau, var, seen, unit, word, bool, arrow, abs, variant, fields, Taus, none, more, Parts, end, part}
 use Rattle.cg_inst_types.specs.Forms.{with_argument, with_part}
 
--- what is done with the types read so far, the last one first
+-- what is done with the types read, the last one first
 pub data Token : Type 0 where
   a_var : ℕ → Token
   a_seen : ℕ → Token

@@ -154,7 +154,7 @@ pub divides_more : (ts : List Lexeme) (at mid after : Cursor) (t : Lexeme) → D
 divides_more [] at mid after t d k = (after, subst (λ (x : Cursor). Takes x t after) (sym d) k, refl)
 divides_more (u ∷ ts) at mid after t d k = (d.0, d.1, divides_more ts d.0 mid after t d.2 k)
 
--- each whole division goes on from the tokens that were taken so far
+-- each whole division goes on from the tokens that were taken
 pub goes_on : (front : List Lexeme) (from at last : Cursor) (ts : List Lexeme) → Divides from front at → Divides from ts last → IsSpace last.rest → (more : List Lexeme) × (ts ≡ front ++ more) × Divides at more last
 goes_on [] from at last ts d e s = (ts, refl, subst (λ (x : Cursor). Divides x ts last) d e)
 goes_on (t ∷ front) from at last [] d e s = absurd (none_in_space from d.0 t (subst (λ (x : Cursor). IsSpace x.rest) (sym e) s) d.1)

@@ -27,7 +27,7 @@ use Rattle.cg_typing.specs.Parts.{given_by, taken_by}
 
 -- ---- functions
 
--- nothing is lowered yet, in the scope of the argument alone
+-- nothing is lowered, in the scope of the argument alone
 pub record Begins (old new : Lowering) : Type 0 where
   pub kept : kept_of new ≡ kept_of old
   pub locals : new.locals ≡ []

@@ -55,7 +55,7 @@ fn declared_locals(alloc: Global, mut types: Items<CTy>) -> Result<Items<CDecl>,
     Ok(decls)
 }
 
-// Nothing is lowered yet, in the scope of the argument alone.
+// Nothing is lowered, in the scope of the argument alone.
 fn begin(alloc: Global, state: &mut Lowering) -> Result<(), Memory>
     ensures { OnOk result (Begins state.old state.new) }
 {

@@ -17,7 +17,7 @@ fn arguments(alloc: Global) -> Result<Items<Ty>, Memory> {
     Ok(args)
 }
 
-/// A body that holds nothing yet.
+/// A body that holds nothing.
 fn start(alloc: Global) -> Lowering {
     Lowering {
         places: Places::new(alloc),

@@ -11,7 +11,7 @@ use cg_lower_tables::{Places, Structs};
 use std::alloc::Global;
 use std::test::Fail;
 
-/// A body that holds nothing yet.
+/// A body that holds nothing.
 fn start(alloc: Global) -> Lowering {
     Lowering {
         places: Places::new(alloc),

@@ -10,7 +10,7 @@ use Rattle.cg_lower_tables.specs.Plain.{plain}
 abbrev pub with_struct : List Tau → Tau → List Tau
 with_struct table t = if is_in table (form t) then table else table ++ t ∷ []
 
--- the structs of a type and of all types in it, each behind those that are its members, where there are none yet
+-- the structs of a type and of all types in it, each behind those that are its members, where there are none
 unfoldable mutual
   pub added : Tau → List Tau → List Tau
   added (variant ps) table = with_struct (added_parts ps table) (plain (variant ps))

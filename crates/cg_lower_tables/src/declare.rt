@@ -19,7 +19,7 @@ use cg_ctree::{CDecl, CStruct, CTy};
 use std::alloc::Global;
 
 impl Structs {
-    /// Adds the structs of a type and of all types in it, each behind those that are its members, where there are none yet
+    /// Adds the structs of a type and of all types in it, each behind those that are its members, where there are none
     /// (docs/LANGUAGE.md, "The C of instances"). Those that are there keep their numbers. The one error is want of memory, also where a
     /// struct would have more than 2^32 members or there would be more than 2^32 structs; those that were added before it stay.
     pub fn add(&mut self, alloc: Global, ty: &Ty) -> Result<(), Memory>

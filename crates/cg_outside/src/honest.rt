@@ -67,7 +67,7 @@ pub struct HonestSink {
 impl HonestSink {
     ghost use Rattle.cg_outside.specs.Memory.{honest_taken};
 
-    /// An output that has taken nothing yet. It takes no memory.
+    /// An output that has taken nothing. It takes no memory.
     pub fn new(alloc: Global) -> HonestSink
         ensures { honest_taken result ≡ [] }
     {
@@ -76,7 +76,7 @@ impl HonestSink {
         }
     }
 
-    /// The bytes taken so far.
+    /// The bytes taken.
     pub fn bytes(&self) -> &[u8]
         ensures { result.now ≡ honest_taken self.now }
     {

@@ -129,7 +129,7 @@ pub struct MemorySink {
 impl MemorySink {
     ghost use Rattle.cg_outside.specs.Memory.{memory_taken, sink_calls_of, sink_failing_of};
 
-    /// An output that has taken nothing yet. The calls whose number, from 1, is in `failing` fail. It takes no memory.
+    /// An output that has taken nothing. The calls whose number, from 1, is in `failing` fail. It takes no memory.
     pub fn new(alloc: Global, failing: Vec<u64>) -> MemorySink
         ensures taken { memory_taken result ≡ [] }
         ensures calls { sink_calls_of result ≡ 0 }
@@ -143,7 +143,7 @@ impl MemorySink {
         }
     }
 
-    /// The bytes taken so far.
+    /// The bytes taken.
     pub fn bytes(&self) -> &[u8]
         ensures { result.now ≡ memory_taken self.now }
     {

@@ -75,7 +75,7 @@ pub trait Files {
 
 /// What takes the printed bytes. docs/LANGUAGE.md, "The outside".
 pub trait Sink {
-    /// The bytes taken so far, where they are told.
+    /// The bytes taken, where they are told.
     ghost taken: { Self → Option (List ℕ) };
 
     /// How many calls have failed: a failed one adds one, and no other call changes it. It stays at 2^64 - 1.

@@ -37,7 +37,7 @@ held_behind ts = run bounded_exprs bounded_exprs.begin ts
 abbrev pub ReadsExactly : Type 0
 ReadsExactly = (ts : List Seen) (e : Expr) → (expr_reader.finish (behind ts) ≡ Some e) ↔ Spells ts e
 
--- the machine is open exactly where some tokens complete those so far
+-- the machine is open exactly where some tokens complete those read
 abbrev pub OpenExactly : Type 0
 OpenExactly = (ts : List Seen) → (expr_reader.is_open (behind ts) ≡ true) ↔ Begins Spells ts
 

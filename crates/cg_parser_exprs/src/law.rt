@@ -6,7 +6,7 @@ pub fn reads_exactly()
     ensures { ReadsExactly }
 {}
 
-/// The reader is open exactly where some expression begins with the tokens so far: docs/LANGUAGE.md, "Expressions".
+/// The reader is open exactly where some expression begins with the tokens read: docs/LANGUAGE.md, "Expressions".
 pub fn open_exactly()
     ensures { OpenExactly }
 {}

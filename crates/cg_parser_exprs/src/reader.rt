@@ -124,7 +124,7 @@ impl ExprReader {
         Ok(())
     }
 
-    /// Whether some expression begins with the symbols so far: docs/LANGUAGE.md, "Expressions".
+    /// Whether some expression begins with the symbols read: docs/LANGUAGE.md, "Expressions".
     pub fn is_open(&self) -> bool
         ensures { result ≡ bounded_exprs.is_open (reader_state self.now) }
     {
@@ -141,7 +141,7 @@ impl ExprReader {
         }
     }
 
-    /// The expression that the symbols so far spell, if they spell one: docs/LANGUAGE.md, "Expressions". It is `TooDeep` where
+    /// The expression that the symbols read spell, if they spell one: docs/LANGUAGE.md, "Expressions". It is `TooDeep` where
     /// its depth passes that of docs/LANGUAGE.md, "Limits". Want of memory is its one refusal. The reader is to begin anew then.
     pub fn finish(&mut self, alloc: Global) -> Result<ExprEnd, Memory>
         ensures { IfOk result (λ e. end_of e ≡ bounded_exprs.finish (reader_state self.old)) }

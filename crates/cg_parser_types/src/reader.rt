@@ -97,14 +97,14 @@ impl TypeReader {
         Ok(())
     }
 
-    /// Whether some type begins with the symbols so far: docs/LANGUAGE.md, "Types".
+    /// Whether some type begins with the symbols read: docs/LANGUAGE.md, "Types".
     pub fn is_open(&self) -> bool
         ensures { result ≡ bounded_reader.is_open (reader_state self.now) }
     {
         mode_is_open(&self.mode)
     }
 
-    /// Whether the symbols so far spell a type: docs/LANGUAGE.md, "Types".
+    /// Whether the symbols read spell a type: docs/LANGUAGE.md, "Types".
     #[tactic(auto, using(crate::proofs::Whole::whole_closes), unfolding(crate::specs::States::reader_state))]
     pub fn is_whole(&self) -> bool
         ensures { result ≡ is_some (bounded_reader.finish (reader_state self.now)) }
@@ -115,7 +115,7 @@ impl TypeReader {
         }
     }
 
-    /// The type that the symbols so far spell, if they spell one: docs/LANGUAGE.md, "Types". It is `TooDeep` where its depth
+    /// The type that the symbols read spell, if they spell one: docs/LANGUAGE.md, "Types". It is `TooDeep` where its depth
     /// passes that of docs/LANGUAGE.md, "Limits". Want of memory is its one refusal. The reader is to begin anew then.
     pub fn finish(&mut self, alloc: Global) -> Result<TypeEnd, Memory>
         ensures { IfOk result (λ e. end_of e ≡ bounded_reader.finish (reader_state self.old)) }

@@ -8,7 +8,7 @@ use Rattle.cg_resolve_def.specs.Declared.{type_named, function_from, function_na
 use Rattle.cg_resolve_declared.specs.Tables.{otherwise}
 use Rattle.cg_resolve_declared.specs.Views.{entries_in, signatures_in}
 
--- the items so far, one more
+-- the items up to here, one more
 pub entries_more : (items : List Item) (i : ℕ) (d : Item) → i < length items → entries_in (take (i + 1) items) ≡ entries_in (take i items) ++ entry_of (get_or items i d) ∷ []
 entries_more items i d within = ap entries_in (take_more items i d within) ∙ map-append entry_of (take i items) (get_or items i d ∷ [])
 

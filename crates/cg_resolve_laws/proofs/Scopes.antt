@@ -53,7 +53,7 @@ remainder_length m [] = refl
 remainder_length m (v ∷ []) = refl
 remainder_length m (v ∷ r ∷ outer) = refl
 
--- a scope in which the last remainder has no name yet
+-- a scope in which the last remainder has no name
 pub record HasRemainder (scope : Scope) : Type 0 where
   pub inner : Option (List ℕ)
   pub outer : Scope

@@ -36,7 +36,7 @@ says_second xs ys result none h = subst (λ l. TakesSay (l ++ ys) result) (sym n
 
 -- ---- lists
 
--- a turn of a loop over a list, of which the items so far have no place
+-- a turn of a loop over a list, of which the items up to here have no place
 module _ {X : Type 0} (f : X → List Place) (xs : List X) (i : ℕ) (x : X) (within : i < length xs) (is : x ≡ get_or xs i x) where
   split : flat_map f (drop i xs) ≡ f x ++ flat_map f (drop (i + 1) xs)
   split = at_drop_more (flat_map f) xs i x within ∙ ap (λ y. f y ++ flat_map f (drop (i + 1) xs)) (sym is)

@@ -25,7 +25,7 @@ use Rattle.cg_resolve_terms.proofs.TermSteps.{err_says}
 use Rattle.cg_surface.proofs.Views.{alternative_is as alt_is}
 use denote.Ref.{Bor}
 
--- So far the alternatives of a match have become those that are left, at another site and of another subject.
+-- Up to here the alternatives of a match have become those that are left, at another site and of another subject.
 pub record Matching (names : Names) (a : Site) (all : List OneAlt) (first : Term) (b : Site) (left : List OneAlt) (subject : Term) : Type 0 where
   pub above : b.above ≡ a.above
   pub same : inside a (choices_in names all first (scope_in a)) ≡ inside b (choices_in names left subject (scope_in b))

@@ -24,7 +24,7 @@ behind_is later (patterns.paren p x) i scope rest = behind_is later x i scope re
     inner None = refl
     inner (Some n) = refl
 
--- fields and components that go on, with what is later so far
+-- fields and components that go on, with what is later up to here
 abbrev more_fields : Place → List OneField → Term → Scope → Later → (Term → Scope → Later → Term) → Term
 more_fields p [] e scope later go = go e scope later
 more_fields p (f ∷ fs) e scope later go =

@@ -23,7 +23,7 @@ pub err_binds : (a c : Site) (made : Rest → Term) (fault : TermFault) (result 
 err_binds a c made fault (Ok done) is refuses = absurd is
 err_binds a c made fault (Err e) is refuses = subst (λ f. Refuses f (IsTooDeep a made)) (sym is) refuses
 
--- a site where nothing is done yet
+-- a site where nothing is done
 pub moved_none : (a : Site) (made : Rest → Term) → Fits a → Moved a made a made
 moved_none a made fits = record { above = refl; same = λ rest. refl; fits = fits }
 

@@ -16,7 +16,7 @@ abbrev pub Says : ℕ → Term → Result (code.Term Place) TermFault → Type 0
 Says above t (Ok made) = (the_term made ≡ t) × (above + depth_of t ≤ term_limit)
 Says above t (Err fault) = Refuses fault (term_limit < above + depth_of t)
 
--- a term that stands so far down from here, or any where it is left out
+-- a term that stands that far down from here, or any where it is left out
 abbrev pub StandingSays : Option ℕ → ℕ → Term → Result (code.Term Place) TermFault → Type 0
 StandingSays (Some k) level t result = Says (level + k) t result
 StandingSays None level t (Ok made) = ⊤
@@ -29,7 +29,7 @@ pub record Looked (stands : Option ℕ) (old : Site) (made : (Term → Scope →
   pub room : HasRoom stands (level new) (depth_of subject)
   pub fits : Fits new
 
--- a term that is looked into, so far down from where that goes on
+-- a term that is looked into, that far down from where that goes on
 abbrev pub LooksInto : Option ℕ → Site → ((Term → Scope → Term) → Term) → Result (code.Term Place) TermFault → Site → Type 0
 LooksInto stands old made (Ok subject) new = Looked stands old made (the_term subject) new
 LooksInto stands old made (Err fault) new = Refuses fault ((go : Term → Scope → Term) → Uses stands go → term_limit < old.above + depth_of (inside old (made go)))

@@ -35,7 +35,7 @@ under_choices [] = Some 0
 under_choices (a ∷ []) = under_last a.con (under a.pattern)
 under_choices (a ∷ b ∷ choices) = Some 1
 
--- A term of this depth that stands so far down keeps the limit, if any term does there.
+-- A term of this depth that stands that far down keeps the limit, if any term does there.
 abbrev pub HasRoom : Option ℕ → ℕ → ℕ → Type 0
 HasRoom None level depth = ⊤
 HasRoom (Some k) level depth = level + k + 1 ≤ term_limit → level + k + depth ≤ term_limit
@@ -44,7 +44,7 @@ HasRoom (Some k) level depth = level + k + 1 ≤ term_limit → level + k + dept
 abbrev pub parts_under : ℕ → Option ℕ
 parts_under parts = if (parts == 0) then None else Some 1
 
--- Two nodes, one below the other, keep the limit so far down.
+-- Two nodes, one below the other, keep the limit that far down.
 abbrev pub HasTwo : Option ℕ → ℕ → Type 0
 HasTwo None level = ⊤
 HasTwo (Some k) level = level + k + 2 ≤ term_limit
@@ -53,7 +53,7 @@ abbrev pub LacksTwo : Option ℕ → ℕ → Type 0
 LacksTwo None level = ⊥
 LacksTwo (Some k) level = term_limit < level + k + 2
 
--- What is made of a term, in which that stands so far down, or is left out.
+-- What is made of a term, in which that stands that far down, or is left out.
 abbrev pub Uses : Option ℕ → (Term → Scope → Term) → Type 0
 Uses None go = (e e' : Term) (scope : Scope) → go e scope ≡ go e' scope
 Uses (Some k) go = (e : Term) (scope : Scope) → k + depth_of e ≤ depth_of (go e scope)

@@ -131,7 +131,7 @@ fn bind_payload<'a>(
     bound_to(alloc, site, place, pattern, payload)
 }
 
-// Whether two nodes, one below the other, keep the limit so far down.
+// Whether two nodes, one below the other, keep the limit that far down.
 fn has_two(level: usize, stands: Option<usize>) -> bool
     requires level { level ≤ term_limit }
     requires stands { MatchOption stands ⊤ (λ nodes. nodes ≤ 2) }

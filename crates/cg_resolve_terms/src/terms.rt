@@ -43,7 +43,7 @@ fn first_place(expr: &SExpr) -> Place
     }
 }
 
-// A site where nothing is done yet.
+// A site where nothing is done.
 fn new_site<'a>(alloc: Global, scope: &[Option<&'a [u8]>], above: usize) -> Result<Site<'a>, Memory>
     requires above { above ≤ term_limit }
     requires scope { length scope.now ≤ 2 * above + 1 }
@@ -544,7 +544,7 @@ fn finish<'a>(
     Ok(site.close(alloc, rest)?)
 }
 
-// The term of an expression that stands so far down from a site. Any term, where it is left out.
+// The term of an expression that stands that far down from a site. Any term, where it is left out.
 #[cycle(term)]
 fn value_at<'a>(
     alloc: Global,
@@ -673,7 +673,7 @@ fn bind_all<'a>(
     Ok(())
 }
 
-// The term that stands for what is looked into, so far down from a site: a variable, where variables are observed in it.
+// The term that stands for what is looked into, that far down from a site: a variable, where variables are observed in it.
 #[cycle(term)]
 fn look_into<'a>(
     alloc: Global,

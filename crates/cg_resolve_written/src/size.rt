@@ -33,7 +33,7 @@ pub(crate) fn size(alloc: Global, synonyms: &Synonyms<'_>, ty: &STy) -> Result<u
     Ok(nodes)
 }
 
-// The same, where it isn't looked at yet whether the type itself is too large.
+// The same, where it isn't looked at whether the type itself is too large.
 #[cycle(size)]
 fn size_of_parts(alloc: Global, synonyms: &Synonyms<'_>, ty: &STy) -> Result<u32, Oversize>
     ensures ok { IfOk result (λ n. (n ≡ capped (size (known_of synonyms.now) (written_of ty.now)))

@@ -4,7 +4,7 @@ use Rattle.cg_heap.specs.Calls.{Out}
 use Rattle.cg_heap.specs.declared.cell.Scalar.{Scalar}
 use Rattle.cg_heap.specs.Stored.{Stored}
 
--- a heap, and the addresses of the cells that were made and freed so far, in order
+-- a heap, and the addresses of the cells that were made and freed, in order
 pub record State : Type 0 where
   pub store : Stored
   pub made : List ℕ

@@ -158,7 +158,7 @@ module _ (p : Program) (among : ℕ → Bool) (world : HeapWorld) (h : Heap) (s 
 
     -- ---- records
 
-    -- the values so far, with any that are left, are a record
+    -- the values up to here, with any that are left, are a record
     abbrev So : Parts → List Scalar → List Val → Named Note → Type 0
     So whole row vs fs = (rs : List Scalar) (ws : List Val) → HoldsAll world h (parts_made fs) rs (to_vals ws) → HoldsAll world h whole (row ++ rs) (to_vals (vs ++ ws))
 

@@ -2,7 +2,7 @@ use Rattle.cg_driver_steps.proofs.Topping.{answers_just, decided, leaves, leaves
 use Rattle.cg_driver_words.specs.Words.{texts, command_of}
 use Rattle.cg_driver.specs.Commands.{Judges, asked}
 use Rattle.cg_driver.proofs.Judging.{single, ruling, once}
-use Rattle.cg_driver.proofs.Wording.{usage_only, usage_for}
+use Rattle.cg_driver.proofs.Wording.{compiled, usage_only, usage_for}
 use Rattle.cg_driver.proofs.call.cogent.Goals as goal
 
 pub returns-clause-decides : goal.returns-clause-decides
@@ -29,6 +29,11 @@ returns-clause-memory g c e = silent Judges ruling (asked c.args.words.now) _ _ 
 
 pub returns-clause-finished : goal.returns-clause-finished
 returns-clause-finished g c e = finished Judges ruling (asked c.args.words.now) _ _ _ _ _ _ _ c.answer.ensures e
+
+pub returns-clause-compiles : goal.returns-clause-compiles
+returns-clause-compiles g c e file text certificate is =
+    compiled (command_of (texts c.args.words.now)) file text certificate is _ _ _ _
+    (finished Judges ruling (asked c.args.words.now) _ _ _ _ _ _ _ c.answer.ensures e)
 
 pub returns-clause-done : goal.returns-clause-done
 returns-clause-done g c held status told calm quiet k = completes Judges ruling (asked c.args.words.now) _ _ _ _ _ _ _ c.answer.ensures single held told calm quiet status k
