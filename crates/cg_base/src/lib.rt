@@ -2,7 +2,7 @@
 //! Role: public.
 //! Promises: `is_white`, `is_digit`, `literal`, `Place`, `Name`, `Items`, `Ty`, `copy_types`; the theorem on readers, `specs/Exact.antt`.
 //! May cite: anything of its stage and of those below; no crate above.
-//! docs/LANGUAGE.md, "Types", says what the types stand for.
+//! docs/LANGUAGE.md, "Types of the kernel", says what the types stand for.
 #![tactic(auto)]
 
 mod bytes;

@@ -21,14 +21,13 @@ use Rattle.cg_certcheck_def.specs.Pass.{Out, bind, wanted, row, reach, Cursor, s
 use Rattle.cg_certcheck_def.specs.Reads.{tree_at, tree_of}
 use Rattle.cg_certcheck_def.specs.Tests.{is_present, drops_all, drops_but}
 use Rattle.cg_certcheck_laws.proofs.PassOperators.{operand_value, unary_is, binary_is}
-use Rattle.cg_certcheck_laws.proofs.PassSteps.{run, next, last_part, met, in_direction, past, past_step, past_two, step_is, Agree, agree_left, agree_second, look_is, split_is}
+use Rattle.cg_certcheck_laws.proofs.PassSteps.{join_tests, run, next, last_part, met, in_direction, past, past_step, past_two, step_is, Agree, agree_left, agree_second, look_is, split_is}
 use Rattle.cg_typing.specs.Contexts.{Context, look, first, second, shares}
 use Rattle.cg_typing.specs.Functions.{asked_by, are_good_arguments}
 use Rattle.cg_typing.specs.Operators.{sort_of}
 use Rattle.cg_typing.specs.Parts.{is_left, is_last, field_in, alternative_in, held, has_word_arrays}
 use Rattle.cg_typing.specs.Rules.{is_literal, note_at}
 use Rattle.cg_typing.specs.Trees.{leaf, one}
-use Rattle.cg_typing_parts.proofs.RecordSteps.{and_assoc as join_tests}
 use Rattle.cg_base.proofs.Truths.{and_right as right_holds}
 
 module _ (functions : List Function) (vars : List Kinds) where

@@ -1,6 +1,6 @@
 -- The second checker's pass beside the events of a certificate: answers in turn, places among the nodes, and contexts that agree with the
 -- plain one.
-use Rattle.std.proofs.Common.{◌≡◌, ℕ, zero, suc, ◌+◌, Bool, true, false, cond, Option, Some, None, Ok, List, [], ◌∷◌, ◌++◌, drop, refl, sym, ap, ◌∙◌, arith, subst}
+use Rattle.std.proofs.Common.{◌≡◌, ℕ, zero, suc, ◌+◌, Bool, true, false, cond, Option, Some, None, Ok, List, [], ◌∷◌, ◌++◌, drop, refl, sym, ap, ◌∙◌, arith, subst, ◌&&◌}
 use Rattle.std.proofs.lemmas.List.{drop-drop}
 use Rattle.cg_base.specs.declared.kind.Kinds.{Kinds}
 use Rattle.cg_base.specs.declared.place.Place.{Place}
@@ -25,6 +25,10 @@ use Rattle.cg_typing.specs.Contexts.{Context, look, push, first, second}
 use Rattle.cg_typing.specs.Trees.{first_marks}
 use Rattle.cg_check_laws.proofs.Clean.{observed_none as banged_nowhere}
 use Rattle.cg_base.proofs.Truths.{both_true as left_holds, and_right as right_holds, not_true}
+
+pub join_tests : (a b c : Bool) → ((a && b) && c) ≡ (a && (b && c))
+join_tests true b c = refl
+join_tests false b c = refl
 
 -- the events of a list in turn, and then what is left
 abbrev pub run : {A : Type 0} → List Event → Out A → Out A

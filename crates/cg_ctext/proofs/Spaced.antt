@@ -90,6 +90,15 @@ either_rest x h (b ∷ rest) = h b rest
 pub opening_ends : (rest : List ℕ) → goes_on (codes "(") rest ≡ false
 opening_ends = either_rest (codes "(") (λ b rest. refl)
 
+pub closing_ends : (rest : List ℕ) → goes_on (codes ")") rest ≡ false
+closing_ends = either_rest (codes ")") (λ b rest. refl)
+
+pub comma_ends : (rest : List ℕ) → goes_on (codes ",") rest ≡ false
+comma_ends = either_rest (codes ",") (λ b rest. refl)
+
+pub semicolon_ends : (rest : List ℕ) → goes_on (codes ";") rest ≡ false
+semicolon_ends = either_rest (codes ";") (λ b rest. refl)
+
 pub begin_ends : (rest : List ℕ) → goes_on (codes "{") rest ≡ false
 begin_ends = either_rest (codes "{") (λ b rest. refl)
 

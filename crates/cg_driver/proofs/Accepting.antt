@@ -51,7 +51,7 @@ own_writes (Some (run file entry heap steps)) = tt
 whole : (most : ℕ) (bytes read : List ℕ) → read ≡ take (most + 1) bytes → length read ≤ most → read ≡ bytes
 whole most bytes read is short = is ∙ take_all (most + 1) bytes (omega (arith, length-take (most + 1) bytes, ap length is))
 
-short_whole : (most : ℕ) (bytes : List ℕ) → length bytes ≤ most → take (most + 1) bytes ≡ bytes
+pub short_whole : (most : ℕ) (bytes : List ℕ) → length bytes ≤ most → take (most + 1) bytes ≡ bytes
 short_whole most bytes short = take_all (most + 1) bytes (omega (arith, short))
 
 -- judgements as steps settle

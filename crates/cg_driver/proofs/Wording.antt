@@ -7,7 +7,7 @@ use Rattle.cg_driver_steps.specs.declared.report.Report.{Report}
 use Rattle.cg_driver_steps.specs.declared.status.Status.{Status}
 use Rattle.cg_driver_steps.specs.declared.status.Status.TheVariants.{Usage, ReadFault, WriteFault, Memory}
 use Rattle.cg_driver_steps.specs.World.{World}
-use Rattle.cg_driver_steps.specs.Steps.{Runs, refuses, goes, Each}
+use Rattle.cg_driver_steps.specs.Steps.{Runs, refuses, goes, Each, ReadsFirst}
 use Rattle.cg_driver_steps.specs.Scripts.{IsSaid, Says, Answers, printed, unprinted, no_memory, IsVerdict}
 use Rattle.cg_driver_steps.specs.Parts.{IsLine, Concludes}
 use Rattle.cg_driver_steps.proofs.Deciding.{Refuses, by_read, by_write, by_judgement, refused_by}
@@ -78,6 +78,14 @@ usage_for c old new taken taken' before now s a none v =
 pub no_rise : (P Q : List ℕ → Type 0) → ((name : List ℕ) × P name × (0 < 0) × Q name) ⊎ Rose 0 0 → ⊥
 no_rise P Q (inl h) = let r = h.2 in absurd (omega (arith, r))
 no_rise P Q (inr h) = absurd (omega (arith, h))
+
+-- no command reads behind a write
+pub reads_first : (c : Option Command) → ReadsFirst (script_of c).steps
+reads_first None = tt
+reads_first (Some (check file)) = tt
+reads_first (Some (build file text certificate)) = tt
+reads_first (Some (recheck file certificate)) = tt
+reads_first (Some (run file entry heap steps)) = tt
 
 -- ---- from the words to the command
 

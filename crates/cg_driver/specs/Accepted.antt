@@ -18,6 +18,7 @@ use Rattle.cg_typing.specs.Kept.{maybe_tree}
 use Rattle.cg_outside.specs.Held.{Held, bytes_at}
 use Rattle.cg_driver_steps.specs.Steps.{Runs, Writes, WritesNone, goes}
 use Rattle.cg_driver_steps.specs.World.{World}
+use Rattle.cg_lower.specs.Collected.{Copy}
 use Rattle.cg_driver_words.specs.Words.{Command, build}
 use Rattle.cg_driver.specs.Commands.{Judges, script_of}
 use Rattle.cg_driver.specs.Found.{Found, certificate_limit, functions, source_limit}
@@ -55,6 +56,14 @@ pub record IsCertifiedSource (source text : List ℕ) : Type 0 where
 -- the text of the certificate of what is kept of a source
 abbrev pub certificate_text : Checked → List ℕ
 certificate_text checked = text_of (certificate (kernel_of (kernel_in checked)) (map maybe_tree (trees_in checked)))
+
+-- a source is accepted within the limits, its instances are within theirs, and the text of its certificate within its own
+pub record IsBuildable (source : List ℕ) : Type 0 where
+  pub kernel : List Function
+  pub copies : List Copy
+  pub accepted : IsAcceptedSource source kernel
+  pub instances : HasInstances kernel copies
+  pub brief : length (certified_text kernel) ≤ certificate_limit
 
 -- ---- what `build` writes
 

@@ -60,9 +60,12 @@ pub fn cogent<F: Files, O: Sink>(
         (world (F.held files.old) (F.failed_reads files.old) (F.failed_writes files.old))
         (world (F.held files.new) (F.failed_reads files.new) (F.failed_writes files.new)) }
 
-    // A fault has its cause and its line, and at want of memory nothing is printed.
+    // A fault has its cause and its line, where a read failed no file was written to, and at want of memory nothing is printed.
     ensures read_fault { result ≡ Status.ReadFault → (name : List ℕ) × Reads (asked words.now).steps name
         × (F.failed_reads files.old name < F.failed_reads files.new name) × (O.taken out.new ≡ append_known (O.taken out.old) (unread_line name)) }
+    ensures untouched { result ≡ Status.ReadFault → Unwritten
+        (world (F.held files.old) (F.failed_reads files.old) (F.failed_writes files.old))
+        (world (F.held files.new) (F.failed_reads files.new) (F.failed_writes files.new)) }
     ensures write_fault { result ≡ Status.WriteFault → ((name : List ℕ) × Writes (asked words.now).steps name
         × (F.failed_writes files.old name < F.failed_writes files.new name) × (O.taken out.new ≡ append_known (O.taken out.old) (unwritten_line name)))
         ⊎ Rose (O.faults out.old) (O.faults out.new) }

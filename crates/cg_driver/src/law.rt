@@ -8,8 +8,8 @@ ghost use Rattle.cg_outside.specs.Memory.{honest_held, honest_taken};
 ghost use Rattle.cg_driver_steps.specs.World.{world};
 ghost use Rattle.cg_driver_steps.specs.Steps.{Outcome, WritesNone};
 ghost use Rattle.cg_driver_steps.specs.Scripts.{Answers, ComesTo, Decides};
-ghost use Rattle.cg_driver_words.specs.Words.{Command, check, recheck};
-ghost use Rattle.cg_driver.specs.Accepted.{BuildWrites, IsAcceptedSource, IsCertifiedSource, PrintedIsCertified, WritesItsOwn};
+ghost use Rattle.cg_driver_words.specs.Words.{Command, build, check, recheck};
+ghost use Rattle.cg_driver.specs.Accepted.{BuildWrites, IsAcceptedSource, IsBuildable, IsCertifiedSource, PrintedIsCertified, WritesItsOwn};
 ghost use Rattle.cg_driver.specs.Commands.{Judgement, certified, typed, Judges, script_of, asked};
 ghost use Rattle.cg_driver.specs.Found.{Found, functions as functions_found};
 
@@ -69,7 +69,7 @@ pub fn only_build_writes()
 {}
 
 /// At status 0 of `build` the source is accepted, its instances are within the limits, the two files hold their C text and the source's
-/// certificate, and all others stand as they did. What is printed then says of both that they mean the source (`IsBuilt`).
+/// certificate, and all others stand as they did. What is printed then says of both that they mean the source (`Commands.antt: IsBuilt`).
 pub fn build_writes_both()
     ensures { BuildWrites }
 {}
@@ -86,6 +86,19 @@ pub fn status_0_is_acceptance()
 pub fn status_0_is_a_derivation()
     ensures { (held : Held) (file certificate : List ℕ) → ComesTo Judges (script_of (Some (recheck file certificate))) held Status.Done
         ↔ IsCertifiedSource (bytes_at held file) (bytes_at held certificate) }
+{}
+
+/// The steps of `build` come to status 0 over exactly the files whose source is accepted, and whose instances and certificate are within their
+/// limits.
+pub fn status_0_of_build()
+    ensures { (held : Held) (file text certificate : List ℕ) → ComesTo Judges (script_of (Some (build file text certificate))) held Status.Done
+        ↔ IsBuildable (bytes_at held file) }
+{}
+
+/// A source whose certificate is in order is accepted: where the steps of `recheck` come to status 0, those of `check` do over the same files.
+pub fn rechecked_is_accepted()
+    ensures { (held : Held) (file certificate : List ℕ) → ComesTo Judges (script_of (Some (recheck file certificate))) held Status.Done
+        → ComesTo Judges (script_of (Some (check file))) held Status.Done }
 {}
 
 /// What `cg_cert`'s `print_cert` prints of a source that `check` keeps is such a certificate of it, where it is within the limit.

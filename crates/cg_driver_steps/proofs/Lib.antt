@@ -3,3 +3,4 @@ pub mod Following
 pub mod Deciding
 pub mod Topping
 pub mod Samples
+pub mod Untouched

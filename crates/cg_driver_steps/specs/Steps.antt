@@ -84,6 +84,19 @@ WritesNone (reads name limit keep ∷ steps) = WritesNone steps
 WritesNone (judges j ∷ steps) = WritesNone steps
 WritesNone (writes name text ∷ steps) = ⊥
 
+-- no step of these reads; and none does behind one that writes
+abbrev pub ReadsNone : {J S : Type 0} → List (Step J S) → Type 0
+ReadsNone [] = ⊤
+ReadsNone (reads name limit keep ∷ steps) = ⊥
+ReadsNone (judges j ∷ steps) = ReadsNone steps
+ReadsNone (writes name text ∷ steps) = ReadsNone steps
+
+abbrev pub ReadsFirst : {J S : Type 0} → List (Step J S) → Type 0
+ReadsFirst [] = ⊤
+ReadsFirst (reads name limit keep ∷ steps) = ReadsFirst steps
+ReadsFirst (judges j ∷ steps) = ReadsFirst steps
+ReadsFirst (writes name text ∷ steps) = ReadsNone steps
+
 -- no count rose of the reads and writes that these steps name
 abbrev pub IsCalm : {J S : Type 0} → List (Step J S) → World → World → Type 0
 IsCalm [] old new = ⊤

@@ -1,5 +1,5 @@
 // How types are built.
-#![tactic(auto, using(crate::proofs::Added::place_at))]
+#![tactic(auto, using(cg_surface::proofs::Views::place_at))]
 
 ghost use Rattle.std.specs.Prelude.{◌≡◌, IfOk};
 ghost use Rattle.cg_parser_types.specs.Bounded.{bounded};

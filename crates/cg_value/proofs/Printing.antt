@@ -1,5 +1,5 @@
 -- Printing, item by item.
-use Rattle.std.proofs.Common.{◌≡◌, ◌<◌, ◌≤◌, ◌+◌, ℕ, zero, suc, Bool, true, false, ◌&&◌, not, if◌then◌else◌, List, [], ◌∷◌, ◌++◌, length, drop, get_or, map, codes, refl, sym, ap, ◌∙◌, arith}
+use Rattle.std.proofs.Common.{◌≡◌, ◌<◌, ◌≤◌, ◌+◌, ℕ, zero, suc, Bool, true, false, ◌&&◌, not, if◌then◌else◌, List, [], ◌∷◌, ◌++◌, length, drop, get_or, map, codes, append_assoc, refl, sym, ap, ◌∙◌, arith}
 use Rattle.std.proofs.lemmas.List.{at_drop_more, at_drop_all, append-nil}
 use Rattle.std.specs.Str.{bytes_eq}
 use Rattle.cg_base.proofs.Views.{piece_of}
@@ -9,7 +9,10 @@ use Rattle.cg_base.specs.Types.{part_of, to_parts, type_of}
 use Rattle.cg_value.specs.declared.value.Value.{Value}
 use Rattle.cg_value.specs.Printed.{are_components, component, field_text, fields_text, is_tuple, is_unit, listed, payload, payload_text, printed, shows_payload}
 use Rattle.cg_value.specs.Values.{Val, to_vals, value_of}
-use Rattle.cg_base.proofs.Sequences.{same_when, same_unless, one_more}
+use Rattle.cg_base.proofs.Sequences.{same_when, same_unless}
+
+one_more : (out lead item rest : List ℕ) → ((out ++ lead) ++ item) ++ rest ≡ out ++ ((lead ++ item) ++ rest)
+one_more out lead item rest = append_assoc (out ++ lead) item rest ∙ append_assoc out lead (item ++ rest) ∙ ap (λ l. out ++ l) (sym (append_assoc lead item rest))
 
 -- items of a list
 module _ {A : Type 0} (text : A → List ℕ) where

@@ -1,8 +1,9 @@
 use Rattle.cg_driver_steps.proofs.Topping.{answers_just, decided, leaves, leaves_unwritten, unread, unwrote, silent, finished, completes}
+use Rattle.cg_driver_steps.proofs.Untouched.{untouched}
 use Rattle.cg_driver_words.specs.Words.{texts, command_of}
 use Rattle.cg_driver.specs.Commands.{Judges, asked}
 use Rattle.cg_driver.proofs.Judging.{single, ruling, once}
-use Rattle.cg_driver.proofs.Wording.{compiled, usage_only, usage_for}
+use Rattle.cg_driver.proofs.Wording.{compiled, reads_first, usage_only, usage_for}
 use Rattle.cg_driver.proofs.call.cogent.Goals as goal
 
 pub returns-clause-decides : goal.returns-clause-decides
@@ -20,6 +21,9 @@ returns-clause-unwritten g c none = leaves_unwritten Judges (asked c.args.words.
 
 pub returns-clause-read_fault : goal.returns-clause-read_fault
 returns-clause-read_fault g c e = unread Judges ruling (asked c.args.words.now) _ _ _ _ _ _ _ c.answer.ensures e
+
+pub returns-clause-untouched : goal.returns-clause-untouched
+returns-clause-untouched g c e = untouched Judges ruling (asked c.args.words.now) (reads_first (command_of (texts c.args.words.now))) _ _ _ _ _ _ _ c.answer.ensures e
 
 pub returns-clause-write_fault : goal.returns-clause-write_fault
 returns-clause-write_fault g c e = unwrote Judges ruling (asked c.args.words.now) _ _ _ _ _ _ _ c.answer.ensures e
