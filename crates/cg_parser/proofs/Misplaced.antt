@@ -18,6 +18,7 @@ use Rattle.cg_parser.specs.Plain.{entries}
 use Rattle.cg_parser.proofs.Complete as complete
 use Rattle.cg_parser.proofs.Complete.{Parts}
 use Rattle.cg_parser.proofs.Sound as sound
+use Rattle.cg_base.proofs.Spans.{either_way as choose}
 
 module _ {TS PS XS : Type 0} (types : Reader TS Seen Written) (patterns : Reader PS Seen Pattern) (exprs : Reader XS Seen Expr)
     (OfType : List Seen → Written → Type 0) (OfPattern : List Seen → Pattern → Type 0) (OfExpr : List Seen → Expr → Type 0)
@@ -100,7 +101,7 @@ module _ {TS PS XS : Type 0} (types : Reader TS Seen Written) (patterns : Reader
   bound_none done h vs ps v q _ = refl
 
   kinds_none : (done : List Entry) (h : At) (vs : List Bound) (ps : List Place) (n : List ℕ) (q : Place) (y : Symbol) → is_misplaced (machine.want_kinds types patterns exprs entries done h vs ps n q y) ≡ false
-  kinds_none done h vs ps n q (upper letters) = sound.choose (λ m. is_misplaced m ≡ false) (are_letters letters) (AfterKinds done h vs ps (bound n (kinds_of letters)) q) Failed (λ e. refl) (λ e. refl)
+  kinds_none done h vs ps n q (upper letters) = choose (λ m. is_misplaced m ≡ false) (are_letters letters) (AfterKinds done h vs ps (bound n (kinds_of letters)) q) Failed (λ e. refl) (λ e. refl)
   kinds_none done h vs ps n q _ = refl
 
   dot_none : (done : List Entry) (h : At) (vs : List Bound) (ps : List Place) (y : Symbol) → is_misplaced (machine.want_dot types patterns exprs entries done h vs ps y) ≡ false
