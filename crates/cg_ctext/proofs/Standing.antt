@@ -19,7 +19,7 @@ use Rattle.cg_ctree.specs.Tokens.{part_of_name, name, word, plain, sign, IsToken
 use Rattle.cg_ctree.specs.Spells.{spelled, op_sign, IsCName, SomeAll, HasMembers, IsPrintableType, IsPrintableDecl, IsPrintablePath, IsPrintableOpnd, IsPrintableRight, most_open, IsPrintableStmt, IsPrintableBlock, ArePrintableCases, IsPrintableBody, IsPrintableFunction, IsPrintableStruct, IsPrintable}
 use Rattle.cg_ctree.specs.Trees.{Stmt, assign, branch, while, switch, call, return', Block, stop, also, Cases, end, case, Body, Function, Program}
 use Rattle.cg_ctext.specs.Printed.{deeper, line_at}
-use Rattle.cg_ctext.proofs.Spaced.{Spaced, text, Stands, Closed, decimal_is_number, opening_ends, closing_ends, comma_ends, semicolon_ends, begin_ends, end_ends, flip_ends, dot_ends, arrow_ends, star_ends, colon_ends, white_line, opening_ends as closing_ends, opening_ends as comma_ends, opening_ends as semicolon_ends}
+use Rattle.cg_ctext.proofs.Spaced.{Spaced, text, Stands, Closed, decimal_is_number, opening_ends, closing_ends, comma_ends, semicolon_ends, begin_ends, end_ends, flip_ends, dot_ends, arrow_ends, star_ends, colon_ends, white_line}
 use Rattle.cg_ctext.proofs.Shown.{put, apart, tight, mark, keyword, show_struct_name, show_declared, show_decl, show_more, show_some, show_dots, show_members, show_path, show_opnd, show_to, show_cast, show_call, show_size, show_right, show_test, show_stmt, show_block, show_cases, show_locals, show_struct, show_structs, show_body, show_function, show_functions, shown}
 use Rattle.cg_ctext.proofs.Texts.{text_right}
 
