@@ -9,7 +9,7 @@ use Rattle.std.proofs.lemmas.Slice.Eq.{bytes_eq-Decides}
 use Rattle.std.proofs.lemmas.Str.{encodes-chars, IsUtf8-past_char, IsUtf8-string_bytes}
 use Rattle.clap.specs.Words.{Text}
 use Rattle.clap.specs.Lexer.{long_of, short_of, name_and_value}
-use Rattle.cg_driver_words.specs.Words.{texts, is_option, past}
+use Rattle.cg_driver_words.specs.Words.{texts, is_option, past, asks, attached}
 
 -- ---- to clap
 

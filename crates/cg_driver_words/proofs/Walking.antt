@@ -4,7 +4,7 @@ use Rattle.std.specs.Str.{bytes_eq}
 use Rattle.clap.specs.Words.{Kinds, Row, Rule, Shape, Text}
 use Rattle.clap.specs.Faults.{check_fault, defaults_fault, flags_fault, settle_fault, turn_fault, walk_fault}
 use Rattle.clap.specs.Kinds.{or_else}
-use Rattle.clap.specs.Lexer.{usize_max}
+use Rattle.clap.specs.Lexer.{usize_max, long_of, short_of}
 use Rattle.clap.specs.Walk.{Held, Waiting, Walk, arg_by_id, finished, idle, is_pending, nothing_held, option, settled, used, walked}
 use Rattle.cg_driver_words.specs.Matches.{command_from, command_in}
 use Rattle.cg_driver_words.specs.Words.{Command, Sorted, called, all_names, sorted, with_name, with_value}
