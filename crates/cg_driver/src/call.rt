@@ -1,5 +1,5 @@
 // The whole program.
-ghost use Rattle.std.specs.Prelude.{◌≡◌, ◌⊎◌, ◌<◌, ℕ, List, Some, None};
+ghost use Rattle.std.specs.Prelude.{◌≡◌, ◌∷◌, ◌⊎◌, ◌<◌, ℕ, List, Some, None};
 ghost use Rattle.std.specs.Io.KnownBytes.{append_known};
 ghost use Rattle.cg_outside.specs.Held.{Held};
 ghost use Rattle.cg_outside.specs.Causes.{Rose};
