@@ -4,19 +4,21 @@ ghost use Rattle.std.specs.Prelude.{◌≡◌, ◌↔◌, IfOk, IsTrue};
 use crate::Memory;
 use std::alloc::Global;
 use std::marker::Model;
+use std::rc::RcSlice;
 
-/// A name, which contracts see as the list of its bytes.
+/// A name, which contracts see as the list of its bytes. Its copies share these.
 #[derive(Drop)]
 pub struct Name {
-    bytes: Vec<u8>,
+    bytes: RcSlice<u8>,
 }
 
 impl Model for Name {
     ghost use Rattle.std.specs.Prelude.{List, ℕ};
+    ghost use Rattle.std.specs.Rc.{rc_slice_items};
 
     ghost Value = { List ℕ };
 
-    ghost view = { λ n. n.bytes.items };
+    ghost view = { λ n. rc_slice_items n.bytes };
 }
 
 impl Name {
@@ -25,7 +27,7 @@ impl Name {
         ensures { IfOk result (λ name. name ≡ bytes.now) }
     {
         Ok(Name {
-            bytes: bytes.to_vec(alloc)?,
+            bytes: RcSlice::from_slice(alloc, bytes)?,
         })
     }
 
@@ -33,14 +35,16 @@ impl Name {
     pub fn bytes(&self) -> &[u8]
         ensures { result.now ≡ self.now }
     {
-        &self.bytes
+        self.bytes.as_slice()
     }
 
-    /// An equal name.
-    pub fn copy(&self, alloc: Global) -> Result<Name, Memory>
+    /// An equal name, over the same bytes. It takes an allocator as each `copy` does and asks for nothing of it.
+    pub fn copy(&self, _alloc: Global) -> Result<Name, Memory>
         ensures { IfOk result (λ name. name ≡ self.now) }
     {
-        Name::new(alloc, self.bytes())
+        Ok(Name {
+            bytes: self.bytes.clone()?,
+        })
     }
 
     /// Whether two names are equal.
