@@ -1,14 +1,15 @@
 // Cores with types in the place of their type variables.
 #![tactic(auto, using(crate::proofs::Specialised::specialised))]
 
-ghost use Rattle.std.specs.Prelude.{◌≡◌, map, IfOk};
+ghost use Rattle.std.specs.Prelude.{◌≡◌, ◌||◌, map, IfOk, IsTrue};
 ghost use Rattle.cg_base.specs.Types.{type_of};
+ghost use Rattle.cg_core.specs.Groups.{is_data, is_leaf};
 ghost use Rattle.cg_core.specs.Kernels.{the_core, the_core_field, the_core_form};
-ghost use Rattle.cg_core.specs.Terms.{arg_of, case_of, if_else, let_bang, note_of, put, take_field};
+ghost use Rattle.cg_core.specs.Terms.{annot, arg_of, case_of, con, esac, fun as fun_of, let_bang as binding, member as member_of, note_of, put as put_in, take_field, term as node};
 ghost use Rattle.cg_mono.specs.Fields.{subst_field};
-ghost use Rattle.cg_typing.specs.Subst.{subst_arg, subst_core, subst_note, subst_shape};
+ghost use Rattle.cg_typing.specs.Subst.{subst_arg, subst_core, subst_note};
 
-use cg_base::{Items, Memory, Name, Place, Ty};
+use cg_base::{Fun, Items, Memory, Name, Place, Ty};
 use cg_core::{At, FieldTerm, Form, Seen, Term, TyArg, Typed};
 use cg_kinds::subst;
 use std::alloc::Global;
@@ -23,29 +24,78 @@ pub fn specialise(
 ) -> Result<Term<Typed>, Memory>
     ensures { IfOk result (λ t. the_core t ≡ subst_core (map type_of types.now) (the_core core.now)) }
 {
-    let form = in_form(alloc, &core.form, types)?;
-    let note = in_note(alloc, &core.note, types)?;
-    Ok(Term { note, form })
+    let note = &core.note;
+    match &core.form {
+        Form::Op(op, operands) => {
+            let operands = in_terms(alloc, operands, types)?;
+            built(alloc, note, Form::Op(*op, operands), types)
+        }
+        Form::App(fun, arg) => {
+            let (fun, arg) = in_two(alloc, fun, arg, types)?;
+            built(alloc, note, Form::App(fun, arg), types)
+        }
+        Form::Let(place, value, body) => {
+            let (value, body) = in_two(alloc, value, body, types)?;
+            built(alloc, note, Form::Let(*place, value, body), types)
+        }
+        Form::LetBang(seen, place, value, body) => {
+            let (value, body) = in_two(alloc, value, body, types)?;
+            let_bang(alloc, note, seen, *place, value, body, types)
+        }
+        Form::If(test, yes, no) => {
+            let (test, yes, no) = in_three(alloc, test, yes, no, types)?;
+            built(alloc, note, Form::If(test, yes, no), types)
+        }
+        Form::Cast(operand) => {
+            let operand = in_boxed(alloc, operand, types)?;
+            built(alloc, note, Form::Cast(operand), types)
+        }
+        Form::Annot(part, ty) => {
+            let part = in_boxed(alloc, part, types)?;
+            annotated(alloc, note, part, ty, types)
+        }
+        _ => in_data(alloc, core, types),
+    }
 }
 
-// A node's note.
-fn in_note(alloc: Global, note: &Typed, types: &Items<Ty>) -> Result<Typed, Memory>
-    ensures { IfOk result (λ n. note_of n ≡ subst_note (map type_of types.now) (note_of note.now)) }
+// A core of variants or of records, or one without parts.
+#[cycle(specialise)]
+fn in_data(alloc: Global, core: &Term<Typed>, types: &Items<Ty>) -> Result<Term<Typed>, Memory>
+    requires { IsTrue (is_data (the_core_form core.now.form) || is_leaf (the_core_form core.now.form)) }
+    ensures { IfOk result (λ t. the_core t ≡ subst_core (map type_of types.now) (the_core core.now)) }
 {
-    Ok(Typed {
-        place: note.place,
-        ty: subst(alloc, &note.ty, types)?,
-    })
-}
-
-// A written type.
-fn in_written(alloc: Global, arg: &TyArg, types: &Items<Ty>) -> Result<TyArg, Memory>
-    ensures { IfOk result (λ a. arg_of a ≡ subst_arg (map type_of types.now) (arg_of arg.now)) }
-{
-    Ok(TyArg {
-        place: arg.place,
-        ty: subst(alloc, &arg.ty, types)?,
-    })
+    let note = &core.note;
+    match &core.form {
+        Form::Con(name, value) => {
+            let value = in_boxed(alloc, value, types)?;
+            alternative(alloc, note, name, value, types)
+        }
+        Form::Case(subject, at, place, first, rest) => {
+            let (subject, first, rest) = in_three(alloc, subject, first, rest, types)?;
+            case(alloc, note, (subject, first, rest), at, *place, types)
+        }
+        Form::Esac(at, subject) => {
+            let subject = in_boxed(alloc, subject, types)?;
+            payload(alloc, note, at, subject, types)
+        }
+        Form::Struct(fields) => {
+            let fields = in_fields(alloc, fields, types)?;
+            built(alloc, note, Form::Struct(fields), types)
+        }
+        Form::Member(whole, at) => {
+            let whole = in_boxed(alloc, whole, types)?;
+            member(alloc, note, whole, at, types)
+        }
+        Form::Take(whole, at, rest, value, body) => {
+            let (whole, body) = in_two(alloc, whole, body, types)?;
+            take(alloc, note, (whole, body), at, (*rest, *value), types)
+        }
+        Form::Put(whole, at, value) => {
+            let (whole, value) = in_two(alloc, whole, value, types)?;
+            put(alloc, note, whole, at, value, types)
+        }
+        _ => in_leaf(alloc, core, types),
+    }
 }
 
 #[cycle(specialise)]
@@ -58,137 +108,6 @@ fn in_boxed(
 {
     let term = specialise(alloc, core, types)?;
     Ok(Box::new(alloc, term)?)
-}
-
-#[cycle(specialise)]
-fn in_form(alloc: Global, form: &Form<Typed>, types: &Items<Ty>) -> Result<Form<Typed>, Memory>
-    ensures { IfOk result (λ f. the_core_form f ≡ subst_shape (map type_of types.now) (the_core_form form.now)) }
-{
-    match form {
-        Form::Var(var) => Ok(Form::Var(*var)),
-        Form::Unit => Ok(Form::Unit),
-        Form::Bool(value) => Ok(Form::Bool(*value)),
-        Form::Lit(value) => Ok(Form::Lit(*value)),
-        Form::Fun(fun, args) => Ok(Form::Fun(*fun, in_args(alloc, args, types)?)),
-        Form::Op(op, operands) => Ok(Form::Op(*op, in_terms(alloc, operands, types)?)),
-        Form::App(fun, arg) => {
-            let (fun, arg) = in_two(alloc, fun, arg, types)?;
-            Ok(Form::App(fun, arg))
-        }
-        Form::Let(place, value, body) => {
-            let (value, body) = in_two(alloc, value, body, types)?;
-            Ok(Form::Let(*place, value, body))
-        }
-        Form::LetBang(seen, place, value, body) => {
-            in_let_bang(alloc, seen, *place, value, body, types)
-        }
-        Form::If(test, yes, no) => in_if(alloc, test, yes, no, types),
-        Form::Con(name, value) => {
-            let (name, value) = in_named(alloc, name, value, types)?;
-            Ok(Form::Con(name, value))
-        }
-        Form::Case(subject, at, place, first, rest) => {
-            in_case(alloc, subject, at, *place, first, rest, types)
-        }
-        Form::Esac(at, subject) => {
-            let (at, subject) = in_at(alloc, at, subject, types)?;
-            Ok(Form::Esac(at, subject))
-        }
-        Form::Struct(fields) => Ok(Form::Struct(in_fields(alloc, fields, types)?)),
-        Form::Member(whole, at) => {
-            let (at, whole) = in_at(alloc, at, whole, types)?;
-            Ok(Form::Member(whole, at))
-        }
-        Form::Take(whole, at, rest, value, body) => {
-            in_take(alloc, whole, at, *rest, *value, body, types)
-        }
-        Form::Put(whole, at, value) => in_put(alloc, whole, at, value, types),
-        Form::Cast(operand) => Ok(Form::Cast(in_boxed(alloc, operand, types)?)),
-        Form::Annot(part, ty) => {
-            let (ty, part) = in_typed(alloc, ty, part, types)?;
-            Ok(Form::Annot(part, ty))
-        }
-    }
-}
-
-#[cycle(specialise)]
-fn in_let_bang(
-    alloc: Global,
-    seen: &Items<Seen>,
-    place: Place,
-    value: &Term<Typed>,
-    body: &Term<Typed>,
-    types: &Items<Ty>,
-) -> Result<Form<Typed>, Memory>
-    ensures { IfOk result (λ f. the_core_form f ≡ let_bang seen.now place (subst_core (map type_of types.now) (the_core value.now)) (subst_core (map type_of types.now) (the_core body.now))) }
-{
-    let (value, body) = in_two(alloc, value, body, types)?;
-    let seen = copy_seen(alloc, seen)?;
-    Ok(Form::LetBang(seen, place, value, body))
-}
-
-#[cycle(specialise)]
-fn in_if(
-    alloc: Global,
-    test: &Term<Typed>,
-    yes: &Term<Typed>,
-    no: &Term<Typed>,
-    types: &Items<Ty>,
-) -> Result<Form<Typed>, Memory>
-    ensures { IfOk result (λ f. the_core_form f ≡ if_else (subst_core (map type_of types.now) (the_core test.now)) (subst_core (map type_of types.now) (the_core yes.now)) (subst_core (map type_of types.now) (the_core no.now))) }
-{
-    let test = in_boxed(alloc, test, types)?;
-    let (yes, no) = in_two(alloc, yes, no, types)?;
-    Ok(Form::If(test, yes, no))
-}
-
-#[cycle(specialise)]
-fn in_case(
-    alloc: Global,
-    subject: &Term<Typed>,
-    at: &At,
-    place: Place,
-    first: &Term<Typed>,
-    rest: &Term<Typed>,
-    types: &Items<Ty>,
-) -> Result<Form<Typed>, Memory>
-    ensures { IfOk result (λ f. the_core_form f ≡ case_of (subst_core (map type_of types.now) (the_core subject.now)) at.now place (subst_core (map type_of types.now) (the_core first.now)) (subst_core (map type_of types.now) (the_core rest.now))) }
-{
-    let (first, rest) = in_two(alloc, first, rest, types)?;
-    let (at, subject) = in_at(alloc, at, subject, types)?;
-    Ok(Form::Case(subject, at, place, first, rest))
-}
-
-#[cycle(specialise)]
-fn in_take(
-    alloc: Global,
-    whole: &Term<Typed>,
-    at: &At,
-    rest: Place,
-    value: Place,
-    body: &Term<Typed>,
-    types: &Items<Ty>,
-) -> Result<Form<Typed>, Memory>
-    ensures { IfOk result (λ f. the_core_form f ≡ take_field (subst_core (map type_of types.now) (the_core whole.now)) at.now rest value (subst_core (map type_of types.now) (the_core body.now))) }
-{
-    let (whole, body) = in_two(alloc, whole, body, types)?;
-    let at = at.copy(alloc)?;
-    Ok(Form::Take(whole, at, rest, value, body))
-}
-
-#[cycle(specialise)]
-fn in_put(
-    alloc: Global,
-    whole: &Term<Typed>,
-    at: &At,
-    value: &Term<Typed>,
-    types: &Items<Ty>,
-) -> Result<Form<Typed>, Memory>
-    ensures { IfOk result (λ f. the_core_form f ≡ put (subst_core (map type_of types.now) (the_core whole.now)) at.now (subst_core (map type_of types.now) (the_core value.now))) }
-{
-    let (whole, value) = in_two(alloc, whole, value, types)?;
-    let at = at.copy(alloc)?;
-    Ok(Form::Put(whole, at, value))
 }
 
 // Two terms.
@@ -206,49 +125,20 @@ fn in_two(
     Ok((first, second))
 }
 
-// A name with a term.
+// Three terms.
 #[cycle(specialise)]
-fn in_named(
+fn in_three(
     alloc: Global,
-    name: &Name,
-    term: &Term<Typed>,
+    first: &Term<Typed>,
+    second: &Term<Typed>,
+    third: &Term<Typed>,
     types: &Items<Ty>,
-) -> Result<(Name, Box<Term<Typed>>), Memory>
-    ensures { IfOk result (λ two. (two.0 ≡ name.now) × (the_core two.1.value ≡ subst_core (map type_of types.now) (the_core term.now))) }
+) -> Result<(Box<Term<Typed>>, Box<Term<Typed>>, Box<Term<Typed>>), Memory>
+    ensures { IfOk result (λ three. (the_core three.0.value ≡ subst_core (map type_of types.now) (the_core first.now)) × (the_core three.1.value ≡ subst_core (map type_of types.now) (the_core second.now)) × (the_core three.2.value ≡ subst_core (map type_of types.now) (the_core third.now))) }
 {
-    let name = name.copy(alloc)?;
-    let term = in_boxed(alloc, term, types)?;
-    Ok((name, term))
-}
-
-// A name at its place, with a term.
-#[cycle(specialise)]
-fn in_at(
-    alloc: Global,
-    at: &At,
-    term: &Term<Typed>,
-    types: &Items<Ty>,
-) -> Result<(At, Box<Term<Typed>>), Memory>
-    ensures { IfOk result (λ two. (two.0 ≡ at.now) × (the_core two.1.value ≡ subst_core (map type_of types.now) (the_core term.now))) }
-{
-    let at = at.copy(alloc)?;
-    let term = in_boxed(alloc, term, types)?;
-    Ok((at, term))
-}
-
-// A written type, with a term.
-#[cycle(specialise)]
-fn in_typed(
-    alloc: Global,
-    ty: &TyArg,
-    term: &Term<Typed>,
-    types: &Items<Ty>,
-) -> Result<(TyArg, Box<Term<Typed>>), Memory>
-    ensures { IfOk result (λ two. (arg_of two.0 ≡ subst_arg (map type_of types.now) (arg_of ty.now)) × (the_core two.1.value ≡ subst_core (map type_of types.now) (the_core term.now))) }
-{
-    let ty = in_written(alloc, ty, types)?;
-    let term = in_boxed(alloc, term, types)?;
-    Ok((ty, term))
+    let first = in_boxed(alloc, first, types)?;
+    let (second, third) = in_two(alloc, second, third, types)?;
+    Ok((first, second, third))
 }
 
 #[cycle(specialise)]
@@ -276,12 +166,202 @@ fn in_fields(
 {
     let mut made = Items::new(alloc);
     for field in fields.as_slice() {
-        made.push(FieldTerm {
-            name: field.name.copy(alloc)?,
-            term: specialise(alloc, &field.term, types)?,
-        })?;
+        let term = specialise(alloc, &field.term, types)?;
+        made.push(named(alloc, &field.name, term)?)?;
     }
     Ok(made)
+}
+
+// ---- what a node comes to once its parts are made
+
+// A node's note.
+fn in_note(alloc: Global, note: &Typed, types: &Items<Ty>) -> Result<Typed, Memory>
+    ensures { IfOk result (λ n. note_of n ≡ subst_note (map type_of types.now) (note_of note.now)) }
+{
+    Ok(Typed {
+        place: note.place,
+        ty: subst(alloc, &note.ty, types)?,
+    })
+}
+
+// A written type.
+fn in_written(alloc: Global, arg: &TyArg, types: &Items<Ty>) -> Result<TyArg, Memory>
+    ensures { IfOk result (λ a. arg_of a ≡ subst_arg (map type_of types.now) (arg_of arg.now)) }
+{
+    Ok(TyArg {
+        place: arg.place,
+        ty: subst(alloc, &arg.ty, types)?,
+    })
+}
+
+// A node with this form.
+fn built(
+    alloc: Global,
+    note: &Typed,
+    form: Form<Typed>,
+    types: &Items<Ty>,
+) -> Result<Term<Typed>, Memory>
+    ensures { IfOk result (λ t. the_core t ≡ node (subst_note (map type_of types.now) (note_of note.now)) (the_core_form form)) }
+{
+    match in_note(alloc, note, types) {
+        Ok(note) => Ok(Term { note, form }),
+        Err(wanting) => {
+            drop(form);
+            Err(wanting)
+        }
+    }
+}
+
+// A core without parts.
+fn in_leaf(alloc: Global, core: &Term<Typed>, types: &Items<Ty>) -> Result<Term<Typed>, Memory>
+    requires { IsTrue (is_leaf (the_core_form core.now.form)) }
+    ensures { IfOk result (λ t. the_core t ≡ subst_core (map type_of types.now) (the_core core.now)) }
+{
+    let note = &core.note;
+    match &core.form {
+        Form::Var(var) => built(alloc, note, Form::Var(*var), types),
+        Form::Unit => built(alloc, note, Form::Unit, types),
+        Form::Bool(value) => built(alloc, note, Form::Bool(*value), types),
+        Form::Lit(value) => built(alloc, note, Form::Lit(*value), types),
+        Form::Fun(fun, args) => mention(alloc, note, *fun, args, types),
+        _ => unreachable!(),
+    }
+}
+
+fn mention(
+    alloc: Global,
+    note: &Typed,
+    fun: Fun,
+    args: &Items<TyArg>,
+    types: &Items<Ty>,
+) -> Result<Term<Typed>, Memory>
+    ensures { IfOk result (λ t. the_core t ≡ node (subst_note (map type_of types.now) (note_of note.now)) (fun_of fun (map (subst_arg (map type_of types.now)) (map arg_of args.now)))) }
+{
+    let args = in_args(alloc, args, types)?;
+    built(alloc, note, Form::Fun(fun, args), types)
+}
+
+fn let_bang(
+    alloc: Global,
+    note: &Typed,
+    seen: &Items<Seen>,
+    place: Place,
+    value: Box<Term<Typed>>,
+    body: Box<Term<Typed>>,
+    types: &Items<Ty>,
+) -> Result<Term<Typed>, Memory>
+    ensures { IfOk result (λ t. the_core t ≡ node (subst_note (map type_of types.now) (note_of note.now)) (binding seen.now place (the_core value.value) (the_core body.value))) }
+{
+    let seen = copy_seen(alloc, seen)?;
+    built(alloc, note, Form::LetBang(seen, place, value, body), types)
+}
+
+fn annotated(
+    alloc: Global,
+    note: &Typed,
+    part: Box<Term<Typed>>,
+    ty: &TyArg,
+    types: &Items<Ty>,
+) -> Result<Term<Typed>, Memory>
+    ensures { IfOk result (λ t. the_core t ≡ node (subst_note (map type_of types.now) (note_of note.now)) (annot (the_core part.value) (subst_arg (map type_of types.now) (arg_of ty.now)))) }
+{
+    let ty = in_written(alloc, ty, types)?;
+    built(alloc, note, Form::Annot(part, ty), types)
+}
+
+fn alternative(
+    alloc: Global,
+    note: &Typed,
+    name: &Name,
+    value: Box<Term<Typed>>,
+    types: &Items<Ty>,
+) -> Result<Term<Typed>, Memory>
+    ensures { IfOk result (λ t. the_core t ≡ node (subst_note (map type_of types.now) (note_of note.now)) (con name.now (the_core value.value))) }
+{
+    let name = name.copy(alloc)?;
+    built(alloc, note, Form::Con(name, value), types)
+}
+
+fn case(
+    alloc: Global,
+    note: &Typed,
+    parts: (Box<Term<Typed>>, Box<Term<Typed>>, Box<Term<Typed>>),
+    at: &At,
+    place: Place,
+    types: &Items<Ty>,
+) -> Result<Term<Typed>, Memory>
+    ensures { IfOk result (λ t. the_core t ≡ node (subst_note (map type_of types.now) (note_of note.now)) (case_of (the_core parts.0.value) at.now place (the_core parts.1.value) (the_core parts.2.value))) }
+{
+    let (subject, first, rest) = parts;
+    let at = at.copy(alloc)?;
+    let form = Form::Case(subject, at, place, first, rest);
+    built(alloc, note, form, types)
+}
+
+fn payload(
+    alloc: Global,
+    note: &Typed,
+    at: &At,
+    subject: Box<Term<Typed>>,
+    types: &Items<Ty>,
+) -> Result<Term<Typed>, Memory>
+    ensures { IfOk result (λ t. the_core t ≡ node (subst_note (map type_of types.now) (note_of note.now)) (esac at.now (the_core subject.value))) }
+{
+    let at = at.copy(alloc)?;
+    built(alloc, note, Form::Esac(at, subject), types)
+}
+
+fn member(
+    alloc: Global,
+    note: &Typed,
+    whole: Box<Term<Typed>>,
+    at: &At,
+    types: &Items<Ty>,
+) -> Result<Term<Typed>, Memory>
+    ensures { IfOk result (λ t. the_core t ≡ node (subst_note (map type_of types.now) (note_of note.now)) (member_of (the_core whole.value) at.now)) }
+{
+    let at = at.copy(alloc)?;
+    built(alloc, note, Form::Member(whole, at), types)
+}
+
+fn take(
+    alloc: Global,
+    note: &Typed,
+    parts: (Box<Term<Typed>>, Box<Term<Typed>>),
+    at: &At,
+    places: (Place, Place),
+    types: &Items<Ty>,
+) -> Result<Term<Typed>, Memory>
+    ensures { IfOk result (λ t. the_core t ≡ node (subst_note (map type_of types.now) (note_of note.now)) (take_field (the_core parts.0.value) at.now places.0 places.1 (the_core parts.1.value))) }
+{
+    let (whole, body) = parts;
+    let at = at.copy(alloc)?;
+    let form = Form::Take(whole, at, places.0, places.1, body);
+    built(alloc, note, form, types)
+}
+
+fn put(
+    alloc: Global,
+    note: &Typed,
+    whole: Box<Term<Typed>>,
+    at: &At,
+    value: Box<Term<Typed>>,
+    types: &Items<Ty>,
+) -> Result<Term<Typed>, Memory>
+    ensures { IfOk result (λ t. the_core t ≡ node (subst_note (map type_of types.now) (note_of note.now)) (put_in (the_core whole.value) at.now (the_core value.value))) }
+{
+    let at = at.copy(alloc)?;
+    built(alloc, note, Form::Put(whole, at, value), types)
+}
+
+// A field with a term.
+fn named(alloc: Global, name: &Name, term: Term<Typed>) -> Result<FieldTerm<Typed>, Memory>
+    ensures { IfOk result (λ f. (f.name ≡ name.now) × (f.term ≡ term)) }
+{
+    Ok(FieldTerm {
+        name: name.copy(alloc)?,
+        term,
+    })
 }
 
 fn in_args(alloc: Global, args: &Items<TyArg>, types: &Items<Ty>) -> Result<Items<TyArg>, Memory>

@@ -1,6 +1,5 @@
 use Rattle.std.proofs.Common.{◌≡◌, ◌+◌, ◌*◌, max, map, take}
 use Rattle.cg_core.specs.declared.term.Term.{size-Term}
-use Rattle.cg_core.specs.declared.term.Form.{size-Form}
 use Rattle.cg_core.specs.declared.term.FieldTerm.{size-FieldTerm}
 use Rattle.cg_mono.specs.Fields.{subst_field}
 use Rattle.cg_typing.specs.Subst.{subst_core}
@@ -19,43 +18,22 @@ invariant-in_fields-loop-field l = map the_core_field l.made ≡ map (subst_fiel
 -- ---- what gets less: the size of what is gone down, and then how many calls are left before the next term
 
 abbrev pub decreases-specialise : goal.decreases-specialise
-decreases-specialise l = 4 * (size-Term Typed l.core.now)
+decreases-specialise l = 5 * (size-Term Typed l.core.now) + 1
 
-abbrev pub decreases-in_form : goal.decreases-in_form
-decreases-in_form l = 4 * (size-Form Typed l.form.now)
+abbrev pub decreases-in_data : goal.decreases-in_data
+decreases-in_data l = 5 * (size-Term Typed l.core.now)
 
 abbrev pub decreases-in_boxed : goal.decreases-in_boxed
-decreases-in_boxed l = 4 * (size-Term Typed l.core.now) + 1
+decreases-in_boxed l = 5 * (size-Term Typed l.core.now) + 2
 
 abbrev pub decreases-in_two : goal.decreases-in_two
-decreases-in_two l = 4 * (max (size-Term Typed l.first.now) (size-Term Typed l.second.now)) + 2
+decreases-in_two l = 5 * (max (size-Term Typed l.first.now) (size-Term Typed l.second.now)) + 3
 
-abbrev pub decreases-in_named : goal.decreases-in_named
-decreases-in_named l = 4 * (size-Term Typed l.term.now) + 2
-
-abbrev pub decreases-in_at : goal.decreases-in_at
-decreases-in_at l = 4 * (size-Term Typed l.term.now) + 2
-
-abbrev pub decreases-in_typed : goal.decreases-in_typed
-decreases-in_typed l = 4 * (size-Term Typed l.term.now) + 2
-
-abbrev pub decreases-in_let_bang : goal.decreases-in_let_bang
-decreases-in_let_bang l = 4 * (max (size-Term Typed l.value.now) (size-Term Typed l.body.now)) + 3
-
-abbrev pub decreases-in_if : goal.decreases-in_if
-decreases-in_if l = 4 * (max (size-Term Typed l.test.now) (max (size-Term Typed l.yes.now) (size-Term Typed l.no.now))) + 3
-
-abbrev pub decreases-in_case : goal.decreases-in_case
-decreases-in_case l = 4 * (max (size-Term Typed l.subject.now) (max (size-Term Typed l.first.now) (size-Term Typed l.rest.now))) + 3
-
-abbrev pub decreases-in_take : goal.decreases-in_take
-decreases-in_take l = 4 * (max (size-Term Typed l.whole.now) (size-Term Typed l.body.now)) + 3
-
-abbrev pub decreases-in_put : goal.decreases-in_put
-decreases-in_put l = 4 * (max (size-Term Typed l.whole.now) (size-Term Typed l.value.now)) + 3
+abbrev pub decreases-in_three : goal.decreases-in_three
+decreases-in_three l = 5 * (max (size-Term Typed l.first.now) (max (size-Term Typed l.second.now) (size-Term Typed l.third.now))) + 4
 
 abbrev pub decreases-in_terms : goal.decreases-in_terms
-decreases-in_terms l = 4 * (most (size-Term Typed) l.terms.now) + 1
+decreases-in_terms l = 5 * (most (size-Term Typed) l.terms.now) + 2
 
 abbrev pub decreases-in_fields : goal.decreases-in_fields
-decreases-in_fields l = 4 * (most (size-FieldTerm Typed) l.fields.now) + 1
+decreases-in_fields l = 5 * (most (size-FieldTerm Typed) l.fields.now) + 2
