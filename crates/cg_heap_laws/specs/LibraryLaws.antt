@@ -1,5 +1,5 @@
 -- Laws of the library on heaps: what it gives represents the library's value, and it is a step.
-use Rattle.std.specs.Prelude.{◌≡◌, ℕ, ◌+◌, ◌≤◌, Bool, true, false, IsTrue, List, [], length}
+use Rattle.std.specs.Prelude.{◌≡◌, ℕ, ◌+◌, ◌≤◌, Bool, true, false, IsTrue, List, length}
 use Rattle.cg_base.specs.declared.fun.Fun.TheVariants.{Lib as OfLib}
 use Rattle.cg_base.specs.declared.fun.Lib.{Lib}
 use Rattle.cg_base.specs.declared.fun.Lib.TheVariants.{New, Free, Create, FreeArray, Length, Get, Put}
@@ -8,8 +8,9 @@ use Rattle.cg_base.specs.declared.kind.Kinds.{Kinds}
 use Rattle.cg_base.specs.Types.{Tau, fields}
 use Rattle.cg_heap.specs.Calls.{Does, heap_of}
 use Rattle.cg_heap.specs.declared.cell.Scalar.{Scalar}
+use Rattle.cg_heap.specs.ForeignHeaps.{answers_left}
 use Rattle.cg_heap.specs.Frames.{Frame}
-use Rattle.cg_heap.specs.Reps.{Heap, HeapWorld, Holds, foot}
+use Rattle.cg_heap.specs.Reps.{HeapWorld, Holds, foot}
 use Rattle.cg_heap.specs.Steps.{IsFine, Side, Step, side}
 use Rattle.cg_heap.specs.Stored.{Stored}
 use Rattle.cg_lib_heap.specs.Library.{HasArray, library_heap}
@@ -20,7 +21,6 @@ use Rattle.cg_typing.specs.Functions.{are_good_arguments, asked_by}
 use Rattle.cg_typing.specs.Instances.{as_arguments, takes_as_many}
 use Rattle.cg_typing.specs.Library.{given, library_type}
 use Rattle.cg_typing.specs.Parts.{taken_by, given_by}
-use Rattle.cg_value.specs.Forms.{answers_in, field}
 use Rattle.cg_value.specs.Values.{Val}
 use Rattle.cg_eval_operations.specs.Iterators.{is_iterator}
 
@@ -54,27 +54,13 @@ ArraysAreThere =
     (world : HeapWorld) (s : Stored) (lib : Lib) (args : List Tau) (us : List Scalar) (v : Val) → IsTrue (is_argument lib (given args 0))
     → Holds world (heap_of s) (taken_by (library_type lib args)) us v → HasArray lib us s
 
--- the answers that the argument's allocator has, and those that the result's has; none where there is no allocator
-abbrev pub answers_before : Lib → Val → List Bool
-answers_before New x = answers_in x
-answers_before Free x = answers_in (field x 0)
-answers_before Create x = answers_in (field x 0)
-answers_before FreeArray x = answers_in (field x 0)
-answers_before _ x = []
-
-abbrev pub answers_after : Lib → Val → List Bool
-answers_after New x = answers_in (field x 0)
-answers_after Free x = answers_in x
-answers_after Create x = answers_in (field x 0)
-answers_after FreeArray x = answers_in x
-answers_after _ x = []
-
 -- each cell that is made takes an answer
 abbrev pub AnswersSuffice : Type 0
 AnswersSuffice =
     (world : HeapWorld) (s : Stored) (lib : Lib) (args : List Tau) (us : List Scalar) (v : Val) → IsTrue (is_argument lib (given args 0))
     → Holds world (heap_of s) (taken_by (library_type lib args)) us v
-    → length (library_heap lib args us s).made + length (answers_after lib (library_value lib args v)) ≤ length (answers_before lib v)
+    → length (library_heap lib args us s).made + answers_left (given_by (library_type lib args)) (library_value lib args v)
+    ≤ answers_left (taken_by (library_type lib args)) v
 
 -- a step is a frame of what it writes
 abbrev pub StepsAreFrames : Type 0
