@@ -4,10 +4,11 @@ use Rattle.std.proofs.lemmas.List.{at_drop_more, at_drop_all}
 use Rattle.cg_cert.specs.declared.cert.CertFun.{CertFun}
 use Rattle.cg_cert.specs.declared.fault.CertFault.{CertFault}
 use Rattle.cg_cert.specs.declared.fault.CertFault.TheVariants.{C1, C2, C3, Limit, Memory}
-use Rattle.cg_certcheck.specs.Bodies.{Next, as_lists, nodes_by, body_by, maybe_by, function_by}
-use Rattle.cg_check_pieces.proofs.BodySteps.{ahead, nothing_more}
-use Rattle.cg_check_pieces.specs.Bodies.{Both, Lists, joined, lists_in, no_lists, one_more}
-use Rattle.cg_certcheck_nodes.specs.View.{Agrees}
+use Rattle.cg_certcheck.specs.Bodies.{Next, nodes_by, body_by, maybe_by, function_by}
+use Rattle.cg_check_pieces.proofs.BodySteps.{behind, behind_none, nothing_more, one_ahead}
+use Rattle.cg_check_pieces.proofs.Steps.{again}
+use Rattle.cg_check_pieces.specs.Bodies.{Both, Lists, one_more}
+use Rattle.cg_certcheck_context.specs.View.{Agrees}
 use Rattle.cg_core.specs.declared.kernel.KFun.{KFun}
 use Rattle.cg_core.specs.Kernels.{Body, Function, function_of}
 use Rattle.cg_faults.specs.Same.{same_name}
@@ -16,19 +17,6 @@ use Rattle.cg_certcheck_def.specs.Pass.{Out, bind, row, stands, check_body, chec
 use Rattle.cg_typing.specs.Parts.{is_arrow, has_word_arrays}
 use Rattle.cg_check_laws.proofs.SameTypes.{name_is, name_refl}
 use Rattle.cg_base.proofs.Truths.{either_bool as bool_is}
-
--- the answer of the pass behind what it kept before
-abbrev pub behind : Lists → Out (List (Option Both)) → Out Lists
-behind before answer = bind answer (λ kept. Ok (joined before (lists_in kept)))
-
-pub behind_none : (answer : Out (List (Option Both))) → behind no_lists answer ≡ as_lists answer
-behind_none (Ok kept) = refl
-behind_none (Err fault) = refl
-
-one_ahead : (before : Lists) (both : Option Both) (answer : Out (List (Option Both)))
-    → behind before (bind answer (λ kept. Ok (both ∷ kept))) ≡ behind (one_more before both) answer
-one_ahead before both (Ok kept) = ap Ok (ahead before both kept)
-one_ahead before both (Err fault) = refl
 
 -- the next function of a certificate
 module _ (funs : List CertFun) (i n : ℕ) (d : CertFun) (name : List ℕ) where
@@ -66,10 +54,6 @@ over_unless (x ∷ xs) zero h = refl
 over_unless (x ∷ xs) (suc i) h = over_unless xs i (omega (arith, h))
 
 -- a function and the later ones
-again : {A B C : Type 0} (x : Out A) (f : A → B) (g : B → Out C) → bind (bind x (λ a. Ok (f a))) g ≡ bind x (λ a. g (f a))
-again (Ok a) f g = refl
-again (Err e) f g = refl
-
 module _ (functions : List Function) where
   abbrev Then : List Function → Next → Out (List (Option Both))
   Then fs s = bind (check_functions functions fs s.funs s.next) (λ kept. Ok (s.kept ∷ kept))
@@ -87,7 +71,7 @@ module _ (functions : List Function) where
               bind (check_functions functions fs (funs_behind funs) u.at.next) (λ kept. Ok (Some (u.core, u.tree) ∷ kept))))
               ≡ bind (bind (stands n b (Ok (nodes_next funs))) (λ nodes. bind (check_body functions f body.term (record { nodes = nodes; next = n })) (λ u.
               Ok (record { kept = Some (u.core, u.tree); funs = funs_behind funs; next = u.at.next })))) (Then fs)
-          named true = sym (again (check_body functions f body.term (record { nodes = nodes_next funs; next = n })) (λ u. record { kept = Some (u.core, u.tree); funs = funs_behind funs; next = u.at.next }) (Then fs))
+          named true = sym (again (check_body functions f body.term (record { nodes = nodes_next funs; next = n })) (λ u. Ok (record { kept = Some (u.core, u.tree); funs = funs_behind funs; next = u.at.next })) (Then fs))
           named false = refl
 
       signed : (b : Bool) (body : Option Body) → row n b (from_body functions f body funs n (λ rest m. check_functions functions fs rest m)) ≡ bind (row n b (maybe_by functions f body funs n)) (Then fs)

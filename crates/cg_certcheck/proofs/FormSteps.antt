@@ -1,5 +1,5 @@
 -- The pass at a form is one step after another.
-use Rattle.std.proofs.Common.{◌≡◌, ℕ, Bool, true, false, ◌&&◌, not, List, [], ◌∷◌, Option, Some, None, Ok, Err, refl, ap, ◌∙◌}
+use Rattle.std.proofs.Common.{◌≡◌, ℕ, Bool, true, false, ◌&&◌, not, cond, List, [], ◌∷◌, Option, Some, None, Ok, Err, refl, ap, ◌∙◌}
 use Rattle.cg_base.specs.declared.kind.Kinds.{Kinds}
 use Rattle.cg_base.specs.declared.limit.Limit.TheVariants.{Ty}
 use Rattle.cg_base.specs.declared.place.Place.{Place}
@@ -8,11 +8,15 @@ use Rattle.cg_base.specs.Types.{Tau, unit as unit_type, bool as bool_type, field
 use Rattle.cg_cert.specs.declared.cert.CertNode.{CertNode}
 use Rattle.cg_cert.specs.declared.fault.CertFault.{CertFault}
 use Rattle.cg_cert.specs.declared.fault.CertFault.TheVariants.{C1, C2, C3, Limit, Memory}
-use Rattle.cg_certcheck.specs.Forms.{leaf_by, unary_by, binary_by, both_by, comparison_by, con_from, record_from, cast_from, form_by}
+use Rattle.cg_certcheck.specs.Forms.{leaf_by, operands_by, operands_left, operands_right, con_from, cast_from, form_by}
+use Rattle.cg_certcheck.specs.Operators.{unary_by}
+use Rattle.cg_check_pieces.proofs.Steps.{again, same_steps}
+use Rattle.cg_check_pieces.specs.Directions.{is_by_right, may_be_made_of}
 use Rattle.cg_check_pieces.specs.View.{shape_at}
 use Rattle.cg_certcheck_nodes.specs.Nodes.{esac_node, member_node, take_node, put_node}
-use Rattle.cg_certcheck_nodes.specs.Steps.{Split, Strings, found, is_none, leaf_reached, leaf_tested, split_reached, record_reached, literal_reached, literal_judged, alternative_held, last_held, member_held, taken_held, put_held}
-use Rattle.cg_certcheck_nodes.specs.View.{Agrees}
+use Rattle.cg_certcheck_context.specs.Steps.{Split, Strings, found, is_none, leaf_reached, leaf_tested, split_reached, record_reached, literal_reached}
+use Rattle.cg_certcheck_nodes.specs.Held.{literal_judged, alternative_held, last_held, member_held, taken_held, put_held}
+use Rattle.cg_certcheck_context.specs.View.{Agrees}
 use Rattle.cg_core.specs.declared.at.At.{At}
 use Rattle.cg_core.specs.declared.derivation.Mark.{Mark}
 use Rattle.cg_core.specs.declared.derivation.Node.{Node}
@@ -26,7 +30,7 @@ use Rattle.cg_faults.specs.Events.{field_directions}
 use Rattle.cg_faults.specs.Plain.{mentioned}
 use Rattle.cg_kinds.specs.Kinds.{is_word, or_unit}
 use Rattle.cg_certcheck_def.specs.Events.{strings_at, marks_next, no_strings, one_string, field_strings, meets, value_of, is_number, is_alternative, alternative_held as alternative_held_of, is_record, is_cast}
-use Rattle.cg_certcheck_def.specs.Pass.{Out, Cursor, Got, bind, row, test, step, reach, made, unary, binary, reach_literal, literal, leaf_at, split_at, wanted, check, check_shape, check_fields}
+use Rattle.cg_certcheck_def.specs.Pass.{Out, Way, Cursor, Got, bind, row, test, step, reach, made, operated, operated_both, unary, binary, reach_literal, literal, leaf_at, split_at, wanted, check, check_shape, check_fields}
 use Rattle.cg_certcheck_def.specs.Tests.{same_node, is_present, drops_all, drops_but}
 use Rattle.cg_typing.specs.Contexts.{Context, look, push, shares, first, second}
 use Rattle.cg_typing.specs.Functions.{asked_by, are_good_arguments}
@@ -35,15 +39,14 @@ use Rattle.cg_typing.specs.Parts.{alternative_in, field_in, held, is_last, is_le
 use Rattle.cg_typing.specs.Rules.{is_literal, note_at}
 use Rattle.cg_typing.specs.Trees.{first_marks, leaf, one}
 
--- steps that answer alike
-same_steps : {A B : Type 0} (x : Out A) (f g : A → Out B) → ((a : A) → f a ≡ g a) → bind x f ≡ bind x g
-same_steps (Ok a) f g h = h a
-same_steps (Err e) f g h = refl
+-- a row over what is behind it, and two rows of a node
+row_after : {A B : Type 0} (n : ℕ) (b : Bool) (x : Out A) (k : A → Out B) → bind (row n b x) k ≡ row n b (bind x k)
+row_after n true x k = refl
+row_after n false x k = refl
 
--- one step after two
-again : {A B C : Type 0} (x : Out A) (f : A → Out B) (g : B → Out C) → bind (bind x f) g ≡ bind x (λ a. bind (f a) g)
-again (Ok a) f g = refl
-again (Err e) f g = refl
+rows : {A : Type 0} (n : ℕ) (a b : Bool) (x : Out A) → row n a (row n b x) ≡ row n (a && b) x
+rows n true b x = refl
+rows n false b x = refl
 
 row_then : {A B : Type 0} (n : ℕ) (b : Bool) (x : A) (k : A → Out B) → bind (row n b (Ok x)) k ≡ row n b (k x)
 row_then n true x k = refl
@@ -125,57 +128,105 @@ module _ (functions : List Function) (vars : List Kinds) where
       go false c = refl
 
   -- operators
-  module _ (g : Context) (d : Option Tau) (at : Cursor) (place : Place) (o : Op) where
-    unary_is : (sort : Sort) (x : Tree Place)
-        → unary_by functions vars sort g d at.next (step at) place o x ≡ unary sort o d place at (λ from way. check functions vars g way from x)
-    unary_is sort x = go sort d
+  module _ (n : ℕ) where
+    guide_then : (test : Tau → Bool) (x : Out Got) (k : Got → Out Got) → bind (bind x (λ u. row n (test u.ty) (Ok u))) k ≡ bind x (λ u. row n (test u.ty) (k u))
+    guide_then test x k = again x (λ u. row n (test u.ty) (Ok u)) k ∙ same_steps x _ _ (λ u. row_then n (test u.ty) u k)
+
+    truth_then : (d : Option Tau) (k : Tau → Out Got) → bind (row n (meets d bool_type) (Ok bool_type)) k ≡ row n (meets d bool_type) (k bool_type)
+    truth_then d k = row_then n (meets d bool_type) bool_type k
+
+  module _ (d : Option Tau) (at : Cursor) (place : Place) (o : Op) where
+    compared : (test : Tau → Bool) (x : Out Got)
+        → bind (bind x (λ u. row at.next (test u.ty) (Ok u))) (λ u. bind (row at.next (meets d bool_type) (Ok bool_type)) (λ t. Ok (operated o place t u)))
+        ≡ bind x (λ u. row at.next (test u.ty && meets d bool_type) (Ok (operated o place bool_type u)))
+    compared test x =
+        guide_then at.next test x (λ u. bind (row at.next (meets d bool_type) (Ok bool_type)) (λ t. Ok (operated o place t u)))
+        ∙ same_steps x _ _ (λ u. ap (λ (y : Out Got). row at.next (test u.ty) y) (truth_then at.next d (λ t. Ok (operated o place t u)))
+        ∙ rows at.next (test u.ty) (meets d bool_type) (Ok (operated o place bool_type u)))
+
+  unary_is : (sort : Sort) (d : Option Tau) (at : Cursor) (place : Place) (o : Op) (x : Way)
+      → unary_by sort o d at.next place (λ way. x (step at) way) ≡ unary sort o d place at x
+  unary_is logic d at place o x = same_steps (x (step at) (Some bool_type)) _ _ (λ u. truth_then at.next d (λ t. Ok (operated o place t u)))
+  unary_is arithmetic (Some t) at place o x = row_after at.next (is_word t) (x (step at) (Some t)) (λ u. Ok (operated o place t u))
+  unary_is arithmetic None at place o x = guide_then at.next is_word (x (step at) None) (λ u. Ok (operated o place u.ty u))
+  unary_is equality d at place o x = compared d at place o (takes equality) (x (step at) None)
+  unary_is order d at place o x = compared d at place o (takes order) (x (step at) None)
+
+  module _ (m : List Mark) (g : Context) (d : Option Tau) (at : Cursor) (place : Place) (o : Op) (l r : Tree Place) where
+    abbrev Left : Way
+    Left from way = check functions vars (first m g) way from l
+
+    abbrev Right : Way
+    Right from way = check functions vars (second m g) way from r
+
+    abbrev Both : Bool → Sort → Option Tau → Out Got
+    Both b sort d = binary functions vars m sort o d place b (note_at l) (value_of l) (first m g) at Left Right
+
+    -- of both, with a truth value
+    truth : (x y : Got) → bind (row at.next (meets d bool_type) (Ok bool_type)) (λ t. Ok (operated_both m o place t x y y.at))
+        ≡ row at.next (meets d bool_type) (Ok (operated_both m o place bool_type x y y.at))
+    truth x y = truth_then at.next d (λ t. Ok (operated_both m o place t x y y.at))
+
+    left_first : (test : Tau → Bool)
+        → bind (bind (Left (step at) None) (λ u. row at.next (test u.ty) (Ok u)))
+        (λ x. bind (Right x.at (Some x.ty)) (λ y. bind (row at.next (meets d bool_type) (Ok bool_type)) (λ t. Ok (operated_both m o place t x y y.at))))
+        ≡ bind (Left (step at) None) (λ x. row at.next (test x.ty) (bind (Right x.at (Some x.ty)) (λ y. row at.next (meets d bool_type) (Ok (operated_both m o place bool_type x y y.at)))))
+    left_first test =
+        guide_then at.next test (Left (step at) None) _
+        ∙ same_steps (Left (step at) None) _ _ (λ x. ap (λ (z : Out Got). row at.next (test x.ty) z) (same_steps (Right x.at (Some x.ty)) _ _ (λ y. truth x y)))
+
+    -- the literal, and what it ends in
+    literal_first : (test : Tau → Bool) (ends last : Got → Got → Out Got) → ((x y : Got) → ends x y ≡ last x y)
+        → bind (literal_reached vars (first m g) (step at)) (λ behind. bind (bind (Right behind None) (λ u. row at.next (test u.ty) (Ok u)))
+        (λ y. bind (literal_judged (note_at l) (value_of l) y.ty (step at).next behind) (λ x. ends x y)))
+        ≡ reach_literal functions vars (first m g) (step at) (bind (Right (step (step at)) None) (λ y. row at.next (test y.ty)
+        (literal functions vars (note_at l) (value_of l) y.ty (step at) (λ x. last x y))))
+    literal_first test ends last same =
+        literal_then (first m g) (step at) _
+        ∙ ap (λ (z : Out Got). reach_literal functions vars (first m g) (step at) z)
+        (guide_then at.next test (Right (step (step at)) None) _
+        ∙ same_steps (Right (step (step at)) None) _ _ (λ y. ap (λ (z : Out Got). row at.next (test y.ty) z)
+        (same_steps (literal_judged (note_at l) (value_of l) y.ty (step at).next (step (step at))) _ _ (λ x. same x y)
+        ∙ judged_then (note_at l) (value_of l) y.ty (step at) (λ x. last x y))))
+
+    right_is : (sort : Sort) → is_by_right sort d true ≡ true → operands_right functions vars sort m g d at.next (step at) place o l r ≡ Both true sort d
+    right_is logic h = absurd (cc)
+    right_is equality h = literal_first (takes equality) (λ x y. bind (row at.next (meets d bool_type) (Ok bool_type)) (λ t. Ok (operated_both m o place t x y y.at))) (λ x y. row at.next (meets d bool_type) (Ok (operated_both m o place bool_type x y y.at))) (λ x y. truth x y)
+    right_is order h = literal_first (takes order) (λ x y. bind (row at.next (meets d bool_type) (Ok bool_type)) (λ t. Ok (operated_both m o place t x y y.at))) (λ x y. row at.next (meets d bool_type) (Ok (operated_both m o place bool_type x y y.at))) (λ x y. truth x y)
+    right_is arithmetic h = go d h
       where
-        go : (sort : Sort) (d : Option Tau) → unary_by functions vars sort g d at.next (step at) place o x ≡ unary sort o d place at (λ from way. check functions vars g way from x)
-        go arithmetic None = refl
-        go arithmetic (Some t) = refl
-        go equality d = refl
-        go order d = refl
-        go logic d = refl
+        go : (d : Option Tau) → is_by_right arithmetic d true ≡ true → operands_right functions vars arithmetic m g d at.next (step at) place o l r ≡ Both true arithmetic d
+        go (Some t) h = absurd (cc)
+        go None h = literal_first is_word (λ x y. Ok (operated_both m o place y.ty x y y.at)) (λ x y. Ok (operated_both m o place y.ty x y y.at)) (λ x y. refl)
 
-    module _ (m : List Mark) (l r : Tree Place) where
-      abbrev Both : Bool → Sort → Option Tau → Out Got
-      Both b sort d =
-          binary functions vars m sort o d place b (note_at l) (value_of l) (first m g) at
-          (λ from way. check functions vars (first m g) way from l) (λ from way. check functions vars (second m g) way from r)
+    left_is : (sort : Sort) (b : Bool) → is_by_right sort d b ≡ false → operands_left functions vars sort m g d at.next (step at) place o l r ≡ Both b sort d
+    left_is logic b h = same_steps (Left (step at) (Some bool_type)) _ _ (λ x. same_steps (Right x.at (Some bool_type)) _ _ (λ y. truth x y))
+    left_is equality true h = absurd (cc)
+    left_is equality false h = left_first (takes equality)
+    left_is order true h = absurd (cc)
+    left_is order false h = left_first (takes order)
+    left_is arithmetic b h = go d b h
+      where
+        go : (d : Option Tau) (b : Bool) → is_by_right arithmetic d b ≡ false → operands_left functions vars arithmetic m g d at.next (step at) place o l r ≡ Both b arithmetic d
+        go (Some t) b h = row_after at.next (is_word t) (Left (step at) (Some t)) (λ x. bind (Right x.at (Some t)) (λ y. Ok (operated_both m o place t x y y.at)))
+        go None true h = absurd (cc)
+        go None false h = guide_then at.next is_word (Left (step at) None) (λ x. bind (Right x.at (Some x.ty)) (λ y. Ok (operated_both m o place x.ty x y y.at)))
 
-      both_is : (b : Bool) → both_by functions vars b m g at.next (step at) place o l r ≡ Both b arithmetic None
-      both_is false = refl
-      both_is true =
-          literal_then (first m g) (step at) _
-          ∙ ap (λ (x : Out Got). reach_literal functions vars (first m g) (step at) x)
-          (same_steps (check functions vars (second m g) None (step (step at)) r) _ _
-          (λ y. ap (λ (x : Out Got). row at.next (is_word y.ty) x) (judged_then (note_at l) (value_of l) y.ty (step at) _)))
+    never : (sort : Sort) (d : Option Tau) → is_by_right sort d false ≡ true → ⊥
+    never logic d h = absurd (cc)
+    never equality d h = absurd (cc)
+    never order d h = absurd (cc)
+    never arithmetic (Some t) h = absurd (cc)
+    never arithmetic None h = absurd (cc)
 
-      equality_is : (b : Bool) → comparison_by functions vars b equality m g d at.next (step at) place o l r ≡ Both b equality d
-      equality_is false = refl
-      equality_is true =
-          literal_then (first m g) (step at) _
-          ∙ ap (λ (x : Out Got). reach_literal functions vars (first m g) (step at) x)
-          (same_steps (check functions vars (second m g) None (step (step at)) r) _ _
-          (λ y. ap (λ (x : Out Got). row at.next (takes equality y.ty) x) (judged_then (note_at l) (value_of l) y.ty (step at) _)))
-
-      order_is : (b : Bool) → comparison_by functions vars b order m g d at.next (step at) place o l r ≡ Both b order d
-      order_is false = refl
-      order_is true =
-          literal_then (first m g) (step at) _
-          ∙ ap (λ (x : Out Got). reach_literal functions vars (first m g) (step at) x)
-          (same_steps (check functions vars (second m g) None (step (step at)) r) _ _
-          (λ y. ap (λ (x : Out Got). row at.next (takes order y.ty) x) (judged_then (note_at l) (value_of l) y.ty (step at) _)))
-
-      binary_is : (sort : Sort) → binary_by functions vars sort m g d at.next (step at) place o l r ≡ Both (is_literal l) sort d
-      binary_is logic = refl
-      binary_is equality = equality_is (is_literal l)
-      binary_is order = order_is (is_literal l)
-      binary_is arithmetic = go d
-        where
-          go : (d : Option Tau) → binary_by functions vars arithmetic m g d at.next (step at) place o l r ≡ Both (is_literal l) arithmetic d
-          go None = both_is (is_literal l)
-          go (Some t) = refl
+    operands_is : (sort : Sort) → operands_by functions vars sort m g d at.next (step at) place o l r ≡ Both (is_literal l) sort d
+    operands_is sort = go (is_literal l) (is_by_right sort d (is_literal l)) refl
+      where
+        go : (b c : Bool) → is_by_right sort d b ≡ c
+            → cond c (operands_right functions vars sort m g d at.next (step at) place o l r) (operands_left functions vars sort m g d at.next (step at) place o l r) ≡ Both b sort d
+        go true true h = right_is sort h
+        go false true h = absurd (never sort d h)
+        go b false h = left_is sort b h
 
   -- the forms
   module _ (g : Context) (d : Option Tau) (at : Cursor) (place : Place) where
@@ -183,12 +234,14 @@ module _ (functions : List Function) (vars : List Kinds) where
     Is shape = form_by functions vars g d at place shape ≡ check_shape functions vars g d at place shape
 
     op_one_is : (o : Op) (x : Tree Place) → Is (op o (more x none))
-    op_one_is o x = leaf_then at nodes.Op _ ∙ ap (λ (y : Out Got). reach at nodes.Op (no_strings at.nodes) y) (unary_is g d at place o (sort_of o) x)
+    op_one_is o x =
+        leaf_then at nodes.Op _
+        ∙ ap (λ (y : Out Got). reach at nodes.Op (no_strings at.nodes) y) (unary_is (sort_of o) d at place o (λ from way. check functions vars g way from x))
 
     op_two_is : (o : Op) (l r : Tree Place) → Is (op o (more l (more r none)))
     op_two_is o l r =
-        split_then [] g nodes.Op at (λ m s. binary_by functions vars (sort_of o) m g d at.next s place o l r)
-        ∙ ap (λ (y : Out Got). reach at nodes.Op (one_string vars [] (strings_at at.nodes) g) y) (binary_is g d at place o (marks_next at.nodes) l r (sort_of o))
+        split_then [] g nodes.Op at (λ m s. operands_by functions vars (sort_of o) m g d at.next s place o l r)
+        ∙ ap (λ (y : Out Got). reach at nodes.Op (one_string vars [] (strings_at at.nodes) g) y) (operands_is (marks_next at.nodes) g d at place o l r (sort_of o))
 
     app_is : (f x : Tree Place) → Is (app f x)
     app_is f x = split_then [] g nodes.App at _
@@ -231,10 +284,13 @@ module _ (functions : List Function) (vars : List Kinds) where
 
     struct_is : (fs : Named Place) → Is (struct fs)
     struct_is fs =
-        record_then fs g at (λ strings s. record_from functions vars g d at.next (record { marks = strings; at = s }) place fs)
+        record_then fs g at (λ strings s. row at.next (may_be_made_of d fs) (bind (check_fields functions vars g (field_directions d) strings s fs) (λ u.
+        Ok (made place (wanted d (fields u.parts U)) (struct u.cores) (derivation nodes.Struct strings u.trees) u.at))))
         ∙ ap (λ (z : Out Got). reach at nodes.Struct (field_strings vars fs (strings_at at.nodes) g) z) (go d)
       where
-        go : (d : Option Tau) → record_from functions vars g d at.next (record { marks = strings_at at.nodes; at = step at }) place fs
+        go : (d : Option Tau)
+            → row at.next (may_be_made_of d fs) (bind (check_fields functions vars g (field_directions d) (strings_at at.nodes) (step at) fs) (λ u.
+            Ok (made place (wanted d (fields u.parts U)) (struct u.cores) (derivation nodes.Struct (strings_at at.nodes) u.trees) u.at)))
             ≡ row at.next (is_record d fs) (bind (check_fields functions vars g (field_directions d) (strings_at at.nodes) (step at) fs) (λ u.
             Ok (made place (wanted d (fields u.parts U)) (struct u.cores) (derivation nodes.Struct (strings_at at.nodes) u.trees) u.at)))
         go None = refl
@@ -310,6 +366,17 @@ module _ (functions : List Function) (vars : List Kinds) where
   pub check_is : (g : Context) (d : Option Tau) (at : Cursor) (t : Tree Place)
       → bind (form_by functions vars g d at (note_at t) (shape_at t)) (λ u. test (Limit Ty) (is_small_enough u.ty) (Ok u)) ≡ check functions vars g d at t
   check_is g d at (term place shape) = ap (λ x. bind x (λ u. test (Limit Ty) (is_small_enough u.ty) (Ok u))) (form_is g d at place shape)
+
+-- the operand that is checked first
+module _ (functions : List Function) (vars : List Kinds) (sort : Sort) (m : List Mark) (g : Context) (d : Option Tau) (n : ℕ) (at : Cursor) (place : Place) (o : Op) (l r : Tree Place) where
+  abbrev Chosen : Bool → Out Got
+  Chosen b = cond b (operands_right functions vars sort m g d n at place o l r) (operands_left functions vars sort m g d n at place o l r)
+
+  pub by_right_then : is_by_right sort d (is_literal l) ≡ true → operands_by functions vars sort m g d n at place o l r ≡ operands_right functions vars sort m g d n at place o l r
+  by_right_then h = ap Chosen h
+
+  pub by_left_else : is_by_right sort d (is_literal l) ≡ false → operands_by functions vars sort m g d n at place o l r ≡ operands_left functions vars sort m g d n at place o l r
+  by_left_else h = ap Chosen h
 
 -- a fault goes on
 pub goes_on : {X Y A B : Type 0} (view : X → A) (view2 : Y → B) (e : CertFault) (x : Out A) (f : A → Out B) → Agrees view (Err e) x → Agrees view2 (Err e) (bind x f)

@@ -5,11 +5,10 @@ use Rattle.cg_cert.specs.declared.cert.Cert.{Cert}
 use Rattle.cg_cert.specs.declared.fault.CertFault.{CertFault}
 use Rattle.cg_cert.specs.declared.fault.CertFault.TheVariants.{C1, C2, C3, Limit, Memory}
 use Rattle.cg_certcheck.proofs.FaultKinds.{node_fault}
-use Rattle.cg_certcheck.specs.Bodies.{as_lists}
-use Rattle.cg_check_pieces.specs.Bodies.{Both, Lists, core_in, tree_in, lists_in, lists_of}
+use Rattle.cg_check_pieces.specs.Bodies.{Both, Lists, as_lists, core_in, lists_in, lists_of, tree_in}
 use Rattle.cg_check_pieces.specs.declared.kept.KeptBodies.{KeptBodies}
 use Rattle.cg_certcheck.specs.Judged.{Refuses, IsRechecked}
-use Rattle.cg_certcheck_nodes.specs.View.{Agrees}
+use Rattle.cg_certcheck_context.specs.View.{Agrees}
 use Rattle.cg_certcheck_laws.proofs.Main.{decide, kept_listed}
 use Rattle.cg_certcheck_laws.proofs.PassKernel.{first_fault}
 use Rattle.cg_certcheck_def.specs.Events.{Event, event, AllHold, cert_events, first_failing}

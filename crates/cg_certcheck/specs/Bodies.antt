@@ -10,13 +10,9 @@ use Rattle.cg_core.specs.Kernels.{Function, Body}
 use Rattle.cg_core.specs.Terms.{Tree}
 use Rattle.cg_certcheck_def.specs.Events.{is_over, is_named, nodes_next, funs_behind}
 use Rattle.cg_certcheck_def.specs.Pass.{Out, Cursor, Got, bind, row, stands, check}
-use Rattle.cg_check_pieces.specs.Bodies.{Both, Lists, lists_in, maybe_both}
+use Rattle.cg_check_pieces.specs.Bodies.{Both, maybe_both}
 use Rattle.cg_typing.specs.Accepted.{kinds_of_vars}
 use Rattle.cg_typing.specs.Parts.{is_arrow, taken_by, given_by, has_word_arrays}
-
--- the answer of the pass, as two lists
-abbrev pub as_lists : Out (List (Option Both)) → Out Lists
-as_lists answer = bind answer (λ kept. Ok (lists_in kept))
 
 -- ---- one function
 

@@ -1,13 +1,16 @@
 -- Forms of nodes as the second checker takes them: a node is reached, and then one step after another.
-use Rattle.std.specs.Prelude.{ℕ, Bool, true, false, ◌&&◌, Option, Some, None, List, [], Ok, Err}
+use Rattle.std.specs.Prelude.{ℕ, Bool, true, false, ◌&&◌, cond, Option, Some, None, List, [], Ok, Err}
 use Rattle.cg_base.specs.declared.kind.Kinds.{Kinds}
 use Rattle.cg_base.specs.declared.kind.Sigil.TheVariants.{U}
 use Rattle.cg_base.specs.declared.place.Place.{Place}
 use Rattle.cg_base.specs.Types as types
 use Rattle.cg_base.specs.Types.{Tau, fields}
 use Rattle.cg_cert.specs.declared.fault.CertFault.TheVariants.{C2}
+use Rattle.cg_certcheck.specs.Operators.{by_left, by_right, unary_by}
 use Rattle.cg_certcheck_nodes.specs.Nodes.{app_node, let_node, let_bang_node, if_node, con_node, case_node, esac_node, struct_node, member_node, take_node, put_node, cast_node, annot_node}
-use Rattle.cg_certcheck_nodes.specs.Steps.{Strings, leaf_reached, leaf_tested, split_reached, record_reached, literal_reached, literal_judged, alternative_held, last_held, member_held, taken_held, put_held}
+use Rattle.cg_certcheck_context.specs.Steps.{leaf_reached, leaf_tested, split_reached, record_reached, literal_reached}
+use Rattle.cg_certcheck_nodes.specs.Held.{alternative_held, last_held, member_held, taken_held, put_held}
+use Rattle.cg_check_pieces.specs.Directions.{is_by_right, may_be_made_of}
 use Rattle.cg_core.specs.declared.at.At.{At}
 use Rattle.cg_core.specs.declared.derivation.Mark.{Mark}
 use Rattle.cg_core.specs.declared.derivation.Node.{Node}
@@ -17,15 +20,15 @@ use Rattle.cg_core.specs.declared.term.Seen.{Seen}
 use Rattle.cg_core.specs.Kernels.{Function}
 use Rattle.cg_core.specs.Terms.{Tree, Shape, var, unit, bool, lit, fun, op, app, lets, let_bang, if_else, con, case_of, esac, struct, member, take_field, put, cast, annot, none, more, Named, Arg, Note}
 use Rattle.cg_faults.specs.Events.{field_directions, next_direction, later_directions}
-use Rattle.cg_faults.specs.Plain.{mentioned, is_made_of}
-use Rattle.cg_kinds.specs.Kinds.{kinds, is_word, or_unit}
+use Rattle.cg_faults.specs.Plain.{mentioned}
+use Rattle.cg_kinds.specs.Kinds.{kinds, or_unit}
 use Rattle.cg_certcheck_def.specs.Events.{meets, is_number, value_of}
-use Rattle.cg_certcheck_def.specs.Pass.{Out, Cursor, Got, GotFields, bind, row, made, in_front, no_fields, wanted, operated, operated_both, check, check_fields}
+use Rattle.cg_certcheck_def.specs.Pass.{Out, Cursor, Got, GotFields, bind, row, made, in_front, no_fields, wanted, check, check_fields}
 use Rattle.cg_certcheck_def.specs.Tests.{is_present, drops_all, drops_but}
 use Rattle.cg_typing.specs.Contexts.{Context, look, push, first, second}
 use Rattle.cg_typing.specs.Functions.{asked_by, are_good_arguments}
-use Rattle.cg_typing.specs.Operators.{Sort, arithmetic, logic, sort_of, takes}
-use Rattle.cg_typing.specs.Parts.{is_arrow, taken_by, given_by, widens, with_part, has_word_arrays}
+use Rattle.cg_typing.specs.Operators.{Sort, sort_of}
+use Rattle.cg_typing.specs.Parts.{is_arrow, taken_by as asked_by_arrow, given_by, widens, with_part, has_word_arrays}
 use Rattle.cg_typing.specs.Rules.{is_literal, note_at, second_branch}
 use Rattle.cg_typing.specs.Trees.{first_marks, later_marks, leaf}
 
@@ -33,84 +36,58 @@ use Rattle.cg_typing.specs.Trees.{first_marks, later_marks, leaf}
 abbrev pub leaf_by : Option Tau → Place → Tau → Shape Note → Node → Bool → Cursor → Out Got
 leaf_by d place t shape node holds at = bind (leaf_tested d t node holds at) (λ behind. Ok (made place t shape (leaf node) behind))
 
--- a put behind its parts
+-- the ends of nodes behind their parts
+abbrev pub app_end : List Mark → Option Tau → ℕ → Place → Got → Got → Out Got
+app_end m d n place u v = row n (meets d (given_by u.ty)) (Ok (app_node m place (given_by u.ty) u v))
+
+abbrev pub esac_end : Option Tau → ℕ → Place → At → Got → Out Got
+esac_end d n place alternative u = bind (last_held n d alternative.name u.ty) (λ h. Ok (esac_node place h alternative u))
+
+abbrev pub member_end : List Kinds → Option Tau → ℕ → Place → At → Got → Out Got
+member_end vars d n place name u = bind (member_held vars n d name.name u.ty) (λ h. Ok (member_node place h name u))
+
 abbrev pub put_end : List Mark → Option Tau → ℕ → Place → At → Got → Got → Out Got
 put_end m d n place name u v = row n (meets d (with_part name.name false u.ty)) (Ok (put_node m place (with_part name.name false u.ty) name u v))
+
+abbrev pub cast_end : Tau → ℕ → Place → Got → Out Got
+cast_end t n place u = row n (widens u.ty t) (Ok (cast_node place t u))
+
+abbrev pub annot_end : Option Tau → ℕ → Place → Arg → Got → Out Got
+annot_end d n place a u = row n (meets d a.ty) (Ok (annot_node place a u))
 
 module _ (functions : List Function) (vars : List Kinds) where
   abbrev pub literal_by : Context → Option Tau → Cursor → Place → Option ℕ → Out Got
   literal_by g d at place value =
       bind (leaf_reached at nodes.Lit) (λ behind. row at.next (drops_all vars g && is_number value d) (Ok (made place (wanted d types.unit) (lit value) (leaf nodes.Lit) behind)))
 
-  -- ---- operators, whose node has this number, over operands from a place on
-
-  abbrev pub logic_by : Context → Option Tau → ℕ → Cursor → Place → Op → Tree Place → Out Got
-  logic_by g d n at place o x = bind (check functions vars g (Some types.bool) at x) (λ u. row n (meets d types.bool) (Ok (operated o place types.bool u)))
-
-  abbrev pub sum_against : Context → Tau → ℕ → Cursor → Place → Op → Tree Place → Out Got
-  sum_against g t n at place o x = row n (is_word t) (bind (check functions vars g (Some t) at x) (λ u. Ok (operated o place t u)))
-
-  abbrev pub sum_by : Context → ℕ → Cursor → Place → Op → Tree Place → Out Got
-  sum_by g n at place o x = bind (check functions vars g None at x) (λ u. row n (is_word u.ty) (Ok (operated o place u.ty u)))
-
-  abbrev pub compared_by : Sort → Context → Option Tau → ℕ → Cursor → Place → Op → Tree Place → Out Got
-  compared_by sort g d n at place o x =
-      bind (check functions vars g None at x) (λ u. row n (takes sort u.ty && meets d types.bool) (Ok (operated o place types.bool u)))
-
-  abbrev pub unary_by : Sort → Context → Option Tau → ℕ → Cursor → Place → Op → Tree Place → Out Got
-  unary_by logic g d n at place o x = logic_by g d n at place o x
-  unary_by arithmetic g (Some t) n at place o x = sum_against g t n at place o x
-  unary_by arithmetic g None n at place o x = sum_by g n at place o x
-  unary_by sort g d n at place o x = compared_by sort g d n at place o x
-
-  -- of two, with these marks between them
-  abbrev pub logic_of_both : List Mark → Context → Option Tau → ℕ → Cursor → Place → Op → Tree Place → Tree Place → Out Got
-  logic_of_both m g d n at place o l r =
-      bind (check functions vars (first m g) (Some types.bool) at l) (λ x. bind (check functions vars (second m g) (Some types.bool) x.at r) (λ y.
-      row n (meets d types.bool) (Ok (operated_both m o place types.bool x y y.at))))
-
-  abbrev pub both_against : List Mark → Context → Tau → ℕ → Cursor → Place → Op → Tree Place → Tree Place → Out Got
-  both_against m g t n at place o l r =
-      row n (is_word t) (bind (check functions vars (first m g) (Some t) at l) (λ x. bind (check functions vars (second m g) (Some t) x.at r) (λ y.
-      Ok (operated_both m o place t x y y.at))))
-
-  -- the guide is the left operand, or the right one of a literal
-  abbrev pub both_by : Bool → List Mark → Context → ℕ → Cursor → Place → Op → Tree Place → Tree Place → Out Got
-  both_by false m g n at place o l r =
-      bind (check functions vars (first m g) None at l) (λ x. row n (is_word x.ty) (bind (check functions vars (second m g) (Some x.ty) x.at r) (λ y.
-      Ok (operated_both m o place x.ty x y y.at))))
-  both_by true m g n at place o l r =
-      bind (literal_reached vars (first m g) at) (λ behind. bind (check functions vars (second m g) None behind r) (λ y. row n (is_word y.ty)
-      (bind (literal_judged (note_at l) (value_of l) y.ty at.next behind) (λ x. Ok (operated_both m o place y.ty x y y.at)))))
-
-  abbrev pub comparison_by : Bool → Sort → List Mark → Context → Option Tau → ℕ → Cursor → Place → Op → Tree Place → Tree Place → Out Got
-  comparison_by false sort m g d n at place o l r =
-      bind (check functions vars (first m g) None at l) (λ x. row n (takes sort x.ty) (bind (check functions vars (second m g) (Some x.ty) x.at r) (λ y.
-      row n (meets d types.bool) (Ok (operated_both m o place types.bool x y y.at)))))
-  comparison_by true sort m g d n at place o l r =
-      bind (literal_reached vars (first m g) at) (λ behind. bind (check functions vars (second m g) None behind r) (λ y. row n (takes sort y.ty)
-      (bind (literal_judged (note_at l) (value_of l) y.ty at.next behind) (λ x.
-      row n (meets d types.bool) (Ok (operated_both m o place types.bool x y y.at))))))
-
-  abbrev pub binary_by : Sort → List Mark → Context → Option Tau → ℕ → Cursor → Place → Op → Tree Place → Tree Place → Out Got
-  binary_by logic m g d n at place o l r = logic_of_both m g d n at place o l r
-  binary_by arithmetic m g (Some t) n at place o l r = both_against m g t n at place o l r
-  binary_by arithmetic m g None n at place o l r = both_by (is_literal l) m g n at place o l r
-  binary_by sort m g d n at place o l r = comparison_by (is_literal l) sort m g d n at place o l r
+  -- ---- operators
 
   abbrev pub op_one : Context → Option Tau → Cursor → Place → Op → Tree Place → Out Got
-  op_one g d at place o x = bind (leaf_reached at nodes.Op) (λ behind. unary_by (sort_of o) g d at.next behind place o x)
+  op_one g d at place o x =
+      bind (leaf_reached at nodes.Op) (λ behind. unary_by (sort_of o) o d at.next place (λ way. check functions vars g way behind x))
+
+  -- of two, whose node has this number and these marks, from a place on: the left operand is checked first, or reached first
+  abbrev pub operands_left : Sort → List Mark → Context → Option Tau → ℕ → Cursor → Place → Op → Tree Place → Tree Place → Out Got
+  operands_left sort m g d n at place o l r =
+      by_left m sort o d n place (λ way. check functions vars (first m g) way at l) (λ from way. check functions vars (second m g) way from r)
+
+  abbrev pub operands_right : Sort → List Mark → Context → Option Tau → ℕ → Cursor → Place → Op → Tree Place → Tree Place → Out Got
+  operands_right sort m g d n at place o l r =
+      by_right m sort o d n place (note_at l) (value_of l) at.next (literal_reached vars (first m g) at) (λ from way. check functions vars (second m g) way from r)
+
+  abbrev pub operands_by : Sort → List Mark → Context → Option Tau → ℕ → Cursor → Place → Op → Tree Place → Tree Place → Out Got
+  operands_by sort m g d n at place o l r =
+      cond (is_by_right sort d (is_literal l)) (operands_right sort m g d n at place o l r) (operands_left sort m g d n at place o l r)
 
   abbrev pub op_two : Context → Option Tau → Cursor → Place → Op → Tree Place → Tree Place → Out Got
-  op_two g d at place o l r = bind (split_reached vars [] g nodes.Op at) (λ s. binary_by (sort_of o) s.marks g d at.next s.at place o l r)
+  op_two g d at place o l r = bind (split_reached vars [] g nodes.Op at) (λ s. operands_by (sort_of o) s.marks g d at.next s.at place o l r)
 
   -- ---- the other forms
 
   abbrev pub app_by : Context → Option Tau → Cursor → Place → Tree Place → Tree Place → Out Got
   app_by g d at place f x =
       bind (split_reached vars [] g nodes.App at) (λ s. bind (check functions vars (first s.marks g) None s.at f) (λ u. row at.next (is_arrow u.ty)
-      (bind (check functions vars (second s.marks g) (Some (taken_by u.ty)) u.at x) (λ v. row at.next (meets d (given_by u.ty))
-      (Ok (app_node s.marks place (given_by u.ty) u v))))))
+      (bind (check functions vars (second s.marks g) (Some (asked_by_arrow u.ty)) u.at x) (λ v. app_end s.marks d at.next place u v))))
 
   abbrev pub let_by : Context → Option Tau → Cursor → Place → Place → Tree Place → Tree Place → Out Got
   let_by g d at place binder e k =
@@ -143,20 +120,15 @@ module _ (functions : List Function) (vars : List Kinds) where
       bind (check functions vars (push (second m g) (Some (with_part alternative.name true u.ty))) (second_branch d v.ty) v.at y) (λ w.
       Ok (case_node m place alternative binder u v w))
 
-  -- the branches of a match on a value
-  abbrev pub matched_by : List Mark → Context → Option Tau → Place → At → Place → Tree Place → Tree Place → Got → Tau → Out Got
-  matched_by m g d place alternative binder x y u h =
-      bind (check functions vars (push (second m g) (Some h)) d u.at x) (λ v. other_by m g d place alternative binder y u v)
-
   abbrev pub case_by : Context → Option Tau → Cursor → Place → Tree Place → At → Place → Tree Place → Tree Place → Out Got
   case_by g d at place e alternative binder x y =
       bind (split_reached vars [] g nodes.Case at) (λ s. bind (check functions vars (first s.marks g) None s.at e) (λ u.
-      bind (alternative_held at.next alternative.name u.ty) (λ h. matched_by s.marks g d place alternative binder x y u h)))
+      bind (alternative_held at.next alternative.name u.ty) (λ h.
+      bind (check functions vars (push (second s.marks g) (Some h)) d u.at x) (λ v. other_by s.marks g d place alternative binder y u v))))
 
   abbrev pub esac_by : Context → Option Tau → Cursor → Place → At → Tree Place → Out Got
   esac_by g d at place alternative e =
-      bind (leaf_reached at nodes.Esac) (λ behind. bind (check functions vars g None behind e) (λ u. bind (last_held at.next d alternative.name u.ty) (λ h.
-      Ok (esac_node place h alternative u))))
+      bind (leaf_reached at nodes.Esac) (λ behind. bind (check functions vars g None behind e) (λ u. esac_end d at.next place alternative u))
 
   -- the last field of a record, and one in front of later ones
   abbrev pub last_field : Context → List (Option Tau) → Cursor → List ℕ → Tree Place → Out GotFields
@@ -167,26 +139,23 @@ module _ (functions : List Function) (vars : List Kinds) where
       bind (check functions vars (first (first_marks strings) g) (next_direction directions) at e) (λ u.
       bind (check_fields functions vars (second (first_marks strings) g) (later_directions directions) (later_marks strings) u.at fs) (λ v. Ok (in_front name u v)))
 
-  abbrev pub record_from : Context → Option Tau → ℕ → Strings → Place → Named Place → Out Got
-  record_from g None n s place fs =
-      bind (check_fields functions vars g (field_directions None) s.marks s.at fs) (λ u. Ok (struct_node s.marks place (fields u.parts U) u))
-  record_from g (Some t) n s place fs =
-      row n (is_made_of t fs) (bind (check_fields functions vars g (field_directions (Some t)) s.marks s.at fs) (λ u. Ok (struct_node s.marks place t u)))
-
   abbrev pub struct_by : Context → Option Tau → Cursor → Place → Named Place → Out Got
-  struct_by g d at place fs = bind (record_reached vars fs g at) (λ s. record_from g d at.next s place fs)
+  struct_by g d at place fs =
+      bind (record_reached vars fs g at) (λ s. row at.next (may_be_made_of d fs)
+      (bind (check_fields functions vars g (field_directions d) s.marks s.at fs) (λ u. Ok (struct_node s.marks place (wanted d (fields u.parts U)) u))))
 
   abbrev pub member_by : Context → Option Tau → Cursor → Place → Tree Place → At → Out Got
   member_by g d at place e name =
-      bind (leaf_reached at nodes.Member) (λ behind. bind (check functions vars g None behind e) (λ u. bind (member_held vars at.next d name.name u.ty) (λ h.
-      Ok (member_node place h name u))))
+      bind (leaf_reached at nodes.Member) (λ behind. bind (check functions vars g None behind e) (λ u. member_end vars d at.next place name u))
+
+  -- the body of a take, behind the record, of whose field this is held
+  abbrev pub taken_by : List Mark → Context → Option Tau → At → Tree Place → Got → Tau → Out Got
+  taken_by m g d name k u h = check functions vars (push (push (second m g) (Some (with_part name.name true u.ty))) (Some h)) d u.at k
 
   abbrev pub take_by : Context → Option Tau → Cursor → Place → Tree Place → At → Place → Place → Tree Place → Out Got
   take_by g d at place e name rest binder k =
       bind (split_reached vars [] g nodes.Take at) (λ s. bind (check functions vars (first s.marks g) None s.at e) (λ u.
-      bind (taken_held at.next name.name u.ty) (λ h.
-      bind (check functions vars (push (push (second s.marks g) (Some (with_part name.name true u.ty))) (Some h)) d u.at k) (λ v.
-      Ok (take_node s.marks place name rest binder u v)))))
+      bind (taken_held at.next name.name u.ty) (λ h. bind (taken_by s.marks g d name k u h) (λ v. Ok (take_node s.marks place name rest binder u v)))))
 
   abbrev pub put_by : Context → Option Tau → Cursor → Place → Tree Place → At → Tree Place → Out Got
   put_by g d at place e name x =
@@ -196,15 +165,14 @@ module _ (functions : List Function) (vars : List Kinds) where
 
   abbrev pub cast_from : Context → Option Tau → ℕ → Cursor → Place → Tree Place → Out Got
   cast_from g None n at place e = Err (C2 n)
-  cast_from g (Some t) n at place e = bind (check functions vars g None at e) (λ u. row n (widens u.ty t) (Ok (cast_node place t u)))
+  cast_from g (Some t) n at place e = bind (check functions vars g None at e) (λ u. cast_end t n place u)
 
   abbrev pub cast_by : Context → Option Tau → Cursor → Place → Tree Place → Out Got
   cast_by g d at place e = bind (leaf_reached at nodes.Cast) (λ behind. cast_from g d at.next behind place e)
 
   abbrev pub annot_by : Context → Option Tau → Cursor → Place → Tree Place → Arg → Out Got
   annot_by g d at place e a =
-      bind (leaf_reached at nodes.Annot) (λ behind. row at.next (has_word_arrays a.ty) (bind (check functions vars g (Some a.ty) behind e) (λ u.
-      row at.next (meets d a.ty) (Ok (annot_node place a u)))))
+      bind (leaf_reached at nodes.Annot) (λ behind. row at.next (has_word_arrays a.ty) (bind (check functions vars g (Some a.ty) behind e) (λ u. annot_end d at.next place a u)))
 
   -- a node of any form
   abbrev pub form_by : Context → Option Tau → Cursor → Place → Shape Place → Out Got

@@ -1,29 +1,47 @@
 // Leaves of a body: variables, literals, and functions that are mentioned.
 #![tactic(auto, using(crate::proofs::LeafSteps::leaf_steps))]
 
-ghost use Rattle.std.specs.Prelude.{◌≡◌, map};
+ghost use Rattle.std.specs.Prelude.{◌≡◌, Ok, map};
 ghost use Rattle.std.specs.Option.{option_copied};
 ghost use Rattle.cg_base.specs.Types.{type_of};
 ghost use Rattle.cg_certcheck.specs.Forms.{form_by, leaf_by, literal_by};
-ghost use Rattle.cg_certcheck_nodes.specs.Contexts.{context_of};
+ghost use Rattle.cg_certcheck_def.specs.Pass.{made};
+ghost use Rattle.cg_certcheck_context.specs.Contexts.{context_of};
 ghost use Rattle.cg_certcheck_nodes.specs.Gots.{got_in};
-ghost use Rattle.cg_certcheck_nodes.specs.Steps.{literal_judged};
-ghost use Rattle.cg_certcheck_nodes.specs.View.{Agrees, cursor_of};
+ghost use Rattle.cg_certcheck_nodes.specs.Held.{literal_judged};
+ghost use Rattle.cg_certcheck_context.specs.View.{Agrees, cursor_of};
 ghost use Rattle.cg_check_pieces.specs.View.{bounds_of, way_of};
 ghost use Rattle.cg_core.specs.declared.derivation.Node.TheVariants as nodes;
-ghost use Rattle.cg_core.specs.Kernels.{function_of};
+ghost use Rattle.cg_core.specs.Kernels.{function_of, the_core_form};
 ghost use Rattle.cg_core.specs.Terms as terms;
 ghost use Rattle.cg_core.specs.Terms.{arg_of};
 ghost use Rattle.cg_typing.specs.Functions.{are_good_arguments, asked_by};
+ghost use Rattle.cg_typing.specs.Trees.{leaf};
 
 use cg_base::{Fun, Items, Limit, Place, Ty};
 use cg_cert::CertFault;
-use cg_certcheck_nodes::{
-    Cursor, Entry, Got, Source, drops_all, ends_with, leaf_of, reach_leaf, test_leaf, type_at,
+use cg_certcheck_context::{
+    Cursor, Entry, Source, drops_all, ends_with, reach_leaf, test_leaf, type_at,
 };
-use cg_check_pieces::copied_arguments;
-use cg_core::{Form, Node, TyArg};
+use cg_certcheck_nodes::{Got, leaf_of};
+use cg_check_pieces::{boxed, copied, copied_arguments, plain};
+use cg_core::{Form, Node, Term, TyArg, Typed};
 use cg_typing_parts::{arguments_fault, in_range, is_small_enough, mentioned};
+
+// A leaf of this core, of whose context it is known whether it may end there.
+fn end_leaf(
+    source: &Source,
+    direction: Option<&Ty>,
+    core: Term<Typed>,
+    node: Node,
+    holds: bool,
+    at: Cursor,
+) -> Result<Got, CertFault>
+    ensures { Agrees (got_in source.now.nodes.now) result (leaf_by (way_of (option_copied direction.entry)) core.note.place (type_of core.note.ty) (the_core_form core.form) node holds (cursor_of source.now.nodes.now at)) }
+{
+    let behind = test_leaf(source, direction, &core.note.ty, node, holds, at)?;
+    leaf_of(source, core, node, behind)
+}
 
 /// A variable.
 pub(crate) fn check_var(
@@ -38,9 +56,9 @@ pub(crate) fn check_var(
 {
     let position = var as usize;
     let holds = ends_with(source, context, position);
-    let ty = type_at(source, context, position)?;
-    let behind = test_leaf(source, direction, &ty, Node::Var, holds, at)?;
-    Ok(leaf_of(source, place, ty, Form::Var(var), Node::Var, behind)?)
+    let ty = boxed(source.alloc, type_at(source, context, position))?;
+    let core = plain(place, Box::into_inner(ty), Form::Var(var));
+    end_leaf(source, direction, core, Node::Var, holds, at)
 }
 
 /// Unit.
@@ -51,11 +69,11 @@ pub(crate) fn check_unit(
     at: Cursor,
     place: Place,
 ) -> Result<Got, CertFault>
-    ensures { Agrees (got_in source.now.nodes.now) result (form_by (map function_of source.now.functions.now) (bounds_of source.now.vars.now) (context_of (bounds_of source.now.vars.now) context.now) (way_of (option_copied direction.entry)) (cursor_of source.now.nodes.now at) place terms.unit) }
+    ensures { Agrees (got_in source.now.nodes.now) result (form_by (map function_of source.now.functions.now) (bounds_of source.now.vars.now) (context_of (bounds_of source.now.vars.now) context.now) (way_of (option_copied direction.entry)) (cursor_of source.now.nodes.now at) place (terms.unit)) }
 {
     let holds = drops_all(source, context);
-    let behind = test_leaf(source, direction, &Ty::Unit, Node::Unit, holds, at)?;
-    Ok(leaf_of(source, place, Ty::Unit, Form::Unit, Node::Unit, behind)?)
+    let core = plain(place, Ty::Unit, Form::Unit);
+    end_leaf(source, direction, core, Node::Unit, holds, at)
 }
 
 /// A truth value.
@@ -70,9 +88,23 @@ pub(crate) fn check_bool(
     ensures { Agrees (got_in source.now.nodes.now) result (form_by (map function_of source.now.functions.now) (bounds_of source.now.vars.now) (context_of (bounds_of source.now.vars.now) context.now) (way_of (option_copied direction.entry)) (cursor_of source.now.nodes.now at) place (terms.bool value)) }
 {
     let holds = drops_all(source, context);
-    let behind = test_leaf(source, direction, &Ty::Bool, Node::Bool, holds, at)?;
-    let form = Form::Bool(value);
-    Ok(leaf_of(source, place, Ty::Bool, form, Node::Bool, behind)?)
+    let core = plain(place, Ty::Bool, Form::Bool(value));
+    end_leaf(source, direction, core, Node::Bool, holds, at)
+}
+
+// A literal of this type, behind its node.
+fn literal_of(
+    source: &Source,
+    place: Place,
+    value: Option<u64>,
+    ty: &Ty,
+    behind: Cursor,
+) -> Result<Got, CertFault>
+    ensures { Agrees (got_in source.now.nodes.now) result (Ok (made place (type_of ty.now) (terms.lit value) (leaf nodes.Lit) (cursor_of source.now.nodes.now behind))) }
+{
+    let ty = copied(source.alloc, ty)?;
+    let core = plain(place, Box::into_inner(ty), Form::Lit(value));
+    leaf_of(source, core, Node::Lit, behind)
 }
 
 /// A literal.
@@ -96,13 +128,12 @@ pub(crate) fn check_literal(
     if !in_range(value, ty) {
         return Err(CertFault::C2(at.next));
     }
-    let ty = ty.copy(source.alloc)?;
-    Ok(leaf_of(source, place, ty, Form::Lit(value), Node::Lit, behind)?)
+    literal_of(source, place, value, ty, behind)
 }
 
 /// A literal that stands left of its guide and was reached before it, of the guide's type: C2 where it isn't in range, and the limit
 /// where the type passes it.
-#[tactic(auto, using(crate::proofs::LeafSteps::leaf_steps), unfolding(cg_certcheck_nodes::specs::Steps::literal_judged))]
+#[tactic(auto, using(crate::proofs::LeafSteps::leaf_steps), unfolding(cg_certcheck_nodes::specs::Held::literal_judged))]
 pub(crate) fn judge_literal(
     source: &Source,
     place: Place,
@@ -119,8 +150,7 @@ pub(crate) fn judge_literal(
     if !is_small_enough(ty) {
         return Err(CertFault::Limit(Limit::Ty));
     }
-    let ty = ty.copy(source.alloc)?;
-    Ok(leaf_of(source, place, ty, Form::Lit(value), Node::Lit, behind)?)
+    literal_of(source, place, value, ty, behind)
 }
 
 // Whether each type argument is written with arrays of words alone, and is what the function asks for.
@@ -147,25 +177,9 @@ pub(crate) fn check_mention(
     ensures { Agrees (got_in source.now.nodes.now) result (form_by (map function_of source.now.functions.now) (bounds_of source.now.vars.now) (context_of (bounds_of source.now.vars.now) context.now) (way_of (option_copied direction.entry)) (cursor_of source.now.nodes.now at) place (terms.fun fun (map arg_of args.now))) }
 {
     let holds = drops_all(source, context) && are_good(source, fun, args);
-    let ty = mentioned(source.alloc, source.functions, fun, args)?;
-    end_mention(source, direction, at, place, fun, args, ty, holds)
-}
-
-// The same of this type, of whose context and type arguments it is known whether they may stand there.
-fn end_mention(
-    source: &Source,
-    direction: Option<&Ty>,
-    at: Cursor,
-    place: Place,
-    fun: Fun,
-    args: &Items<TyArg>,
-    ty: Ty,
-    holds: bool,
-) -> Result<Got, CertFault>
-    ensures { Agrees (got_in source.now.nodes.now) result (leaf_by (way_of (option_copied direction.entry)) place (type_of ty) (terms.fun fun (map arg_of args.now)) nodes.Fun holds (cursor_of source.now.nodes.now at)) }
-{
-    let behind = test_leaf(source, direction, &ty, Node::Fun, holds, at)?;
+    let ty = mentioned(source.alloc, source.functions, fun, args);
+    let ty = boxed(source.alloc, ty)?;
     let args = copied_arguments(source.alloc, args)?;
-    let form = Form::Fun(fun, args);
-    Ok(leaf_of(source, place, ty, form, Node::Fun, behind)?)
+    let core = plain(place, Box::into_inner(ty), Form::Fun(fun, args));
+    end_leaf(source, direction, core, Node::Fun, holds, at)
 }

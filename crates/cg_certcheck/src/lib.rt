@@ -6,6 +6,7 @@
 #![tactic(auto)]
 
 mod between;
+mod ends;
 mod functions;
 mod leaves;
 mod pass;

@@ -1,14 +1,16 @@
 // The pass over a term.
-#![tactic(auto, using(crate::proofs::PassSteps::pass_steps), unfolding(crate::proofs::PassSteps::size))]
+#![tactic(auto, using(crate::proofs::PassSteps::pass_steps), unfolding(cg_check_pieces::proofs::TermSizes::size))]
 
-ghost use Rattle.std.specs.Prelude.{◌≡◌, map, None, Some, false, true};
+ghost use Rattle.std.specs.Prelude.{◌≡◌, map, None, Some};
 ghost use Rattle.std.specs.Option.{option_copied};
 ghost use Rattle.cg_base.specs.Types.{part_of, to_parts, type_of};
 ghost use Rattle.cg_certcheck.specs.Forms as forms;
+ghost use Rattle.cg_certcheck.specs.Operators.{first_operand, guide};
+ghost use Rattle.cg_check_pieces.specs.Directions.{right_direction};
 ghost use Rattle.cg_check_pieces.specs.View.{bounds_of, shape_at, way_of};
-ghost use Rattle.cg_certcheck_nodes.specs.Contexts.{context_of};
-ghost use Rattle.cg_certcheck_nodes.specs.Gots.{fields_in, got_in, strings_in};
-ghost use Rattle.cg_certcheck_nodes.specs.View.{Agrees, cursor_of};
+ghost use Rattle.cg_certcheck_context.specs.Contexts.{context_of};
+ghost use Rattle.cg_certcheck_nodes.specs.Gots.{fields_in, got_in};
+ghost use Rattle.cg_certcheck_context.specs.View.{Agrees, cursor_of};
 ghost use Rattle.cg_core.specs.Kernels.{function_of, the_field, the_term};
 ghost use Rattle.cg_core.specs.Terms as terms;
 ghost use Rattle.cg_core.specs.Terms.{arg_of, to_named, to_trees};
@@ -16,29 +18,32 @@ ghost use Rattle.cg_faults.specs.Events.{later_directions, part_directions};
 ghost use Rattle.cg_typing_parts.specs.Views.{the_sort};
 ghost use Rattle.cg_certcheck_def.specs.Pass.{check as check_of, check_fields as fields_by};
 ghost use Rattle.cg_typing.specs.Contexts.{first as first_of, push as push_of, second as second_of};
-ghost use Rattle.cg_typing.specs.Operators.{sort_of as sort_by};
 ghost use Rattle.cg_typing.specs.Trees.{later_marks};
-ghost use Rattle.cg_typing.specs.Rules.{is_literal as literal_of, note_at as note_of};
+ghost use Rattle.cg_typing.specs.Rules.{note_at as note_of};
 
-use crate::between::{end_put, later_strings, next_marks, number_of, reach_left};
-use crate::leaves::{
-    check_bool, check_literal, check_mention, check_unit, check_var, judge_literal,
+use crate::between::{later_strings, next_marks, reach_left};
+use crate::ends::{
+    Operator, end_annot, end_app, end_by_left, end_by_right, end_cast, end_esac, end_member,
+    end_put, end_struct, end_unary, last_in_front, operator_at, small, taken_by_sort,
 };
-use cg_base::{Items, Limit, Name, Part, Place, Ty};
+use crate::leaves::{check_bool, check_literal, check_mention, check_unit, check_var};
+use cg_base::{Items, Name, Part, Place, Ty};
 use cg_cert::CertFault;
-use cg_certcheck_nodes::{
-    Cursor, Entry, Fields, Got, Source, Strings, alternative_type, annot_node, app_node, case_node,
-    cast_node, con_node, esac_node, firsts, if_node, last_type, let_bang_node, let_node, meets,
-    member_node, member_type, no_fields, opened, opened_twice, operated, operated_both,
-    put_in_front, put_type, reach_leaf, reach_observed, reach_record, reach_split, record_node,
-    seconds, struct_node, take_node, taken_type,
+use cg_certcheck_context::{
+    Cursor, Entry, Source, Split, Strings, firsts, opened, opened_twice, reach_leaf,
+    reach_observed, reach_record, reach_split, seconds,
 };
-use cg_check_pieces::{is_literal, later_wanted, next_wanted, other_way, parts_of};
+use cg_certcheck_nodes::{
+    Fields, Got, alternative_type, case_node, con_node, if_node, in_front, let_bang_node, let_node,
+    no_fields, put_type, take_node, taken_type,
+};
+use cg_check_pieces::{
+    boxed, guided_direction, is_by_right, is_literal, later_wanted, may_be_made_of, next_wanted,
+    other_way, parts_of,
+};
 use cg_core::{At, FieldTerm, Form, Mark, Node, Op, Seen, Term, TyArg};
 use cg_kinds::kinds_of;
-use cg_typing_parts::{
-    Sort, has_word_arrays, is_made_of, is_small_enough, is_word, sort_of, takes, widens, with_part,
-};
+use cg_typing_parts::{Sort, has_word_arrays, is_word, with_part};
 
 /// What a term comes to, in a context and a direction, from a place among the nodes: as the pass answers it.
 #[cycle(check)]
@@ -52,11 +57,7 @@ pub(crate) fn check_term(
     ensures { Agrees (got_in source.now.nodes.now) result (check_of (map function_of source.now.functions.now) (bounds_of source.now.vars.now) (context_of (bounds_of source.now.vars.now) context.now) (way_of (option_copied direction.entry)) (cursor_of source.now.nodes.now at) (the_term term.now)) }
 {
     let got = check_form(source, context, direction, at, term)?;
-    if is_small_enough(got.ty()) {
-        Ok(got)
-    } else {
-        Err(CertFault::Limit(Limit::Ty))
-    }
+    small(source, got)
 }
 
 // The same, whatever the size of its type.
@@ -168,22 +169,24 @@ fn check_opened(
     check_term(source, side.as_slice(), direction, at, term)
 }
 
-// A second part of a split, in the scope of two new variables of these types.
+// The body of a take, in the scope of what is left of the record and of what its field held.
 #[cycle(check)]
-fn check_opened_twice(
+fn check_taken(
     source: &Source,
     context: &[Entry],
     marks: &[Mark],
-    ty: &Ty,
-    last: &Ty,
     direction: Option<&Ty>,
-    at: Cursor,
-    term: &Term<Place>,
+    first: &Got,
+    field: &At,
+    held: &Ty,
+    body: &Term<Place>,
 ) -> Result<Got, CertFault>
-    ensures { Agrees (got_in source.now.nodes.now) result (check_of (map function_of source.now.functions.now) (bounds_of source.now.vars.now) (push_of (push_of (second_of marks.now (context_of (bounds_of source.now.vars.now) context.now)) (Some (type_of ty.now))) (Some (type_of last.now))) (way_of (option_copied direction.entry)) (cursor_of source.now.nodes.now at) (the_term term.now)) }
+    ensures { Agrees (got_in source.now.nodes.now) result (forms.taken_by (map function_of source.now.functions.now) (bounds_of source.now.vars.now) marks.now (context_of (bounds_of source.now.vars.now) context.now) (way_of (option_copied direction.entry)) field.now (the_term body.now) (got_in source.now.nodes.now first.now) (type_of held.now)) }
 {
-    let side = opened_twice(source, marks, &*context, &*ty, &*last)?;
-    check_term(source, side.as_slice(), direction, at, term)
+    let left = with_part(source.alloc, &field.name, true, first.ty());
+    let left = boxed(source.alloc, left)?;
+    let side = opened_twice(source, marks, &*context, &*left, &*held)?;
+    check_term(source, side.as_slice(), direction, first.at, body)
 }
 
 // An operator.
@@ -219,126 +222,52 @@ fn check_unary(
 ) -> Result<Got, CertFault>
     ensures { Agrees (got_in source.now.nodes.now) result (forms.op_one (map function_of source.now.functions.now) (bounds_of source.now.vars.now) (context_of (bounds_of source.now.vars.now) context.now) (way_of (option_copied direction.entry)) (cursor_of source.now.nodes.now at) place op (the_term part.now)) }
 {
+    let operator = operator_at(at.next, place, op);
     let behind = reach_leaf(source, Node::Op, at)?;
-    check_operand(source, context, direction, at.next, behind, place, op, part)
+    let got = check_operand(source, context, direction, operator, behind, part)?;
+    end_unary(source, direction, operator, got)
 }
 
-// The same behind its node, which has this number.
+// The operand that is checked first: as the operator's node says, or as the guide of the other one.
 #[cycle(check)]
 fn check_operand(
     source: &Source,
     context: &[Entry],
     direction: Option<&Ty>,
-    number: u64,
+    operator: Operator,
     at: Cursor,
-    place: Place,
-    op: Op,
     part: &Term<Place>,
 ) -> Result<Got, CertFault>
-    ensures { Agrees (got_in source.now.nodes.now) result (forms.unary_by (map function_of source.now.functions.now) (bounds_of source.now.vars.now) (sort_by op) (context_of (bounds_of source.now.vars.now) context.now) (way_of (option_copied direction.entry)) number (cursor_of source.now.nodes.now at) place op (the_term part.now)) }
+    ensures { Agrees (got_in source.now.nodes.now) result (first_operand (the_sort operator.sort) (way_of (option_copied direction.entry)) operator.number (λ way. check_of (map function_of source.now.functions.now) (bounds_of source.now.vars.now) (context_of (bounds_of source.now.vars.now) context.now) way (cursor_of source.now.nodes.now at) (the_term part.now))) }
 {
-    let sort = sort_of(op);
-    match sort {
-        Sort::Logic => check_logic(source, context, direction, number, at, place, op, part),
+    match operator.sort {
+        Sort::Logic => check_term(source, context, Some(&Ty::Bool), at, part),
         Sort::Arithmetic => match direction {
-            Some(wanted) => check_sum_against(source, context, wanted, number, at, place, op, part),
-            None => check_sum(source, context, number, at, place, op, part),
+            Some(wanted) => {
+                if !is_word(wanted) {
+                    return Err(CertFault::C2(operator.number));
+                }
+                check_term(source, context, direction, at, part)
+            }
+            None => check_guide(source, context, operator, at, part),
         },
-        Sort::Equality | Sort::Order => {
-            check_compared(
-                source, context, direction, number, at, place, op, sort, part,
-            )
-        }
+        Sort::Equality | Sort::Order => check_guide(source, context, operator, at, part),
     }
 }
 
-// A truth value of one.
+// An operand that guides the other one: it is of a type that the operator takes.
 #[cycle(check)]
-fn check_logic(
+fn check_guide(
     source: &Source,
     context: &[Entry],
-    direction: Option<&Ty>,
-    number: u64,
+    operator: Operator,
     at: Cursor,
-    place: Place,
-    op: Op,
     part: &Term<Place>,
 ) -> Result<Got, CertFault>
-    ensures { Agrees (got_in source.now.nodes.now) result (forms.logic_by (map function_of source.now.functions.now) (bounds_of source.now.vars.now) (context_of (bounds_of source.now.vars.now) context.now) (way_of (option_copied direction.entry)) number (cursor_of source.now.nodes.now at) place op (the_term part.now)) }
-{
-    let got = check_term(source, context, Some(&Ty::Bool), at, part)?;
-    if !meets(direction, &Ty::Bool) {
-        return Err(CertFault::C2(number));
-    }
-    Ok(operated(source, op, place, Ty::Bool, got)?)
-}
-
-// A word of one that is checked against its type.
-#[cycle(check)]
-fn check_sum_against(
-    source: &Source,
-    context: &[Entry],
-    wanted: &Ty,
-    number: u64,
-    at: Cursor,
-    place: Place,
-    op: Op,
-    part: &Term<Place>,
-) -> Result<Got, CertFault>
-    ensures { Agrees (got_in source.now.nodes.now) result (forms.sum_against (map function_of source.now.functions.now) (bounds_of source.now.vars.now) (context_of (bounds_of source.now.vars.now) context.now) (type_of wanted.now) number (cursor_of source.now.nodes.now at) place op (the_term part.now)) }
-{
-    if !is_word(wanted) {
-        return Err(CertFault::C2(number));
-    }
-    let got = check_term(source, context, Some(wanted), at, part)?;
-    let ty = wanted.copy(source.alloc)?;
-    Ok(operated(source, op, place, ty, got)?)
-}
-
-// A word of one that is synthesised.
-#[cycle(check)]
-fn check_sum(
-    source: &Source,
-    context: &[Entry],
-    number: u64,
-    at: Cursor,
-    place: Place,
-    op: Op,
-    part: &Term<Place>,
-) -> Result<Got, CertFault>
-    ensures { Agrees (got_in source.now.nodes.now) result (forms.sum_by (map function_of source.now.functions.now) (bounds_of source.now.vars.now) (context_of (bounds_of source.now.vars.now) context.now) number (cursor_of source.now.nodes.now at) place op (the_term part.now)) }
+    ensures { Agrees (got_in source.now.nodes.now) result (guide (the_sort operator.sort) operator.number (check_of (map function_of source.now.functions.now) (bounds_of source.now.vars.now) (context_of (bounds_of source.now.vars.now) context.now) None (cursor_of source.now.nodes.now at) (the_term part.now))) }
 {
     let got = check_term(source, context, None, at, part)?;
-    if !is_word(got.ty()) {
-        return Err(CertFault::C2(number));
-    }
-    let ty = got.ty().copy(source.alloc)?;
-    Ok(operated(source, op, place, ty, got)?)
-}
-
-// A comparison with one operand.
-#[cycle(check)]
-fn check_compared(
-    source: &Source,
-    context: &[Entry],
-    direction: Option<&Ty>,
-    number: u64,
-    at: Cursor,
-    place: Place,
-    op: Op,
-    sort: Sort,
-    part: &Term<Place>,
-) -> Result<Got, CertFault>
-    ensures { Agrees (got_in source.now.nodes.now) result (forms.compared_by (map function_of source.now.functions.now) (bounds_of source.now.vars.now) (the_sort sort) (context_of (bounds_of source.now.vars.now) context.now) (way_of (option_copied direction.entry)) number (cursor_of source.now.nodes.now at) place op (the_term part.now)) }
-{
-    let got = check_term(source, context, None, at, part)?;
-    if !takes(sort, got.ty()) {
-        return Err(CertFault::C2(number));
-    }
-    if !meets(direction, &Ty::Bool) {
-        return Err(CertFault::C2(number));
-    }
-    Ok(operated(source, op, place, Ty::Bool, got)?)
+    taken_by_sort(source, operator, got)
 }
 
 // An operator with two operands.
@@ -355,271 +284,94 @@ fn check_binary(
 ) -> Result<Got, CertFault>
     ensures { Agrees (got_in source.now.nodes.now) result (forms.op_two (map function_of source.now.functions.now) (bounds_of source.now.vars.now) (context_of (bounds_of source.now.vars.now) context.now) (way_of (option_copied direction.entry)) (cursor_of source.now.nodes.now at) place op (the_term left.now) (the_term right.now)) }
 {
-    let split = reach_split(source, context, Node::Op, at)?;
-    check_operands(
-        source,
-        context,
-        split.marks,
-        direction,
-        at.next,
-        split.at,
-        place,
-        op,
-        left,
-        right,
-    )
+    let operator = operator_at(at.next, place, op);
+    let Split { marks, at } = reach_split(source, context, Node::Op, at)?;
+    check_operands(source, context, marks, direction, operator, at, left, right)
 }
 
-// The same behind its node, which has this number.
+// The same behind its node.
 #[cycle(check)]
 fn check_operands(
     source: &Source,
     context: &[Entry],
     marks: &[Mark],
     direction: Option<&Ty>,
-    number: u64,
+    operator: Operator,
     at: Cursor,
-    place: Place,
-    op: Op,
     left: &Term<Place>,
     right: &Term<Place>,
 ) -> Result<Got, CertFault>
-    ensures { Agrees (got_in source.now.nodes.now) result (forms.binary_by (map function_of source.now.functions.now) (bounds_of source.now.vars.now) (sort_by op) marks.now (context_of (bounds_of source.now.vars.now) context.now) (way_of (option_copied direction.entry)) number (cursor_of source.now.nodes.now at) place op (the_term left.now) (the_term right.now)) }
+    ensures { Agrees (got_in source.now.nodes.now) result (forms.operands_by (map function_of source.now.functions.now) (bounds_of source.now.vars.now) (the_sort operator.sort) marks.now (context_of (bounds_of source.now.vars.now) context.now) (way_of (option_copied direction.entry)) operator.number (cursor_of source.now.nodes.now at) operator.place operator.op (the_term left.now) (the_term right.now)) }
 {
-    let sort = sort_of(op);
-    match sort {
-        Sort::Logic => check_logic_of_both(
-            source, context, marks, direction, number, at, place, op, left, right,
-        ),
-        Sort::Arithmetic => match direction {
-            Some(wanted) => check_both_against(
-                source, context, marks, wanted, number, at, place, op, left, right,
-            ),
-            None => check_both(source, context, marks, number, at, place, op, left, right),
-        },
-        Sort::Equality | Sort::Order => check_comparison(
-            source, context, marks, direction, number, at, place, op, sort, left, right,
-        ),
+    if is_by_right(direction, operator.sort, is_literal(left)) {
+        check_by_right(source, context, marks, direction, operator, at, left, right)
+    } else {
+        check_by_left(source, context, marks, direction, operator, at, left, right)
     }
 }
 
-// A truth value of two.
+// The same, whose first operand is checked first.
 #[cycle(check)]
-fn check_logic_of_both(
+fn check_by_left(
     source: &Source,
     context: &[Entry],
     marks: &[Mark],
     direction: Option<&Ty>,
-    number: u64,
+    operator: Operator,
     at: Cursor,
-    place: Place,
-    op: Op,
-    left: &Term<Place>,
-    right: &Term<Place>,
+    first: &Term<Place>,
+    second: &Term<Place>,
 ) -> Result<Got, CertFault>
-    ensures { Agrees (got_in source.now.nodes.now) result (forms.logic_of_both (map function_of source.now.functions.now) (bounds_of source.now.vars.now) marks.now (context_of (bounds_of source.now.vars.now) context.now) (way_of (option_copied direction.entry)) number (cursor_of source.now.nodes.now at) place op (the_term left.now) (the_term right.now)) }
+    ensures { Agrees (got_in source.now.nodes.now) result (forms.operands_left (map function_of source.now.functions.now) (bounds_of source.now.vars.now) (the_sort operator.sort) marks.now (context_of (bounds_of source.now.vars.now) context.now) (way_of (option_copied direction.entry)) operator.number (cursor_of source.now.nodes.now at) operator.place operator.op (the_term first.now) (the_term second.now)) }
 {
-    let first = check_first(source, context, marks, Some(&Ty::Bool), at, left)?;
-    let second = check_second(source, context, marks, Some(&Ty::Bool), first.at, right)?;
-    if !meets(direction, &Ty::Bool) {
-        return Err(CertFault::C2(number));
-    }
-    Ok(operated_both(source, marks, op, place, Ty::Bool, first, second)?)
+    let side = firsts(source, marks, context)?;
+    let left = check_operand(source, side.as_slice(), direction, operator, at, first)?;
+    let right = check_right(source, context, marks, direction, operator, &left, second)?;
+    end_by_left(source, marks, direction, operator, left, right)
 }
 
-// A word of two that is checked against its type.
+// The same, whose right operand guides a literal, which is reached before it.
 #[cycle(check)]
-fn check_both_against(
+fn check_by_right(
     source: &Source,
     context: &[Entry],
     marks: &[Mark],
-    wanted: &Ty,
-    number: u64,
+    direction: Option<&Ty>,
+    operator: Operator,
     at: Cursor,
-    place: Place,
-    op: Op,
-    left: &Term<Place>,
-    right: &Term<Place>,
+    literal: &Term<Place>,
+    part: &Term<Place>,
 ) -> Result<Got, CertFault>
-    ensures { Agrees (got_in source.now.nodes.now) result (forms.both_against (map function_of source.now.functions.now) (bounds_of source.now.vars.now) marks.now (context_of (bounds_of source.now.vars.now) context.now) (type_of wanted.now) number (cursor_of source.now.nodes.now at) place op (the_term left.now) (the_term right.now)) }
-{
-    if !is_word(wanted) {
-        return Err(CertFault::C2(number));
-    }
-    let first = check_first(source, context, marks, Some(wanted), at, left)?;
-    let second = check_second(source, context, marks, Some(wanted), first.at, right)?;
-    let ty = wanted.copy(source.alloc)?;
-    Ok(operated_both(source, marks, op, place, ty, first, second)?)
-}
-
-// A word of two that is synthesised.
-#[cycle(check)]
-fn check_both(
-    source: &Source,
-    context: &[Entry],
-    marks: &[Mark],
-    number: u64,
-    at: Cursor,
-    place: Place,
-    op: Op,
-    left: &Term<Place>,
-    right: &Term<Place>,
-) -> Result<Got, CertFault>
-    ensures { Agrees (got_in source.now.nodes.now) result (forms.both_by (map function_of source.now.functions.now) (bounds_of source.now.vars.now) (literal_of (the_term left.now)) marks.now (context_of (bounds_of source.now.vars.now) context.now) number (cursor_of source.now.nodes.now at) place op (the_term left.now) (the_term right.now)) }
-{
-    if is_literal(left) {
-        check_both_by_right(source, context, marks, number, at, place, op, left, right)
-    } else {
-        check_both_by_left(source, context, marks, number, at, place, op, left, right)
-    }
-}
-
-// The same, whose guide is the left operand.
-#[cycle(check)]
-fn check_both_by_left(
-    source: &Source,
-    context: &[Entry],
-    marks: &[Mark],
-    number: u64,
-    at: Cursor,
-    place: Place,
-    op: Op,
-    left: &Term<Place>,
-    right: &Term<Place>,
-) -> Result<Got, CertFault>
-    ensures { Agrees (got_in source.now.nodes.now) result (forms.both_by (map function_of source.now.functions.now) (bounds_of source.now.vars.now) false marks.now (context_of (bounds_of source.now.vars.now) context.now) number (cursor_of source.now.nodes.now at) place op (the_term left.now) (the_term right.now)) }
-{
-    let first = check_first(source, context, marks, None, at, left)?;
-    if !is_word(first.ty()) {
-        return Err(CertFault::C2(number));
-    }
-    let second = check_second(source, context, marks, Some(first.ty()), first.at, right)?;
-    let ty = first.ty().copy(source.alloc)?;
-    Ok(operated_both(source, marks, op, place, ty, first, second)?)
-}
-
-// The same, whose guide is the right operand of a literal.
-#[cycle(check)]
-fn check_both_by_right(
-    source: &Source,
-    context: &[Entry],
-    marks: &[Mark],
-    number: u64,
-    at: Cursor,
-    place: Place,
-    op: Op,
-    left: &Term<Place>,
-    right: &Term<Place>,
-) -> Result<Got, CertFault>
-    ensures { Agrees (got_in source.now.nodes.now) result (forms.both_by (map function_of source.now.functions.now) (bounds_of source.now.vars.now) true marks.now (context_of (bounds_of source.now.vars.now) context.now) number (cursor_of source.now.nodes.now at) place op (the_term left.now) (the_term right.now)) }
+    ensures { Agrees (got_in source.now.nodes.now) result (forms.operands_right (map function_of source.now.functions.now) (bounds_of source.now.vars.now) (the_sort operator.sort) marks.now (context_of (bounds_of source.now.vars.now) context.now) (way_of (option_copied direction.entry)) operator.number (cursor_of source.now.nodes.now at) operator.place operator.op (the_term literal.now) (the_term part.now)) }
 {
     let behind = reach_left(source, context, marks, at)?;
-    let second = check_second(source, context, marks, None, behind, right)?;
-    if !is_word(second.ty()) {
-        return Err(CertFault::C2(number));
-    }
-    let first = judge_literal(
-        source,
-        left.note,
-        number_of(left),
-        second.ty(),
-        at.next,
-        behind,
-    )?;
-    let ty = second.ty().copy(source.alloc)?;
-    Ok(operated_both(source, marks, op, place, ty, first, second)?)
+    let side = seconds(source, marks, context)?;
+    let right = check_guide(source, side.as_slice(), operator, behind, part)?;
+    end_by_right(
+        source, marks, direction, operator, literal, at.next, behind, right,
+    )
 }
 
-// A comparison.
+// The right operand behind the left one.
 #[cycle(check)]
-fn check_comparison(
+fn check_right(
     source: &Source,
     context: &[Entry],
     marks: &[Mark],
     direction: Option<&Ty>,
-    number: u64,
-    at: Cursor,
-    place: Place,
-    op: Op,
-    sort: Sort,
-    left: &Term<Place>,
-    right: &Term<Place>,
+    operator: Operator,
+    first: &Got,
+    part: &Term<Place>,
 ) -> Result<Got, CertFault>
-    ensures { Agrees (got_in source.now.nodes.now) result (forms.comparison_by (map function_of source.now.functions.now) (bounds_of source.now.vars.now) (literal_of (the_term left.now)) (the_sort sort) marks.now (context_of (bounds_of source.now.vars.now) context.now) (way_of (option_copied direction.entry)) number (cursor_of source.now.nodes.now at) place op (the_term left.now) (the_term right.now)) }
+    ensures { Agrees (got_in source.now.nodes.now) result (check_of (map function_of source.now.functions.now) (bounds_of source.now.vars.now) (second_of marks.now (context_of (bounds_of source.now.vars.now) context.now)) (right_direction (the_sort operator.sort) (way_of (option_copied direction.entry)) (got_in source.now.nodes.now first.now).ty) (cursor_of source.now.nodes.now first.now.at) (the_term part.now)) }
 {
-    if is_literal(left) {
-        check_comparison_by_right(
-            source, context, marks, direction, number, at, place, op, sort, left, right,
-        )
-    } else {
-        check_comparison_by_left(
-            source, context, marks, direction, number, at, place, op, sort, left, right,
-        )
+    match operator.sort {
+        Sort::Logic => check_second(source, context, marks, Some(&Ty::Bool), first.at, part),
+        Sort::Arithmetic | Sort::Equality | Sort::Order => {
+            let way = guided_direction(direction, operator.sort, first.ty());
+            check_second(source, context, marks, way, first.at, part)
+        }
     }
-}
-
-// The same, whose guide is the left operand.
-#[cycle(check)]
-fn check_comparison_by_left(
-    source: &Source,
-    context: &[Entry],
-    marks: &[Mark],
-    direction: Option<&Ty>,
-    number: u64,
-    at: Cursor,
-    place: Place,
-    op: Op,
-    sort: Sort,
-    left: &Term<Place>,
-    right: &Term<Place>,
-) -> Result<Got, CertFault>
-    ensures { Agrees (got_in source.now.nodes.now) result (forms.comparison_by (map function_of source.now.functions.now) (bounds_of source.now.vars.now) false (the_sort sort) marks.now (context_of (bounds_of source.now.vars.now) context.now) (way_of (option_copied direction.entry)) number (cursor_of source.now.nodes.now at) place op (the_term left.now) (the_term right.now)) }
-{
-    let first = check_first(source, context, marks, None, at, left)?;
-    if !takes(sort, first.ty()) {
-        return Err(CertFault::C2(number));
-    }
-    let second = check_second(source, context, marks, Some(first.ty()), first.at, right)?;
-    if !meets(direction, &Ty::Bool) {
-        return Err(CertFault::C2(number));
-    }
-    Ok(operated_both(source, marks, op, place, Ty::Bool, first, second)?)
-}
-
-// The same, whose guide is the right operand of a literal.
-#[cycle(check)]
-fn check_comparison_by_right(
-    source: &Source,
-    context: &[Entry],
-    marks: &[Mark],
-    direction: Option<&Ty>,
-    number: u64,
-    at: Cursor,
-    place: Place,
-    op: Op,
-    sort: Sort,
-    left: &Term<Place>,
-    right: &Term<Place>,
-) -> Result<Got, CertFault>
-    ensures { Agrees (got_in source.now.nodes.now) result (forms.comparison_by (map function_of source.now.functions.now) (bounds_of source.now.vars.now) true (the_sort sort) marks.now (context_of (bounds_of source.now.vars.now) context.now) (way_of (option_copied direction.entry)) number (cursor_of source.now.nodes.now at) place op (the_term left.now) (the_term right.now)) }
-{
-    let behind = reach_left(source, context, marks, at)?;
-    let second = check_second(source, context, marks, None, behind, right)?;
-    if !takes(sort, second.ty()) {
-        return Err(CertFault::C2(number));
-    }
-    let first = judge_literal(
-        source,
-        left.note,
-        number_of(left),
-        second.ty(),
-        at.next,
-        behind,
-    )?;
-    if !meets(direction, &Ty::Bool) {
-        return Err(CertFault::C2(number));
-    }
-    Ok(operated_both(source, marks, op, place, Ty::Bool, first, second)?)
 }
 
 // An application.
@@ -637,15 +389,19 @@ fn check_app(
 {
     let split = reach_split(source, context, Node::App, at)?;
     let first = check_first(source, context, split.marks, None, split.at, fun)?;
-    let Ty::Arrow(from, to) = first.ty() else {
+    let Ty::Arrow(from, _) = first.ty() else {
         return Err(CertFault::C2(at.next));
     };
     let second = check_second(source, context, split.marks, Some(from), first.at, arg)?;
-    if !meets(direction, to) {
-        return Err(CertFault::C2(at.next));
-    }
-    let ty = to.copy(source.alloc)?;
-    Ok(app_node(source, split.marks, place, ty, first, second)?)
+    end_app(
+        source,
+        split.marks,
+        direction,
+        at.next,
+        place,
+        first,
+        second,
+    )
 }
 
 // A `let`.
@@ -662,18 +418,10 @@ fn check_let(
 ) -> Result<Got, CertFault>
     ensures { Agrees (got_in source.now.nodes.now) result (forms.let_by (map function_of source.now.functions.now) (bounds_of source.now.vars.now) (context_of (bounds_of source.now.vars.now) context.now) (way_of (option_copied direction.entry)) (cursor_of source.now.nodes.now at) place binder (the_term value.now) (the_term body.now)) }
 {
-    let split = reach_split(source, context, Node::Let, at)?;
-    let first = check_first(source, context, split.marks, None, split.at, value)?;
-    let second = check_opened(
-        source,
-        context,
-        split.marks,
-        first.ty(),
-        direction,
-        first.at,
-        body,
-    )?;
-    Ok(let_node(source, split.marks, place, binder, first, second)?)
+    let Split { marks, at } = reach_split(source, context, Node::Let, at)?;
+    let got = check_first(source, context, marks, None, at, value)?;
+    let second = check_opened(source, context, marks, got.ty(), direction, got.at, body)?;
+    let_node(source, marks, place, binder, got, second)
 }
 
 // A `let!`.
@@ -692,20 +440,13 @@ fn check_let_bang(
     ensures { Agrees (got_in source.now.nodes.now) result (forms.let_bang_by (map function_of source.now.functions.now) (bounds_of source.now.vars.now) (context_of (bounds_of source.now.vars.now) context.now) (way_of (option_copied direction.entry)) (cursor_of source.now.nodes.now at) place observers.now binder (the_term value.now) (the_term body.now)) }
 {
     let split = reach_observed(source, context, observers, at)?;
-    let first = check_first(source, context, split.marks, None, split.at, value)?;
-    if !kinds_of(first.ty(), source.vars).escape {
+    let marks = split.marks;
+    let got = check_first(source, context, marks, None, split.at, value)?;
+    if !kinds_of(got.ty(), source.vars).escape {
         return Err(CertFault::C2(at.next));
     }
-    let second = check_opened(
-        source,
-        context,
-        split.marks,
-        first.ty(),
-        direction,
-        first.at,
-        body,
-    )?;
-    Ok(let_bang_node(source, split.marks, place, observers, binder, first, second)?)
+    let second = check_opened(source, context, marks, got.ty(), direction, got.at, body)?;
+    let_bang_node(source, marks, place, observers, binder, got, second)
 }
 
 // A conditional.
@@ -722,19 +463,12 @@ fn check_if(
 ) -> Result<Got, CertFault>
     ensures { Agrees (got_in source.now.nodes.now) result (forms.if_by (map function_of source.now.functions.now) (bounds_of source.now.vars.now) (context_of (bounds_of source.now.vars.now) context.now) (way_of (option_copied direction.entry)) (cursor_of source.now.nodes.now at) place (the_term test.now) (the_term first.now) (the_term second.now)) }
 {
-    let split = reach_split(source, context, Node::If, at)?;
-    let part = check_first(
-        source,
-        context,
-        split.marks,
-        Some(&Ty::Bool),
-        split.at,
-        test,
-    )?;
-    let one = check_second(source, context, split.marks, direction, part.at, first)?;
+    let Split { marks, at } = reach_split(source, context, Node::If, at)?;
+    let part = check_first(source, context, marks, Some(&Ty::Bool), at, test)?;
+    let one = check_second(source, context, marks, direction, part.at, first)?;
     let way = other_way(direction, one.ty());
-    let other = check_second(source, context, split.marks, way, one.at, second)?;
-    Ok(if_node(source, split.marks, place, part, one, other)?)
+    let other = check_second(source, context, marks, way, one.at, second)?;
+    if_node(source, marks, place, part, one, other)
 }
 
 // A value of a variant type.
@@ -756,8 +490,7 @@ fn check_con(
     };
     let held = alternative_type(source, at.next, name, ty)?;
     let got = check_term(source, context, Some(&held), behind, part)?;
-    let ty = ty.copy(source.alloc)?;
-    Ok(con_node(source, place, ty, name, got)?)
+    con_node(source, place, ty, name, got)
 }
 
 // A match on one alternative.
@@ -777,41 +510,10 @@ fn check_case(
     ensures { Agrees (got_in source.now.nodes.now) result (forms.case_by (map function_of source.now.functions.now) (bounds_of source.now.vars.now) (context_of (bounds_of source.now.vars.now) context.now) (way_of (option_copied direction.entry)) (cursor_of source.now.nodes.now at) place (the_term value.now) alternative.now binder (the_term first.now) (the_term second.now)) }
 {
     let split = reach_split(source, context, Node::Case, at)?;
-    let part = check_first(source, context, split.marks, None, split.at, value)?;
+    let marks = split.marks;
+    let part = check_first(source, context, marks, None, split.at, value)?;
     let held = alternative_type(source, at.next, &alternative.name, part.ty())?;
-    check_matched(
-        source,
-        context,
-        split.marks,
-        direction,
-        place,
-        alternative,
-        binder,
-        part,
-        &held,
-        first,
-        second,
-    )
-}
-
-// The branches of a match, whose first one gets a value of this type.
-#[cycle(check)]
-fn check_matched(
-    source: &Source,
-    context: &[Entry],
-    marks: &[Mark],
-    direction: Option<&Ty>,
-    place: Place,
-    alternative: &At,
-    binder: Place,
-    part: Got,
-    held: &Ty,
-    first: &Term<Place>,
-    second: &Term<Place>,
-) -> Result<Got, CertFault>
-    ensures { Agrees (got_in source.now.nodes.now) result (forms.matched_by (map function_of source.now.functions.now) (bounds_of source.now.vars.now) marks.now (context_of (bounds_of source.now.vars.now) context.now) (way_of (option_copied direction.entry)) place alternative.now binder (the_term first.now) (the_term second.now) (got_in source.now.nodes.now part) (type_of held.now)) }
-{
-    let one = check_opened(source, context, marks, held, direction, part.at, first)?;
+    let one = check_opened(source, context, marks, &held, direction, part.at, first)?;
     check_other(
         source,
         context,
@@ -842,10 +544,11 @@ fn check_other(
 ) -> Result<Got, CertFault>
     ensures { Agrees (got_in source.now.nodes.now) result (forms.other_by (map function_of source.now.functions.now) (bounds_of source.now.vars.now) marks.now (context_of (bounds_of source.now.vars.now) context.now) (way_of (option_copied direction.entry)) place alternative.now binder (the_term second.now) (got_in source.now.nodes.now part) (got_in source.now.nodes.now one)) }
 {
-    let left = with_part(source.alloc, &alternative.name, true, part.ty())?;
+    let left = with_part(source.alloc, &alternative.name, true, part.ty());
+    let left = boxed(source.alloc, left)?;
     let way = other_way(direction, one.ty());
     let other = check_opened(source, context, marks, &left, way, one.at, second)?;
-    Ok(case_node(source, marks, place, alternative, binder, part, one, other)?)
+    case_node(source, marks, place, alternative, binder, part, one, other)
 }
 
 // A match on the last alternative.
@@ -863,11 +566,10 @@ fn check_esac(
 {
     let behind = reach_leaf(source, Node::Esac, at)?;
     let got = check_term(source, context, None, behind, part)?;
-    let ty = last_type(source, at.next, direction, &alternative.name, got.ty())?;
-    Ok(esac_node(source, place, ty, alternative, got)?)
+    end_esac(source, direction, at.next, place, alternative, got)
 }
 
-// A record.
+// A record, whose fields are those of the type that is checked against, if any is.
 #[cycle(check)]
 fn check_struct(
     source: &Source,
@@ -879,61 +581,16 @@ fn check_struct(
 ) -> Result<Got, CertFault>
     ensures { Agrees (got_in source.now.nodes.now) result (forms.struct_by (map function_of source.now.functions.now) (bounds_of source.now.vars.now) (context_of (bounds_of source.now.vars.now) context.now) (way_of (option_copied direction.entry)) (cursor_of source.now.nodes.now at) place (to_named (map the_field fields.now))) }
 {
-    let strings = reach_record(source, context, fields, at)?;
-    match direction {
-        Some(wanted) => check_record(source, context, wanted, at.next, strings, place, fields),
-        None => check_own_record(source, context, strings, place, fields),
+    let Strings {
+        strings,
+        at: behind,
+    } = reach_record(source, context, fields, at)?;
+    if !may_be_made_of(direction, fields) {
+        return Err(CertFault::C2(at.next));
     }
-}
-
-// A record that is checked against its type.
-#[cycle(check)]
-fn check_record(
-    source: &Source,
-    context: &[Entry],
-    wanted: &Ty,
-    number: u64,
-    strings: Strings,
-    place: Place,
-    fields: &Items<FieldTerm<Place>>,
-) -> Result<Got, CertFault>
-    ensures { Agrees (got_in source.now.nodes.now) result (forms.record_from (map function_of source.now.functions.now) (bounds_of source.now.vars.now) (context_of (bounds_of source.now.vars.now) context.now) (Some (type_of wanted.now)) number (strings_in source.now.nodes.now strings.entry) place (to_named (map the_field fields.now))) }
-{
-    if !is_made_of(wanted, fields) {
-        return Err(CertFault::C2(number));
-    }
-    let made = check_fields(
-        source,
-        context,
-        parts_of(Some(wanted)),
-        strings.strings,
-        strings.at,
-        fields.as_slice(),
-    )?;
-    let ty = wanted.copy(source.alloc)?;
-    Ok(struct_node(source, strings.strings, place, ty, made)?)
-}
-
-// A record of the type that its fields make.
-#[cycle(check)]
-fn check_own_record(
-    source: &Source,
-    context: &[Entry],
-    strings: Strings,
-    place: Place,
-    fields: &Items<FieldTerm<Place>>,
-) -> Result<Got, CertFault>
-    ensures { Agrees (got_in source.now.nodes.now) result (forms.record_from (map function_of source.now.functions.now) (bounds_of source.now.vars.now) (context_of (bounds_of source.now.vars.now) context.now) None 0 (strings_in source.now.nodes.now strings.entry) place (to_named (map the_field fields.now))) }
-{
-    let made = check_fields(
-        source,
-        context,
-        parts_of(None),
-        strings.strings,
-        strings.at,
-        fields.as_slice(),
-    )?;
-    Ok(record_node(source, strings.strings, place, made)?)
+    let wanted = parts_of(direction);
+    let made = check_fields(source, context, wanted, strings, behind, fields.as_slice())?;
+    end_struct(source, direction, strings, place, made)
 }
 
 // Fields in their order, each against the part of a record type that stands where it does, over the mark strings that are left.
@@ -969,9 +626,7 @@ fn check_last_field(
     ensures { Agrees (fields_in source.now.nodes.now) result (forms.last_field (map function_of source.now.functions.now) (bounds_of source.now.vars.now) (context_of (bounds_of source.now.vars.now) context.now) (part_directions (to_parts (map part_of wanted.now))) (cursor_of source.now.nodes.now at) field.now.name (the_term field.now.term)) }
 {
     let got = check_term(source, context, next_wanted(wanted), at, &field.term)?;
-    let mut made = no_fields(source, got.at);
-    put_in_front(source, &field.name, got, &mut made)?;
-    Ok(made)
+    last_in_front(source, &field.name, got)
 }
 
 // A field and the later ones, with the first of the mark strings between them.
@@ -989,9 +644,8 @@ fn check_more_fields(
 {
     let marks = next_marks(strings);
     let got = check_first(source, context, marks, next_wanted(wanted), at, &field.term)?;
-    let mut later = check_later_fields(source, context, marks, wanted, strings, got.at, rest)?;
-    put_in_front(source, &field.name, got, &mut later)?;
-    Ok(later)
+    let later = check_later_fields(source, context, marks, wanted, strings, got.at, rest)?;
+    in_front(source, &field.name, got, later)
 }
 
 // The later ones.
@@ -1033,8 +687,7 @@ fn check_member(
 {
     let behind = reach_leaf(source, Node::Member, at)?;
     let got = check_term(source, context, None, behind, part)?;
-    let ty = member_type(source, at.next, direction, &field.name, got.ty())?;
-    Ok(member_node(source, place, ty, field, got)?)
+    end_member(source, direction, at.next, place, field, got)
 }
 
 // A take.
@@ -1054,29 +707,13 @@ fn check_take(
     ensures { Agrees (got_in source.now.nodes.now) result (forms.take_by (map function_of source.now.functions.now) (bounds_of source.now.vars.now) (context_of (bounds_of source.now.vars.now) context.now) (way_of (option_copied direction.entry)) (cursor_of source.now.nodes.now at) place (the_term value.now) field.now rest binder (the_term body.now)) }
 {
     let split = reach_split(source, context, Node::Take, at)?;
-    let first = check_first(source, context, split.marks, None, split.at, value)?;
+    let marks = split.marks;
+    let first = check_first(source, context, marks, None, split.at, value)?;
     let held = taken_type(source, at.next, &field.name, first.ty())?;
-    let left = with_part(source.alloc, &field.name, true, first.ty())?;
-    let second = check_opened_twice(
-        source,
-        context,
-        split.marks,
-        &left,
-        &held,
-        direction,
-        first.at,
-        body,
+    let second = check_taken(
+        source, context, marks, direction, &first, field, &held, body,
     )?;
-    Ok(take_node(
-        source,
-        split.marks,
-        place,
-        field,
-        rest,
-        binder,
-        first,
-        second,
-    )?)
+    take_node(source, marks, place, field, rest, binder, first, second)
 }
 
 // A put.
@@ -1094,18 +731,12 @@ fn check_put(
     ensures { Agrees (got_in source.now.nodes.now) result (forms.put_by (map function_of source.now.functions.now) (bounds_of source.now.vars.now) (context_of (bounds_of source.now.vars.now) context.now) (way_of (option_copied direction.entry)) (cursor_of source.now.nodes.now at) place (the_term value.now) field.now (the_term part.now)) }
 {
     let split = reach_split(source, context, Node::Put, at)?;
-    let first = check_first(source, context, split.marks, None, split.at, value)?;
+    let marks = split.marks;
+    let first = check_first(source, context, marks, None, split.at, value)?;
     let held = put_type(source, at.next, &field.name, first.ty())?;
-    let second = check_second(source, context, split.marks, Some(&held), first.at, part)?;
+    let second = check_second(source, context, marks, Some(&held), first.at, part)?;
     end_put(
-        source,
-        split.marks,
-        direction,
-        at.next,
-        place,
-        field,
-        first,
-        second,
+        source, marks, direction, at.next, place, field, first, second,
     )
 }
 
@@ -1126,11 +757,7 @@ fn check_cast(
         return Err(CertFault::C2(at.next));
     };
     let got = check_term(source, context, None, behind, part)?;
-    if !widens(got.ty(), ty) {
-        return Err(CertFault::C2(at.next));
-    }
-    let ty = ty.copy(source.alloc)?;
-    Ok(cast_node(source, place, ty, got)?)
+    end_cast(source, ty, at.next, place, got)
 }
 
 // A term with its type written.
@@ -1151,8 +778,5 @@ fn check_annot(
         return Err(CertFault::C2(at.next));
     }
     let got = check_term(source, context, Some(&arg.ty), behind, part)?;
-    if !meets(direction, &arg.ty) {
-        return Err(CertFault::C2(at.next));
-    }
-    Ok(annot_node(source, place, arg, got)?)
+    end_annot(source, direction, at.next, place, arg, got)
 }

@@ -1,5 +1,5 @@
 -- The events of a body, over all nodes of its function.
-use Rattle.std.proofs.Common.{◌≡◌, ℕ, true, Some, List, [], ◌∷◌, ◌++◌, length, drop, refl, sym, ap, ◌∙◌, subst, append-nil}
+use Rattle.std.proofs.Common.{◌≡◌, ℕ, Bool, true, Some, List, [], ◌∷◌, ◌++◌, length, drop, refl, sym, ap, ◌∙◌, subst, append-nil}
 use Rattle.cg_base.specs.declared.kind.Kinds.{Kinds}
 use Rattle.cg_base.specs.declared.place.Place.{Place}
 use Rattle.cg_base.specs.Types.{Tau}
@@ -24,7 +24,8 @@ use Rattle.cg_check_laws.proofs.Clean.{Of, Within}
 use Rattle.cg_check_laws.proofs.Complete as laws
 use Rattle.cg_check_laws.proofs.ErasedCore.{erased_core}
 use Rattle.cg_certcheck_laws.proofs.Complete.{complete}
-use Rattle.cg_certcheck_laws.proofs.Rows.{hold_append, hold_left, hold_right}
+use Rattle.cg_certcheck_laws.proofs.Limits.{LimitsFor}
+use Rattle.cg_certcheck_laws.proofs.Rows.{HoldFor, hold_append, hold_left, hold_right}
 use Rattle.cg_certcheck_laws.proofs.Sound.{sound}
 use Rattle.cg_check_laws.proofs.Main.{zero_is}
 
@@ -69,13 +70,14 @@ module _ (functions : List Function) (f : Function) where
       (laws.complete functions vars c (argument ∷ []) nowhere (Some result) (Some argument ∷ []) d (alone argument) (λ i lt u b. absurd (cc)) k.derives).core_is
       ∙ ap (core functions (argument ∷ []) (Some result)) k.erases
 
-  -- the events of a body hold of the nodes of any derivation that is kept, within the limit
-  pub body_complete : (body : Tree Place) (c : Tree Note) (d : Derivation) (n : ℕ) → IsKeptBody functions (kinds_of_vars f) (taken_by f.ty.ty) (given_by f.ty.ty) body c d
-      → LimitsHold (faults.events functions (kinds_of_vars f) (taken_by f.ty.ty ∷ []) nowhere (Some (given_by f.ty.ty)) body) → AllHold (body_events functions f body (nodes_of d) n)
-  body_complete body c d n k l =
+  -- the events of a body hold of the nodes of any derivation that is kept, within the limit where that is asked for
+  pub body_complete : (limited : Bool) (body : Tree Place) (c : Tree Note) (d : Derivation) (n : ℕ) → IsKeptBody functions (kinds_of_vars f) (taken_by f.ty.ty) (given_by f.ty.ty) body c d
+      → LimitsFor limited (faults.events functions (kinds_of_vars f) (taken_by f.ty.ty ∷ []) nowhere (Some (given_by f.ty.ty)) body)
+      → HoldFor limited (body_events functions f body (nodes_of d) n)
+  body_complete limited body c d n k l =
       let vars = kinds_of_vars f in
       let argument = taken_by f.ty.ty in
       let result = given_by f.ty.ty in
       let h = subst (λ z. Derives functions vars (Some argument ∷ []) d (Some result) z) (core_is vars argument result body c d k) k.derives in
-      let r = complete functions vars body (Some argument ∷ []) (argument ∷ []) (Some result) (nodes_of d) n d [] nowhere (alone argument) (sym (append-nil (nodes_of d))) h l in
-      hold_append (events functions vars (Some argument ∷ []) (argument ∷ []) (Some result) (nodes_of d) n body) _ r.holds (ap is_over r.left, tt)
+      let r = complete functions vars limited body (Some argument ∷ []) (argument ∷ []) (Some result) (nodes_of d) n d [] nowhere (alone argument) (sym (append-nil (nodes_of d))) h l in
+      hold_append limited (events functions vars (Some argument ∷ []) (argument ∷ []) (Some result) (nodes_of d) n body) _ r.holds (ap is_over r.left, tt)

@@ -13,11 +13,11 @@ use Rattle.cg_core.specs.Derivations.{Derivation, done}
 use Rattle.cg_core.specs.Kernels.{Function}
 use Rattle.cg_core.specs.Terms.{Tree, term, Shape, var, unit, bool, lit, fun, Arg}
 use Rattle.cg_faults.specs.Events as faults
-use Rattle.cg_faults.specs.Events.{Before, LimitsHold}
+use Rattle.cg_faults.specs.Events.{Before}
 use Rattle.cg_faults.specs.Plain.{plain_at, plain_in, mentioned}
 use Rattle.cg_kinds.specs.Kinds.{or_unit}
 use Rattle.cg_check_def.specs.NormalForm.{core}
-use Rattle.cg_certcheck_def.specs.Events.{AllHold, events, events_shape, size, size_below, meets}
+use Rattle.cg_certcheck_def.specs.Events.{events, events_shape, size, size_below, meets}
 use Rattle.cg_certcheck_def.specs.Tests.{is_present, drops_all, drops_but}
 use Rattle.cg_typing.specs.Contexts.{Context, look}
 use Rattle.cg_typing.specs.Functions.{asked_by, are_good_arguments}
@@ -25,30 +25,31 @@ use Rattle.cg_typing.specs.Parts.{in_range}
 use Rattle.cg_typing.specs.Rules.{Derives}
 use Rattle.cg_check_laws.proofs.Basics.{look_within}
 use Rattle.cg_check_laws.proofs.Clean.{Of, Within}
+use Rattle.cg_certcheck_laws.proofs.Limits.{LimitsFor}
 use Rattle.cg_certcheck_laws.proofs.MarkTests.{three_and, are_drops, are_others}
 use Rattle.cg_certcheck_laws.proofs.Nodes.{given_node}
-use Rattle.cg_certcheck_laws.proofs.Rows.{is_met}
+use Rattle.cg_certcheck_laws.proofs.Rows.{HoldFor, is_met}
 use Rattle.cg_check_laws.proofs.SameTypes.{and_refl as both_and}
 use Rattle.cg_check_laws.proofs.CompleteParts.{in_range_ok as ranged_ok}
 
-module _ (functions : List Function) (vars : List Kinds) where
+module _ (functions : List Function) (vars : List Kinds) (limited : Bool) where
   -- no event of a term fails, and behind its nodes these are left
   pub record Fine (g : Context) (p : List Tau) (dir : Option Tau) (ns : List CertNode) (n : ℕ) (e : Tree Place) (rest : List CertNode) : Type 0 where
-    pub holds : AllHold (events functions vars g p dir ns n e)
+    pub holds : HoldFor limited (events functions vars g p dir ns n e)
     pub left : drop (size e) ns ≡ rest
 
   abbrev pub Complete : Tree Place → Type 0
   Complete e = (g : Context) (p : List Tau) (dir : Option Tau) (ns : List CertNode) (n : ℕ) (d : Derivation) (rest : List CertNode) (b : Before) → Within g p → ns ≡ nodes_of d ++ rest
-      → Derives functions vars g d dir (core functions p dir e) → LimitsHold (faults.events functions vars p b dir e) → Fine g p dir ns n e rest
+      → Derives functions vars g d dir (core functions p dir e) → LimitsFor limited (faults.events functions vars p b dir e) → Fine g p dir ns n e rest
 
   -- the same by the events of its form, without the limit on its own type
   pub record FineShape (g : Context) (p : List Tau) (dir : Option Tau) (n : ℕ) (s : Shape Place) (rest ns : List CertNode) : Type 0 where
-    pub holds : AllHold (events_shape functions vars g p dir ns n s)
+    pub holds : HoldFor limited (events_shape functions vars g p dir ns n s)
     pub left : drop (suc (size_below s)) ns ≡ rest
 
   abbrev pub CompleteShape : Place → Shape Place → Type 0
   CompleteShape a s = (g : Context) (p : List Tau) (dir : Option Tau) (ns : List CertNode) (n : ℕ) (d : Derivation) (rest : List CertNode) (b : Before) → Within g p → ns ≡ nodes_of d ++ rest
-      → Derives functions vars g d dir (core functions p dir (term a s)) → LimitsHold (faults.events_shape functions vars p b dir a s) → FineShape g p dir n s rest ns
+      → Derives functions vars g d dir (core functions p dir (term a s)) → LimitsFor limited (faults.events_shape functions vars p b dir a s) → FineShape g p dir n s rest ns
 
   pub complete_var : (a : Place) (i : ℕ) → CompleteShape a (var i)
   complete_var a i g p dir ns n d rest b w q h l =

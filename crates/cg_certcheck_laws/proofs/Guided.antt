@@ -20,7 +20,7 @@ module _ (functions : List Function) (vars : List Kinds) (g : Context) (p : List
       → IsGuided (λ way. events functions vars g p way ns n l) (guided_reached vars n ns g) (guided_number n (value_of l))
   guided (term a (lit v)) q = record {
     together = λ t r m. (r.0, (r.1.0, (both_and (drops_all vars g) (in_range v t) r.1.1.0 m.0, (m.1.0, tt))));
-    reached = λ t h. (h.0, (h.1.0, ((and_both (drops_all vars g) (in_range v t) h.1.1.0).0, tt)));
-    judged = λ t h. ((and_both (drops_all vars g) (in_range v t) h.1.1.0).1, (h.1.1.1.0, tt));
+    reached = λ limited t h. (h.0, (h.1.0, ((and_both (drops_all vars g) (in_range v t) h.1.1.0).0, tt)));
+    judged = λ limited t h. ((and_both (drops_all vars g) (in_range v t) h.1.1.0).1, (h.1.1.1.0, tt));
   }
   guided _ q = absurd (cc)

@@ -1,29 +1,49 @@
 -- The limit on types in events of plain typing: in lists, and in events that judge rules alone.
-use Rattle.std.proofs.Common.{ℕ, suc, Option, Some, None, List, [], ◌∷◌, ◌++◌, map}
+use Rattle.std.proofs.Common.{◌≡◌, ℕ, suc, Bool, true, false, ◌||◌, IsTrue, Option, Some, None, List, [], ◌∷◌, ◌++◌, map}
 use Rattle.cg_base.specs.declared.kind.Kinds.{Kinds}
 use Rattle.cg_base.specs.declared.place.Place.{Place}
 use Rattle.cg_base.specs.Types.{Tau}
 use Rattle.cg_core.specs.declared.term.Seen.{Seen}
 use Rattle.cg_core.specs.Kernels.{Function}
 use Rattle.cg_core.specs.Terms.{Tree, Arg}
-use Rattle.cg_faults.specs.Events.{Event, LimitsHold, Before, meets, judged, argument_events, asked_event, observer_events, scope_end, branch_events}
+use Rattle.cg_faults.specs.Events.{Event, event, LimitsHold, Before, meets, judged, argument_events, asked_event, observer_events, scope_end, branch_events}
+use Rattle.cg_faults.specs.Rule.{rule, type_limit}
 use Rattle.cg_faults.specs.Occurrences.{Sighting, sightings}
 use Rattle.cg_faults.specs.declared.rule.Rule.TheVariants.{K3}
 use Rattle.cg_typing.specs.Contexts.{drops}
 use Rattle.cg_typing.specs.Functions.{Asked, these, a_cell, an_element, nothing, next_asked, later_asked}
-use Rattle.std.proofs.Common.{Bool, ◌||◌}
 
 pub limits_append : (xs ys : List Event) → LimitsHold xs → LimitsHold ys → LimitsHold (xs ++ ys)
 limits_append [] ys h k = k
 limits_append (x ∷ xs) ys h k = (h.0, limits_append xs ys h.1 k)
 
-pub limits_left : (xs ys : List Event) → LimitsHold (xs ++ ys) → LimitsHold xs
-limits_left [] ys h = tt
-limits_left (x ∷ xs) ys h = (h.0, limits_left xs ys h.1)
+-- the limit on types where it is asked for
+abbrev pub LimitFor : Bool → Event → Type 0
+LimitFor limited (event (rule r) place holds) = Unit {0}
+LimitFor limited (event type_limit place holds) = limited ≡ true → IsTrue holds
 
-pub limits_right : (xs ys : List Event) → LimitsHold (xs ++ ys) → LimitsHold ys
-limits_right [] ys h = h
-limits_right (x ∷ xs) ys h = limits_right xs ys h.1
+abbrev pub LimitsFor : Bool → List Event → Type 0
+LimitsFor limited [] = Unit {0}
+LimitsFor limited (x ∷ later) = LimitFor limited x × LimitsFor limited later
+
+pub limits_left : (limited : Bool) (xs ys : List Event) → LimitsFor limited (xs ++ ys) → LimitsFor limited xs
+limits_left limited [] ys h = tt
+limits_left limited (x ∷ xs) ys h = (h.0, limits_left limited xs ys h.1)
+
+pub limits_right : (limited : Bool) (xs ys : List Event) → LimitsFor limited (xs ++ ys) → LimitsFor limited ys
+limits_right limited [] ys h = h
+limits_right limited (x ∷ xs) ys h = limits_right limited xs ys h.1
+
+-- asked for it holds, and else nothing is asked
+pub limits_asked : (xs : List Event) → LimitsHold xs → LimitsFor true xs
+limits_asked [] h = tt
+limits_asked (event (rule r) place holds ∷ xs) h = (tt, limits_asked xs h.1)
+limits_asked (event type_limit place holds ∷ xs) h = (λ e. h.0, limits_asked xs h.1)
+
+pub no_limits : (xs : List Event) → LimitsFor false xs
+no_limits [] = tt
+no_limits (event (rule r) place holds ∷ xs) = (tt, no_limits xs)
+no_limits (event type_limit place holds ∷ xs) = (λ e. absurd (cc), no_limits xs)
 
 pub meets_limits : (direction : Option Tau) (place : Place) (t : Tau) → LimitsHold (meets direction place t)
 meets_limits None place t = tt

@@ -11,7 +11,7 @@ use Rattle.cg_check_def.specs.NormalForm.{operand_type}
 use Rattle.cg_certcheck_def.specs.Events.{Event, AllHold, unary_events, binary_events, meets, row}
 use Rattle.cg_typing.specs.Operators.{Sort, arithmetic, equality, order, logic, takes, gives, operand}
 use Rattle.cg_check_laws.proofs.SoundParts.{operand_is, way_is}
-use Rattle.cg_certcheck_laws.proofs.Rows.{hold_append, hold_left, hold_right, met_is, is_met}
+use Rattle.cg_certcheck_laws.proofs.Rows.{HoldFor, hold_append, hold_left, hold_right, met_is, is_met}
 use Rattle.cg_check_laws.proofs.SameTypes.{and_refl as both_and}
 use Rattle.cg_base.proofs.Truths.{both as and_both}
 
@@ -75,14 +75,14 @@ module _ (functions : List Function) (vars : List Kinds) (p : List Tau) (n : ℕ
   one sort direction = operand_type sort direction (plain functions p x)
 
   -- what the row asks of the operand: its events hold in the direction that its core has, and its type may stand there
-  pub record OneHolds (sort : Sort) (direction : Option Tau) : Type 0 where
-    pub holds : AllHold (part (operand sort direction true (one sort direction)))
+  pub record OneHolds (Hold : List Event → Type 0) (sort : Sort) (direction : Option Tau) : Type 0 where
+    pub holds : Hold (part (operand sort direction true (one sort direction)))
     pub takes : takes sort (operand_is sort (one sort direction)) ≡ true
     pub result : plain_in functions p direction whole ≡ gives sort (operand_is sort (one sort direction))
 
   -- the events say that
   pub one_holds : (sort : Sort) (direction : Option Tau) → plain functions p whole ≡ gives sort (plain functions p x)
-      → AllHold (unary_events sort direction n (plain functions p x) part) → OneHolds sort direction
+      → AllHold (unary_events sort direction n (plain functions p x) part) → OneHolds AllHold sort direction
   one_holds logic direction is h =
       record { holds = hold_left _ _ h; takes = refl; result = met_is functions p direction whole types.bool is (hold_right (part (Some types.bool)) _ h).0 }
   one_holds arithmetic (Some t) is h = record { holds = h.1; takes = h.0; result = refl }
@@ -95,21 +95,21 @@ module _ (functions : List Function) (vars : List Kinds) (p : List Tau) (n : ℕ
       record { holds = hold_left _ _ h; takes = q.0; result = met_is functions p direction whole types.bool is q.1 }
 
   -- and nothing else
-  pub one_ok : (sort : Sort) (direction : Option Tau) → OneHolds sort direction → AllHold (unary_events sort direction n (plain functions p x) part)
-  one_ok logic direction h = hold_append (part (Some types.bool)) _ h.holds (is_met functions p direction whole types.bool h.result, tt)
-  one_ok arithmetic (Some t) h = (h.takes, h.holds)
-  one_ok arithmetic None h = hold_append (part None) _ h.holds (h.takes, tt)
-  one_ok equality direction h =
-      hold_append (part None) _ h.holds (both_and (takes equality (plain functions p x)) _ h.takes (is_met functions p direction whole types.bool h.result), tt)
-  one_ok order direction h = hold_append (part None) _ h.holds (both_and (takes order (plain functions p x)) _ h.takes (is_met functions p direction whole types.bool h.result), tt)
+  pub one_ok : (limited : Bool) (sort : Sort) (direction : Option Tau) → OneHolds (HoldFor limited) sort direction → HoldFor limited (unary_events sort direction n (plain functions p x) part)
+  one_ok limited logic direction h = hold_append limited (part (Some types.bool)) _ h.holds (is_met functions p direction whole types.bool h.result, tt)
+  one_ok limited arithmetic (Some t) h = (h.takes, h.holds)
+  one_ok limited arithmetic None h = hold_append limited (part None) _ h.holds (h.takes, tt)
+  one_ok limited equality direction h =
+      hold_append limited (part None) _ h.holds (both_and (takes equality (plain functions p x)) _ h.takes (is_met functions p direction whole types.bool h.result), tt)
+  one_ok limited order direction h = hold_append limited (part None) _ h.holds (both_and (takes order (plain functions p x)) _ h.takes (is_met functions p direction whole types.bool h.result), tt)
 
 -- ---- two operands
 
 -- where the left operand is a literal, it is reached and judged as a number before and behind its guide
 pub record IsGuided (left : Option Tau → List Event) (reaches : List Event) (number : Tau → List Event) : Type 0 where
   pub together : (t : Tau) → AllHold reaches → AllHold (number t) → AllHold (left (Some t))
-  pub reached : (t : Tau) → AllHold (left (Some t)) → AllHold reaches
-  pub judged : (t : Tau) → AllHold (left (Some t)) → AllHold (number t)
+  pub reached : (limited : Bool) (t : Tau) → HoldFor limited (left (Some t)) → HoldFor limited reaches
+  pub judged : (limited : Bool) (t : Tau) → HoldFor limited (left (Some t)) → HoldFor limited (number t)
 
 module _ (functions : List Function) (vars : List Kinds) (p : List Tau) (n : ℕ) (l r whole : Tree Place) (left right : Option Tau → List Event) (reaches : List Event)
     (number : Tau → List Event) where
@@ -123,20 +123,20 @@ module _ (functions : List Function) (vars : List Kinds) (p : List Tau) (n : ℕ
   two sort direction q = common functions p l r sort direction q
 
   -- the same of both operands
-  pub record TwoHold (sort : Sort) (direction : Option Tau) (q : Bool) : Type 0 where
-    pub left_holds : AllHold (left (operand sort direction (not q) (two sort direction q)))
-    pub right_holds : AllHold (right (operand sort direction q (two sort direction q)))
+  pub record TwoHold (Hold : List Event → Type 0) (sort : Sort) (direction : Option Tau) (q : Bool) : Type 0 where
+    pub left_holds : Hold (left (operand sort direction (not q) (two sort direction q)))
+    pub right_holds : Hold (right (operand sort direction q (two sort direction q)))
     pub takes : takes sort (operand_is sort (two sort direction q)) ≡ true
     pub result : plain_in functions p direction whole ≡ gives sort (operand_is sort (two sort direction q))
 
   -- a comparison
-  compare_hold : (sort : Sort) (direction : Option Tau) (t : Tau) (first second : List Event) → AllHold first → takes sort t ≡ true → AllHold second
-      → plain_in functions p direction whole ≡ types.bool → AllHold (first ++ (row n (takes sort t) ∷ (second ++ (row n (meets direction types.bool) ∷ []))))
-  compare_hold sort direction t first second h k i is = hold_append first _ h (k, hold_append second _ i (is_met functions p direction whole types.bool is, tt))
+  compare_hold : (limited : Bool) (sort : Sort) (direction : Option Tau) (t : Tau) (first second : List Event) → HoldFor limited first → takes sort t ≡ true → HoldFor limited second
+      → plain_in functions p direction whole ≡ types.bool → HoldFor limited (first ++ (row n (takes sort t) ∷ (second ++ (row n (meets direction types.bool) ∷ []))))
+  compare_hold limited sort direction t first second h k i is = hold_append limited first _ h (k, hold_append limited second _ i (is_met functions p direction whole types.bool is, tt))
 
   -- the events say that, where the left operand is a literal that is guided as well
   pub two_hold : (sort : Sort) (direction : Option Tau) (q : Bool) → (q ≡ true → IsGuided left reaches number) → plain functions p whole ≡ gives sort (cond q b a)
-      → AllHold (binary_events sort direction n q a b left right reaches number) → TwoHold sort direction q
+      → AllHold (binary_events sort direction n q a b left right reaches number) → TwoHold AllHold sort direction q
   two_hold logic direction q guided is h =
       let h1 = hold_right (left (Some types.bool)) _ h in
       record {
@@ -189,20 +189,20 @@ module _ (functions : List Function) (vars : List Kinds) (p : List Tau) (n : ℕ
       }
 
   -- and nothing else
-  pub two_ok : (sort : Sort) (direction : Option Tau) (q : Bool) → (q ≡ true → IsGuided left reaches number) → TwoHold sort direction q
-      → AllHold (binary_events sort direction n q a b left right reaches number)
-  two_ok logic direction q guided h =
-      hold_append (left (Some types.bool)) _ h.left_holds (hold_append (right (Some types.bool)) _ h.right_holds (is_met functions p direction whole types.bool h.result, tt))
-  two_ok arithmetic (Some t) true guided h = (h.takes, hold_append (left (Some t)) _ h.left_holds h.right_holds)
-  two_ok arithmetic (Some t) false guided h = (h.takes, hold_append (left (Some t)) _ h.left_holds h.right_holds)
-  two_ok arithmetic None true guided h =
-      let g = guided refl in hold_append reaches _ (g.reached b h.left_holds) (hold_append (right None) _ h.right_holds (h.takes, g.judged b h.left_holds))
-  two_ok arithmetic None false guided h = hold_append (left None) _ h.left_holds (h.takes, h.right_holds)
-  two_ok equality direction true guided h =
+  pub two_ok : (limited : Bool) (sort : Sort) (direction : Option Tau) (q : Bool) → (q ≡ true → IsGuided left reaches number) → TwoHold (HoldFor limited) sort direction q
+      → HoldFor limited (binary_events sort direction n q a b left right reaches number)
+  two_ok limited logic direction q guided h =
+      hold_append limited (left (Some types.bool)) _ h.left_holds (hold_append limited (right (Some types.bool)) _ h.right_holds (is_met functions p direction whole types.bool h.result, tt))
+  two_ok limited arithmetic (Some t) true guided h = (h.takes, hold_append limited (left (Some t)) _ h.left_holds h.right_holds)
+  two_ok limited arithmetic (Some t) false guided h = (h.takes, hold_append limited (left (Some t)) _ h.left_holds h.right_holds)
+  two_ok limited arithmetic None true guided h =
+      let g = guided refl in hold_append limited reaches _ (g.reached limited b h.left_holds) (hold_append limited (right None) _ h.right_holds (h.takes, g.judged limited b h.left_holds))
+  two_ok limited arithmetic None false guided h = hold_append limited (left None) _ h.left_holds (h.takes, h.right_holds)
+  two_ok limited equality direction true guided h =
       let g = guided refl in
-      hold_append reaches _ (g.reached b h.left_holds) (compare_hold equality direction b (right None) (number b) h.right_holds h.takes (g.judged b h.left_holds) h.result)
-  two_ok equality direction false guided h = compare_hold equality direction a (left None) (right (Some a)) h.left_holds h.takes h.right_holds h.result
-  two_ok order direction true guided h =
+      hold_append limited reaches _ (g.reached limited b h.left_holds) (compare_hold limited equality direction b (right None) (number b) h.right_holds h.takes (g.judged limited b h.left_holds) h.result)
+  two_ok limited equality direction false guided h = compare_hold limited equality direction a (left None) (right (Some a)) h.left_holds h.takes h.right_holds h.result
+  two_ok limited order direction true guided h =
       let g = guided refl in
-      hold_append reaches _ (g.reached b h.left_holds) (compare_hold order direction b (right None) (number b) h.right_holds h.takes (g.judged b h.left_holds) h.result)
-  two_ok order direction false guided h = compare_hold order direction a (left None) (right (Some a)) h.left_holds h.takes h.right_holds h.result
+      hold_append limited reaches _ (g.reached limited b h.left_holds) (compare_hold limited order direction b (right None) (number b) h.right_holds h.takes (g.judged limited b h.left_holds) h.result)
+  two_ok limited order direction false guided h = compare_hold limited order direction a (left None) (right (Some a)) h.left_holds h.takes h.right_holds h.result

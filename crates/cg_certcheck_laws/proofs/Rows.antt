@@ -1,9 +1,12 @@
 -- Lists of events of a certificate: what they say together and apart; and what is said where a node is reached, and of a type that is met.
-use Rattle.std.proofs.Common.{◌≡◌, Bool, true, ◌&&◌, Option, Some, None, List, [], ◌∷◌, ◌++◌, refl, ap, subst}
+use Rattle.std.proofs.Common.{◌≡◌, Bool, true, ◌&&◌, Option, Some, None, List, [], ◌∷◌, ◌++◌, IsTrue, refl, ap, subst}
+use Rattle.std.specs.Prelude.{⊤}
 use Rattle.cg_base.specs.declared.kind.Kinds.{Kinds}
 use Rattle.cg_base.specs.declared.place.Place.{Place}
 use Rattle.cg_base.specs.Types.{Tau}
 use Rattle.cg_cert.specs.declared.cert.CertNode.{CertNode}
+use Rattle.cg_cert.specs.declared.fault.CertFault.{CertFault}
+use Rattle.cg_cert.specs.declared.fault.CertFault.TheVariants.{Limit}
 use Rattle.cg_core.specs.declared.derivation.Mark.{Mark}
 use Rattle.cg_core.specs.declared.derivation.Node.{Node}
 use Rattle.cg_core.specs.declared.term.Seen.{Seen}
@@ -19,9 +22,35 @@ use Rattle.cg_check_laws.proofs.SameTypes.{same_is, same_refl}
 use Rattle.cg_certcheck_laws.proofs.MarkTests.{node_is, splits_is}
 use Rattle.cg_base.proofs.Truths.{both as and_both}
 
-pub hold_append : (xs ys : List Event) → AllHold xs → AllHold ys → AllHold (xs ++ ys)
-hold_append [] ys h k = k
-hold_append (event f b ∷ xs) ys h k = (h.0, hold_append xs ys h.1 k)
+-- what is asked of an event: that it holds, but for the limit on types where that isn't asked for
+abbrev pub Asked : Bool → CertFault → Bool → Type 0
+Asked limited (Limit limit) holds = limited ≡ true → IsTrue holds
+Asked limited fault holds = IsTrue holds
+
+abbrev pub HoldFor : Bool → List Event → Type 0
+HoldFor limited [] = ⊤
+HoldFor limited (event fault holds ∷ later) = Asked limited fault holds × HoldFor limited later
+
+pub hold_append : (limited : Bool) (xs ys : List Event) → HoldFor limited xs → HoldFor limited ys → HoldFor limited (xs ++ ys)
+hold_append limited [] ys h k = k
+hold_append limited (event f b ∷ xs) ys h k = (h.0, hold_append limited xs ys h.1 k)
+
+pub asked_left : (limited : Bool) (xs ys : List Event) → HoldFor limited (xs ++ ys) → HoldFor limited xs
+asked_left limited [] ys h = tt
+asked_left limited (event f b ∷ xs) ys h = (h.0, asked_left limited xs ys h.1)
+
+pub asked_right : (limited : Bool) (xs ys : List Event) → HoldFor limited (xs ++ ys) → HoldFor limited ys
+asked_right limited [] ys h = h
+asked_right limited (event f b ∷ xs) ys h = asked_right limited xs ys h.1
+
+-- where the limit is asked for too, no event fails
+asked_holds : (fault : CertFault) (holds : Bool) → Asked true fault holds → IsTrue holds
+asked_holds (Limit limit) holds h = h refl
+asked_holds fault holds h = h
+
+pub all_hold : (xs : List Event) → HoldFor true xs → AllHold xs
+all_hold [] h = tt
+all_hold (event f b ∷ xs) h = (asked_holds f b h.0, all_hold xs h.1)
 
 pub hold_left : (xs ys : List Event) → AllHold (xs ++ ys) → AllHold xs
 hold_left [] ys h = tt

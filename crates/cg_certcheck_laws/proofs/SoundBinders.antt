@@ -14,7 +14,7 @@ use Rattle.cg_faults.specs.Events.{after, after_seen, upto, observer_events, sco
 use Rattle.cg_faults.specs.Plain.{plain, observed}
 use Rattle.cg_certcheck_def.specs.Events.{Event, events, size, behind, marks_next}
 use Rattle.cg_typing.specs.Contexts.{Context, push, first, second, among}
-use Rattle.cg_typing.specs.Parts.{is_arrow, taken_by, given_by, is_there, is_left, is_read_only, field_in, held, with_part}
+use Rattle.cg_typing.specs.Parts.{taken_by, given_by, is_there, is_left, is_read_only, field_in, held, with_part}
 use Rattle.cg_typing.specs.Trees.{two}
 use Rattle.cg_check_laws.proofs.Basics.{length_push, length_banged}
 use Rattle.cg_check_laws.proofs.Clash.{Lawful}

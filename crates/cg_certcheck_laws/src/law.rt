@@ -1,5 +1,6 @@
 // The laws of certificates.
 ghost use Rattle.cg_certcheck_laws.specs.Laws.{EventsDecide, KeptIsListed, PassAnswersTheFirstFault};
+ghost use Rattle.cg_certcheck_laws.specs.NumberLaws.{BrokenRow, NumbersAreInRange, OutOfPlace};
 
 /// No event of a certificate over a lawful kernel fails exactly where it spells a derivation of the kernel, and no type of a node passes
 /// the limit.
@@ -17,4 +18,21 @@ pub fn pass_answers_the_first_fault()
 /// the bodies.
 pub fn kept_is_listed()
     ensures { KeptIsListed }
+{}
+
+/// C2 at node k over a lawful kernel: no certificate with the same first k nodes spells a derivation, whatever functions they stand in and
+/// whatever stands behind them.
+pub fn broken_row()
+    ensures { BrokenRow }
+{}
+
+/// C3 at node k over a lawful kernel: no certificate with the same lines in front of its node k spells a derivation, whatever stands behind
+/// them.
+pub fn out_of_place()
+    ensures { OutOfPlace }
+{}
+
+/// The number in C2 and C3 over a lawful kernel is from 1 to one more than the number of the certificate's nodes.
+pub fn numbers_are_in_range()
+    ensures { NumbersAreInRange }
 {}

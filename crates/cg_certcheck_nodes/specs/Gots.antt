@@ -4,10 +4,7 @@ use Rattle.cg_base.specs.Types.{type_of}
 use Rattle.cg_cert.specs.declared.cert.CertNode.{CertNode}
 use Rattle.cg_certcheck_nodes.specs.declared.fields.Fields.{Fields}
 use Rattle.cg_certcheck_nodes.specs.declared.got.Got.{Got as Made}
-use Rattle.cg_certcheck_nodes.specs.declared.reached.Split.{Split as Marked}
-use Rattle.cg_certcheck_nodes.specs.declared.reached.Strings.{Strings as Listed}
-use Rattle.cg_certcheck_nodes.specs.Steps.{Split, Strings}
-use Rattle.cg_certcheck_nodes.specs.View.{cursor_of}
+use Rattle.cg_certcheck_context.specs.View.{cursor_of}
 use Rattle.cg_core.specs.Derivations.{derivation_of}
 use Rattle.cg_core.specs.Kernels.{the_core}
 use Rattle.cg_certcheck_def.specs.Pass.{Got, GotFields}
@@ -16,12 +13,6 @@ use Rattle.cg_check_pieces.specs.Fields.{cores_back, parts_back, trees_back}
 -- over these nodes
 abbrev pub got_in : List CertNode → Made → Got
 got_in nodes g = record { ty = type_of g.core.value.note.ty; core = the_core g.core.value; tree = derivation_of g.tree; at = cursor_of nodes g.at }
-
-abbrev pub split_in : List CertNode → Marked → Split
-split_in nodes s = record { marks = s.marks.now; at = cursor_of nodes s.at }
-
-abbrev pub strings_in : List CertNode → Listed → Strings
-strings_in nodes s = record { marks = s.strings.now; at = cursor_of nodes s.at }
 
 -- of fields the last one comes first in each list
 abbrev pub fields_in : List CertNode → Fields → GotFields

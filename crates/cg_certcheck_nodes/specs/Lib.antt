@@ -1,5 +1,3 @@
-pub mod Contexts
 pub mod Gots
+pub mod Held
 pub mod Nodes
-pub mod Steps
-pub mod View

@@ -1,24 +1,25 @@
 // What the fields of a record come to, and the record by them (`specs/Nodes.antt`).
 #![tactic(auto, using(cg_check_pieces::proofs::FieldSteps::field_steps))]
 
-ghost use Rattle.std.specs.Prelude.{◌≡◌, IfOk, map};
+ghost use Rattle.std.specs.Prelude.{◌≡◌, IfOk, Ok, map};
 ghost use Rattle.cg_base.specs.declared.kind.Sigil.TheVariants.{U};
 ghost use Rattle.cg_base.specs.Types.{fields as record_of, part_of, to_parts, type_of};
 ghost use Rattle.cg_certcheck_nodes.specs.Gots.{fields_in, got_in};
 ghost use Rattle.cg_check_pieces.specs.Fields.{cores_back, parts_back, trees_back};
 ghost use Rattle.cg_certcheck_nodes.specs.Nodes as forms;
-ghost use Rattle.cg_certcheck_nodes.specs.View.{cursor_of};
+ghost use Rattle.cg_certcheck_context.specs.View.{Agrees, cursor_of};
 ghost use Rattle.cg_core.specs.declared.derivation.Node.TheVariants as nodes;
 ghost use Rattle.cg_core.specs.Derivations.{derivation, derivation_of, to_derivations};
 ghost use Rattle.cg_core.specs.Kernels.{the_core_field};
 ghost use Rattle.cg_core.specs.Terms.{to_named};
 ghost use Rattle.cg_certcheck_def.specs.Pass.{in_front as in_front_of, no_fields as no_fields_at};
 
-use crate::got::{Got, copied_marks, made};
-use crate::source::{Cursor, Source};
+use crate::got::{End, Got, copied_marks, finished, made};
 use cg_base::{Items, Memory, Name, Part, Place, Sigil, Ty};
-use cg_check_pieces::{add_core, add_part, add_tree, turned};
-use cg_core::{Deriv, FieldTerm, Form, Mark, Node, Typed};
+use cg_cert::CertFault;
+use cg_certcheck_context::{Cursor, Source};
+use cg_check_pieces::{add_core, add_part, add_tree, copied, turned};
+use cg_core::{Deriv, FieldTerm, Form, Mark, Node, Term, Typed};
 use std::alloc::Global;
 
 /// What the fields of a record come to, the last one first: their types by name, their cores, and their derivations; and where the pass
@@ -72,20 +73,23 @@ impl Fields {
     }
 }
 
-/// Puts a field in front of the later ones. Want of memory is its one refusal.
-pub fn put_in_front(
-    source: &Source,
-    name: &Name,
-    got: Got,
-    later: &mut Fields,
-) -> Result<(), Memory>
+// Puts a field in front of the later ones. Want of memory is its one refusal.
+fn put_in_front(source: &Source, name: &Name, got: Got, later: &mut Fields) -> Result<(), Memory>
     ensures { IfOk result (λ _. fields_in source.now.nodes.now later.new ≡ in_front_of name.now (got_in source.now.nodes.now got) (fields_in source.now.nodes.now later.old)) }
 {
     add_part(source.alloc, name, got.ty(), &mut later.parts)?;
     let (core, tree) = got.apart();
     add_core(source.alloc, name, core, &mut later.cores)?;
-    add_tree(tree, &mut later.trees)?;
-    Ok(())
+    add_tree(tree, &mut later.trees)
+}
+
+/// A field in front of the later ones. Want of memory is its one refusal.
+pub fn in_front(source: &Source, name: &Name, got: Got, later: Fields) -> Result<Fields, CertFault>
+    ensures { Agrees (fields_in source.now.nodes.now) result (Ok (in_front_of name.now (got_in source.now.nodes.now got) (fields_in source.now.nodes.now later))) }
+{
+    let mut later = later;
+    put_in_front(source, name, got, &mut later)?;
+    Ok(later)
 }
 
 /// What no fields come to, where the pass stands here. It takes no memory.
@@ -101,16 +105,20 @@ pub fn no_fields(source: &Source, at: Cursor) -> Fields
     }
 }
 
-// A record's derivation.
-fn record_tree(alloc: Global, strings: &[Items<Mark>], parts: Items<Deriv>) -> Result<Deriv, Memory>
-    ensures { IfOk result (λ tree. derivation_of tree ≡ derivation nodes.Struct strings.now (to_derivations (map derivation_of parts))) }
+// A record's derivation, and where the pass stands behind it.
+fn record_end(
+    alloc: Global,
+    strings: &[Items<Mark>],
+    parts: Items<Deriv>,
+    at: Cursor,
+) -> Result<End, Memory>
+    ensures tree { IfOk result (λ end. derivation_of end.tree ≡ derivation nodes.Struct strings.now (to_derivations (map derivation_of parts))) }
+    ensures at { IfOk result (λ end. end.at ≡ at) }
 {
     let marks = copied_strings(alloc, strings)?;
-    Ok(Deriv {
-        node: Node::Struct,
-        marks,
-        parts,
-    })
+    let node = Node::Struct;
+    let tree = Deriv { node, marks, parts };
+    Ok(End { tree, at })
 }
 
 /// A record of this type, with the mark strings that the certificate lists between its fields. Want of memory is its one refusal.
@@ -118,15 +126,16 @@ pub fn struct_node(
     source: &Source,
     strings: &[Items<Mark>],
     place: Place,
-    ty: Ty,
+    ty: &Ty,
     fields: Fields,
-) -> Result<Got, Memory>
-    ensures { IfOk result (λ got. got_in source.now.nodes.now got ≡ forms.struct_node strings.now place (type_of ty) (fields_in source.now.nodes.now fields)) }
+) -> Result<Got, CertFault>
+    ensures { Agrees (got_in source.now.nodes.now) result (Ok (forms.struct_node strings.now place (type_of ty.now) (fields_in source.now.nodes.now fields))) }
 {
+    let ty = copied(source.alloc, ty)?;
     let at = fields.at;
     let (_, cores, trees) = fields.apart();
-    let tree = record_tree(source.alloc, strings, trees)?;
-    made(source, place, ty, Form::Struct(cores), tree, at)
+    let end = record_end(source.alloc, strings, trees, at)?;
+    made(source, place, ty, Form::Struct(cores), end)
 }
 
 /// The same of the type that its fields make. Want of memory is its one refusal.
@@ -135,12 +144,14 @@ pub fn record_node(
     strings: &[Items<Mark>],
     place: Place,
     fields: Fields,
-) -> Result<Got, Memory>
-    ensures { IfOk result (λ got. got_in source.now.nodes.now got ≡ forms.struct_node strings.now place (record_of (fields_in source.now.nodes.now fields).parts U) (fields_in source.now.nodes.now fields)) }
+) -> Result<Got, CertFault>
+    ensures { Agrees (got_in source.now.nodes.now) result (Ok (forms.struct_node strings.now place (record_of (fields_in source.now.nodes.now fields).parts U) (fields_in source.now.nodes.now fields))) }
 {
     let at = fields.at;
     let (parts, cores, trees) = fields.apart();
-    let tree = record_tree(source.alloc, strings, trees)?;
+    let end = record_end(source.alloc, strings, trees, at)?;
     let ty = Ty::Fields(parts, Sigil::U);
-    made(source, place, ty, Form::Struct(cores), tree, at)
+    let note = Typed { place, ty };
+    let form = Form::Struct(cores);
+    finished(source, Term { note, form }, end)
 }

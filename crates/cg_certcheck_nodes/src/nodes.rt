@@ -2,26 +2,35 @@
 // parts below it and the marks that the certificate lists, and where the pass stands behind it.
 #![tactic(auto, using(cg_check_pieces::proofs::CoreSteps::core_steps))]
 
-ghost use Rattle.std.specs.Prelude.{◌≡◌, IfOk};
+ghost use Rattle.std.specs.Prelude.{Ok};
 ghost use Rattle.cg_base.specs.Types.{type_of};
 ghost use Rattle.cg_certcheck_nodes.specs.Gots.{got_in};
 ghost use Rattle.cg_certcheck_nodes.specs.Nodes as forms;
+ghost use Rattle.cg_certcheck_context.specs.View.{Agrees};
+ghost use Rattle.cg_check_pieces.specs.Boxed.{in_box};
 ghost use Rattle.cg_core.specs.Terms.{arg_of};
 ghost use Rattle.cg_certcheck_def.specs.Pass.{operated as operated_of, operated_both as operated_both_of};
 
 use crate::got::{Got, Pair, Single, Triple, alone, branched, made, paired};
-use crate::source::Source;
-use cg_base::{Items, Memory, Name, Place, Ty};
-use cg_check_pieces::{copied_observers, kept_while, one_operand, two_operands};
+use cg_base::{Items, Name, Place, Ty};
+use cg_cert::CertFault;
+use cg_certcheck_context::Source;
+use cg_check_pieces::{copied, copied_observers, one_operand, two_operands};
 use cg_core::{At, Form, Mark, Node, Op, Seen, TyArg};
 
 /// An operator with one operand, of this type. Want of memory is its one refusal.
-pub fn operated(source: &Source, op: Op, place: Place, ty: Ty, part: Got) -> Result<Got, Memory>
-    ensures { IfOk result (λ got. got_in source.now.nodes.now got ≡ operated_of op place (type_of ty) (got_in source.now.nodes.now part)) }
+pub fn operated(
+    source: &Source,
+    op: Op,
+    place: Place,
+    ty: Box<Ty>,
+    part: Got,
+) -> Result<Got, CertFault>
+    ensures { Agrees (got_in source.now.nodes.now) result (Ok (operated_of op place (in_box ty) (got_in source.now.nodes.now part))) }
 {
-    let (ty, Single { part, tree, at }) = kept_while(ty, alone(source.alloc, Node::Op, part))?;
-    let (ty, operands) = kept_while(ty, one_operand(source.alloc, part))?;
-    made(source, place, ty, Form::Op(op, operands), tree, at)
+    let Single { part, end } = alone(source.alloc, Node::Op, part)?;
+    let operands = one_operand(source.alloc, part)?;
+    made(source, place, ty, Form::Op(op, operands), end)
 }
 
 /// An operator with two operands, of this type, with the marks of the split between them; the pass stands where the second operand ends.
@@ -31,21 +40,15 @@ pub fn operated_both(
     marks: &[Mark],
     op: Op,
     place: Place,
-    ty: Ty,
+    ty: Box<Ty>,
     left: Got,
     right: Got,
-) -> Result<Got, Memory>
-    ensures { IfOk result (λ got. got_in source.now.nodes.now got ≡ operated_both_of marks.now op place (type_of ty) (got_in source.now.nodes.now left) (got_in source.now.nodes.now right) (got_in source.now.nodes.now right).at) }
+) -> Result<Got, CertFault>
+    ensures { Agrees (got_in source.now.nodes.now) result (Ok (operated_both_of marks.now op place (in_box ty) (got_in source.now.nodes.now left) (got_in source.now.nodes.now right) (got_in source.now.nodes.now right).at)) }
 {
-    let (ty, pair) = kept_while(ty, paired(source.alloc, Node::Op, marks, left, right))?;
-    let Pair {
-        first,
-        second,
-        tree,
-        at,
-    } = pair;
-    let (ty, operands) = kept_while(ty, two_operands(source.alloc, first, second))?;
-    made(source, place, ty, Form::Op(op, operands), tree, at)
+    let Pair { first, second, end } = paired(source.alloc, Node::Op, marks, left, right)?;
+    let operands = two_operands(source.alloc, first, second)?;
+    made(source, place, ty, Form::Op(op, operands), end)
 }
 
 /// An application, of this type, with the marks of the split between the function and the argument. Want of memory is its one refusal.
@@ -53,20 +56,14 @@ pub fn app_node(
     source: &Source,
     marks: &[Mark],
     place: Place,
-    ty: Ty,
+    ty: Box<Ty>,
     fun: Got,
     arg: Got,
-) -> Result<Got, Memory>
-    ensures { IfOk result (λ got. got_in source.now.nodes.now got ≡ forms.app_node marks.now place (type_of ty) (got_in source.now.nodes.now fun) (got_in source.now.nodes.now arg)) }
+) -> Result<Got, CertFault>
+    ensures { Agrees (got_in source.now.nodes.now) result (Ok (forms.app_node marks.now place (in_box ty) (got_in source.now.nodes.now fun) (got_in source.now.nodes.now arg))) }
 {
-    let (ty, pair) = kept_while(ty, paired(source.alloc, Node::App, marks, fun, arg))?;
-    let Pair {
-        first,
-        second,
-        tree,
-        at,
-    } = pair;
-    made(source, place, ty, Form::App(first, second), tree, at)
+    let Pair { first, second, end } = paired(source.alloc, Node::App, marks, fun, arg)?;
+    made(source, place, ty, Form::App(first, second), end)
 }
 
 /// A `let`, of its body's type, with the marks of the split between the value and the body. Want of memory is its one refusal.
@@ -77,19 +74,13 @@ pub fn let_node(
     binder: Place,
     value: Got,
     body: Got,
-) -> Result<Got, Memory>
-    ensures { IfOk result (λ got. got_in source.now.nodes.now got ≡ forms.let_node marks.now place binder (got_in source.now.nodes.now value) (got_in source.now.nodes.now body)) }
+) -> Result<Got, CertFault>
+    ensures { Agrees (got_in source.now.nodes.now) result (Ok (forms.let_node marks.now place binder (got_in source.now.nodes.now value) (got_in source.now.nodes.now body))) }
 {
-    let ty = body.ty().copy(source.alloc)?;
-    let (ty, pair) = kept_while(ty, paired(source.alloc, Node::Let, marks, value, body))?;
-    let Pair {
-        first,
-        second,
-        tree,
-        at,
-    } = pair;
+    let ty = copied(source.alloc, body.ty())?;
+    let Pair { first, second, end } = paired(source.alloc, Node::Let, marks, value, body)?;
     let form = Form::Let(binder, first, second);
-    made(source, place, ty, form, tree, at)
+    made(source, place, ty, form, end)
 }
 
 /// A `let!` that observes these variables, of its body's type, with the marks of the split between the value and the body. Want of
@@ -102,20 +93,14 @@ pub fn let_bang_node(
     binder: Place,
     value: Got,
     body: Got,
-) -> Result<Got, Memory>
-    ensures { IfOk result (λ got. got_in source.now.nodes.now got ≡ forms.let_bang_node marks.now place observers.now binder (got_in source.now.nodes.now value) (got_in source.now.nodes.now body)) }
+) -> Result<Got, CertFault>
+    ensures { Agrees (got_in source.now.nodes.now) result (Ok (forms.let_bang_node marks.now place observers.now binder (got_in source.now.nodes.now value) (got_in source.now.nodes.now body))) }
 {
     let observers = copied_observers(source.alloc, observers)?;
-    let ty = body.ty().copy(source.alloc)?;
-    let (ty, pair) = kept_while(ty, paired(source.alloc, Node::LetBang, marks, value, body))?;
-    let Pair {
-        first,
-        second,
-        tree,
-        at,
-    } = pair;
+    let ty = copied(source.alloc, body.ty())?;
+    let Pair { first, second, end } = paired(source.alloc, Node::LetBang, marks, value, body)?;
     let form = Form::LetBang(observers, binder, first, second);
-    made(source, place, ty, form, tree, at)
+    made(source, place, ty, form, end)
 }
 
 /// A conditional, of its first branch's type, with the marks of the split between the test and both branches. Want of memory is its one
@@ -127,35 +112,33 @@ pub fn if_node(
     test: Got,
     first: Got,
     second: Got,
-) -> Result<Got, Memory>
-    ensures { IfOk result (λ got. got_in source.now.nodes.now got ≡ forms.if_node marks.now place (got_in source.now.nodes.now test) (got_in source.now.nodes.now first) (got_in source.now.nodes.now second)) }
+) -> Result<Got, CertFault>
+    ensures { Agrees (got_in source.now.nodes.now) result (Ok (forms.if_node marks.now place (got_in source.now.nodes.now test) (got_in source.now.nodes.now first) (got_in source.now.nodes.now second))) }
 {
-    let ty = first.ty().copy(source.alloc)?;
-    let triple = branched(source.alloc, Node::If, marks, test, first, second);
-    let (ty, triple) = kept_while(ty, triple)?;
+    let ty = copied(source.alloc, first.ty())?;
     let Triple {
         part,
         first,
         second,
-        tree,
-        at,
-    } = triple;
-    made(source, place, ty, Form::If(part, first, second), tree, at)
+        end,
+    } = branched(source.alloc, Node::If, marks, test, first, second)?;
+    made(source, place, ty, Form::If(part, first, second), end)
 }
 
 /// A value of this variant type, whose alternative of this name holds the part. Want of memory is its one refusal.
 pub fn con_node(
     source: &Source,
     place: Place,
-    ty: Ty,
+    ty: &Ty,
     name: &Name,
     part: Got,
-) -> Result<Got, Memory>
-    ensures { IfOk result (λ got. got_in source.now.nodes.now got ≡ forms.con_node place (type_of ty) name.now (got_in source.now.nodes.now part)) }
+) -> Result<Got, CertFault>
+    ensures { Agrees (got_in source.now.nodes.now) result (Ok (forms.con_node place (type_of ty.now) name.now (got_in source.now.nodes.now part))) }
 {
-    let (ty, name) = kept_while(ty, name.copy(source.alloc))?;
-    let (ty, Single { part, tree, at }) = kept_while(ty, alone(source.alloc, Node::Con, part))?;
-    made(source, place, ty, Form::Con(name, part), tree, at)
+    let ty = copied(source.alloc, ty)?;
+    let name = name.copy(source.alloc)?;
+    let Single { part, end } = alone(source.alloc, Node::Con, part)?;
+    made(source, place, ty, Form::Con(name, part), end)
 }
 
 /// A match on one alternative, of its first branch's type, with the marks of the split between the value and both branches. Want of
@@ -169,52 +152,49 @@ pub fn case_node(
     value: Got,
     first: Got,
     second: Got,
-) -> Result<Got, Memory>
-    ensures { IfOk result (λ got. got_in source.now.nodes.now got ≡ forms.case_node marks.now place alternative.now binder (got_in source.now.nodes.now value) (got_in source.now.nodes.now first) (got_in source.now.nodes.now second)) }
+) -> Result<Got, CertFault>
+    ensures { Agrees (got_in source.now.nodes.now) result (Ok (forms.case_node marks.now place alternative.now binder (got_in source.now.nodes.now value) (got_in source.now.nodes.now first) (got_in source.now.nodes.now second))) }
 {
     let alternative = alternative.copy(source.alloc)?;
-    let ty = first.ty().copy(source.alloc)?;
-    let triple = branched(source.alloc, Node::Case, marks, value, first, second);
-    let (ty, triple) = kept_while(ty, triple)?;
+    let ty = copied(source.alloc, first.ty())?;
     let Triple {
         part,
         first,
         second,
-        tree,
-        at,
-    } = triple;
+        end,
+    } = branched(source.alloc, Node::Case, marks, value, first, second)?;
     let form = Form::Case(part, alternative, binder, first, second);
-    made(source, place, ty, form, tree, at)
+    made(source, place, ty, form, end)
 }
 
 /// A match on the last alternative, of this type. Want of memory is its one refusal.
 pub fn esac_node(
     source: &Source,
     place: Place,
-    ty: Ty,
+    ty: Box<Ty>,
     alternative: &At,
     part: Got,
-) -> Result<Got, Memory>
-    ensures { IfOk result (λ got. got_in source.now.nodes.now got ≡ forms.esac_node place (type_of ty) alternative.now (got_in source.now.nodes.now part)) }
+) -> Result<Got, CertFault>
+    ensures { Agrees (got_in source.now.nodes.now) result (Ok (forms.esac_node place (in_box ty) alternative.now (got_in source.now.nodes.now part))) }
 {
-    let (ty, alternative) = kept_while(ty, alternative.copy(source.alloc))?;
-    let (ty, Single { part, tree, at }) = kept_while(ty, alone(source.alloc, Node::Esac, part))?;
-    made(source, place, ty, Form::Esac(alternative, part), tree, at)
+    let alternative = alternative.copy(source.alloc)?;
+    let Single { part, end } = alone(source.alloc, Node::Esac, part)?;
+    made(source, place, ty, Form::Esac(alternative, part), end)
 }
 
 /// A member of a record, of this type. Want of memory is its one refusal.
 pub fn member_node(
     source: &Source,
     place: Place,
-    ty: Ty,
+    ty: Box<Ty>,
     field: &At,
     part: Got,
-) -> Result<Got, Memory>
-    ensures { IfOk result (λ got. got_in source.now.nodes.now got ≡ forms.member_node place (type_of ty) field.now (got_in source.now.nodes.now part)) }
+) -> Result<Got, CertFault>
+    ensures { Agrees (got_in source.now.nodes.now) result (Ok (forms.member_node place (in_box ty) field.now (got_in source.now.nodes.now part))) }
 {
-    let (ty, field) = kept_while(ty, field.copy(source.alloc))?;
-    let (ty, Single { part, tree, at }) = kept_while(ty, alone(source.alloc, Node::Member, part))?;
-    made(source, place, ty, Form::Member(part, field), tree, at)
+    let field = field.copy(source.alloc)?;
+    let Single { part, end } = alone(source.alloc, Node::Member, part)?;
+    made(source, place, ty, Form::Member(part, field), end)
 }
 
 /// A take, of its body's type, with the marks of the split between the record and the body. Want of memory is its one refusal.
@@ -227,20 +207,14 @@ pub fn take_node(
     binder: Place,
     value: Got,
     body: Got,
-) -> Result<Got, Memory>
-    ensures { IfOk result (λ got. got_in source.now.nodes.now got ≡ forms.take_node marks.now place field.now rest binder (got_in source.now.nodes.now value) (got_in source.now.nodes.now body)) }
+) -> Result<Got, CertFault>
+    ensures { Agrees (got_in source.now.nodes.now) result (Ok (forms.take_node marks.now place field.now rest binder (got_in source.now.nodes.now value) (got_in source.now.nodes.now body))) }
 {
     let field = field.copy(source.alloc)?;
-    let ty = body.ty().copy(source.alloc)?;
-    let (ty, pair) = kept_while(ty, paired(source.alloc, Node::Take, marks, value, body))?;
-    let Pair {
-        first,
-        second,
-        tree,
-        at,
-    } = pair;
+    let ty = copied(source.alloc, body.ty())?;
+    let Pair { first, second, end } = paired(source.alloc, Node::Take, marks, value, body)?;
     let form = Form::Take(first, field, rest, binder, second);
-    made(source, place, ty, form, tree, at)
+    made(source, place, ty, form, end)
 }
 
 /// A put, of this type, with the marks of the split between the record and the value. Want of memory is its one refusal.
@@ -248,39 +222,38 @@ pub fn put_node(
     source: &Source,
     marks: &[Mark],
     place: Place,
-    ty: Ty,
+    ty: Box<Ty>,
     field: &At,
     value: Got,
     part: Got,
-) -> Result<Got, Memory>
-    ensures { IfOk result (λ got. got_in source.now.nodes.now got ≡ forms.put_node marks.now place (type_of ty) field.now (got_in source.now.nodes.now value) (got_in source.now.nodes.now part)) }
+) -> Result<Got, CertFault>
+    ensures { Agrees (got_in source.now.nodes.now) result (Ok (forms.put_node marks.now place (in_box ty) field.now (got_in source.now.nodes.now value) (got_in source.now.nodes.now part))) }
 {
-    let (ty, field) = kept_while(ty, field.copy(source.alloc))?;
-    let (ty, pair) = kept_while(ty, paired(source.alloc, Node::Put, marks, value, part))?;
-    let Pair {
-        first,
-        second,
-        tree,
-        at,
-    } = pair;
+    let field = field.copy(source.alloc)?;
+    let Pair { first, second, end } = paired(source.alloc, Node::Put, marks, value, part)?;
     let form = Form::Put(first, field, second);
-    made(source, place, ty, form, tree, at)
+    made(source, place, ty, form, end)
 }
 
 /// A cast to this type. Want of memory is its one refusal.
-pub fn cast_node(source: &Source, place: Place, ty: Ty, part: Got) -> Result<Got, Memory>
-    ensures { IfOk result (λ got. got_in source.now.nodes.now got ≡ forms.cast_node place (type_of ty) (got_in source.now.nodes.now part)) }
+pub fn cast_node(source: &Source, place: Place, ty: &Ty, part: Got) -> Result<Got, CertFault>
+    ensures { Agrees (got_in source.now.nodes.now) result (Ok (forms.cast_node place (type_of ty.now) (got_in source.now.nodes.now part))) }
 {
-    let (ty, Single { part, tree, at }) = kept_while(ty, alone(source.alloc, Node::Cast, part))?;
-    made(source, place, ty, Form::Cast(part), tree, at)
+    let ty = copied(source.alloc, ty)?;
+    let Single { part, end } = alone(source.alloc, Node::Cast, part)?;
+    made(source, place, ty, Form::Cast(part), end)
 }
 
 /// A term with its type written, of which it is. Want of memory is its one refusal.
-pub fn annot_node(source: &Source, place: Place, arg: &TyArg, part: Got) -> Result<Got, Memory>
-    ensures { IfOk result (λ got. got_in source.now.nodes.now got ≡ forms.annot_node place (arg_of arg.now) (got_in source.now.nodes.now part)) }
+pub fn annot_node(source: &Source, place: Place, arg: &TyArg, part: Got) -> Result<Got, CertFault>
+    ensures { Agrees (got_in source.now.nodes.now) result (Ok (forms.annot_node place (arg_of arg.now) (got_in source.now.nodes.now part))) }
 {
-    let Single { part, tree, at } = alone(source.alloc, Node::Annot, part)?;
-    let ty = arg.ty.copy(source.alloc)?;
-    let (ty, arg) = kept_while(ty, arg.copy(source.alloc))?;
-    made(source, place, ty, Form::Annot(part, arg), tree, at)
+    let Single { part, end } = alone(source.alloc, Node::Annot, part)?;
+    let ty = copied(source.alloc, &arg.ty)?;
+    let written = copied(source.alloc, &arg.ty)?;
+    let arg = TyArg {
+        place: arg.place,
+        ty: Box::into_inner(written),
+    };
+    made(source, place, ty, Form::Annot(part, arg), end)
 }

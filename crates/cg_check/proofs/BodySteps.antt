@@ -1,25 +1,11 @@
 -- What is kept of functions, one after another.
-use Rattle.std.proofs.Common.{◌≡◌, ◌<◌, ◌≤◌, ◌+◌, ℕ, Option, Ok, Err, List, ◌∷◌, length, map, drop, get_or, refl, ap, ◌∙◌}
+use Rattle.std.proofs.Common.{◌≡◌, ◌<◌, ◌≤◌, ◌+◌, ℕ, Option, Ok, List, ◌∷◌, length, map, drop, get_or, ap, ◌∙◌}
 use Rattle.std.proofs.lemmas.List.{at_drop_more, at_drop_all}
-use Rattle.cg_check.specs.Bodies.{as_lists}
-use Rattle.cg_check_pieces.proofs.BodySteps.{ahead, nothing_more}
-use Rattle.cg_check_pieces.specs.Bodies.{Both, Lists, joined, lists_in, no_lists, one_more}
+use Rattle.cg_check_pieces.proofs.BodySteps.{behind, behind_none, nothing_more, one_ahead}
+use Rattle.cg_check_pieces.specs.Bodies.{Both, Lists, one_more}
 use Rattle.cg_check_def.specs.Pass.{Out, bind, check_all, check_function}
 use Rattle.cg_core.specs.declared.kernel.KFun.{KFun}
 use Rattle.cg_core.specs.Kernels.{Function, function_of}
-
--- the answer of the pass behind what it kept before
-abbrev pub behind : Lists → Out (List (Option Both)) → Out Lists
-behind before answer = bind answer (λ kept. Ok (joined before (lists_in kept)))
-
-pub behind_none : (answer : Out (List (Option Both))) → behind no_lists answer ≡ as_lists answer
-behind_none (Ok kept) = refl
-behind_none (Err fault) = refl
-
-one_ahead : (before : Lists) (both : Option Both) (answer : Out (List (Option Both)))
-    → behind before (bind answer (λ kept. Ok (both ∷ kept))) ≡ behind (one_more before both) answer
-one_ahead before both (Ok kept) = ap Ok (ahead before both kept)
-one_ahead before both (Err fault) = refl
 
 module _ (functions : List Function) (funs : List KFun) where
   abbrev Rest : ℕ → Out (List (Option Both))

@@ -5,7 +5,9 @@ use Rattle.cg_base.specs.declared.place.Place.{Place}
 use Rattle.cg_base.specs.Types as types
 use Rattle.cg_base.specs.Types.{Tau}
 use Rattle.cg_check.specs.Forms.{esac_by, struct_by, scoped, let_by, let_bang_by, if_by, matched_by, case_by, member_by, taken_by, take_by, put_by}
-use Rattle.cg_check.specs.Operators.{binary_by, by_left, by_right, is_by_right, unary_by}
+use Rattle.cg_check.specs.Operators.{binary_by, by_left, by_right, unary_by}
+use Rattle.cg_check_pieces.proofs.Steps.{again, same_steps}
+use Rattle.cg_check_pieces.specs.Directions.{is_by_right}
 use Rattle.cg_check_nodes.specs.Nodes as forms
 use Rattle.cg_check_nodes.specs.Scopes.{fine}
 use Rattle.cg_check_def.specs.Pass.{Out, Got, Way, unary, binary, operated, operated_both, bind, need, meet, none_bad, check, check_shape, leave, observers_test, branches_test}
@@ -25,16 +27,6 @@ use Rattle.cg_typing.specs.Operators.{Sort, arithmetic, equality, order, logic, 
 use Rattle.cg_typing.specs.Parts.{field_in, alternative_in, held, is_there, is_last, is_left, is_read_only, may_be_put_over, with_part}
 use Rattle.cg_typing.specs.Rules.{note_at, second_branch}
 use Rattle.cg_check_uses.specs.Uses.{flag_at, mark, mark_but, seen_places, last, front}
-
--- steps that answer alike
-same_steps : {A B : Type 0} (x : Out A) (f g : A → Out B) → ((a : A) → f a ≡ g a) → bind x f ≡ bind x g
-same_steps (Ok a) f g h = h a
-same_steps (Err e) f g h = refl
-
--- one step after two
-again : {A B C : Type 0} (x : Out A) (f : A → Out B) (g : B → Out C) → bind (bind x f) g ≡ bind x (λ a. bind (f a) g)
-again (Ok a) f g = refl
-again (Err e) f g = refl
 
 need_then : {A B : Type 0} (r : Rule) (p : Place) (b : Bool) (x : Out A) (k : A → Out B) → bind (need r p b x) k ≡ need r p b (bind x k)
 need_then r p true x k = refl

@@ -5,8 +5,8 @@ use Rattle.cg_base.specs.Types.{Tau}
 use Rattle.cg_check_pieces.specs.declared.kept.KeptBodies.{KeptBodies}
 use Rattle.cg_check_context.specs.declared.stop.Stop.{Stop}
 use Rattle.cg_check_context.specs.declared.stop.Stop.TheVariants.{Rule as Broken, Size, Memory}
-use Rattle.cg_check.specs.Bodies.{as_lists, refusal_of}
-use Rattle.cg_check_pieces.specs.Bodies.{Both, Lists, core_in, tree_in, lists_in, lists_of}
+use Rattle.cg_check.specs.Bodies.{refusal_of}
+use Rattle.cg_check_pieces.specs.Bodies.{Both, Lists, as_lists, core_in, lists_in, lists_of, tree_in}
 use Rattle.cg_check.specs.Judged.{AreTypesWithin, Refuses, IsChecked}
 use Rattle.cg_check_context.specs.View.{Agrees}
 use Rattle.cg_check_laws.proofs.Main.{kept}

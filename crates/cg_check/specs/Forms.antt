@@ -1,5 +1,5 @@
 -- Forms of nodes as one step of the pass after another, where tests stand between their parts.
-use Rattle.std.specs.Prelude.{Bool, false, true, not, Option, Some, None, List, length, Ok}
+use Rattle.std.specs.Prelude.{Bool, false, not, Option, Some, None, List, length, Ok, true}
 use Rattle.cg_base.specs.declared.kind.Kinds.{Kinds}
 use Rattle.cg_base.specs.declared.kind.Sigil.TheVariants.{U}
 use Rattle.cg_base.specs.declared.place.Place.{Place}
@@ -7,6 +7,7 @@ use Rattle.cg_base.specs.Types as types
 use Rattle.cg_base.specs.Types.{Tau, fields}
 use Rattle.cg_check_nodes.specs.Nodes as forms
 use Rattle.cg_check_nodes.specs.Scopes.{fine, scope_end, taken_end}
+use Rattle.cg_check_pieces.specs.Directions.{may_be_made_of}
 use Rattle.cg_check_def.specs.Pass.{Out, Got, bind, need, meet, check, check_fields, observers_test, branches_test}
 use Rattle.cg_core.specs.declared.at.At.{At}
 use Rattle.cg_core.specs.declared.term.Seen.{Seen}
@@ -14,7 +15,7 @@ use Rattle.cg_core.specs.Kernels.{Function}
 use Rattle.cg_core.specs.Terms.{Tree, Named}
 use Rattle.cg_faults.specs.declared.rule.Rule.TheVariants.{K2, K6, K7, T1, T5, T6, T7, T8, T9, T10}
 use Rattle.cg_faults.specs.Events.{field_directions}
-use Rattle.cg_faults.specs.Plain.{is_made_of, observed}
+use Rattle.cg_faults.specs.Plain.{observed}
 use Rattle.cg_kinds.specs.Kinds.{kinds}
 use Rattle.cg_typing.specs.Contexts.{push, shares}
 use Rattle.cg_typing.specs.Parts.{field_in, alternative_in, held, is_there, is_last, is_left, is_read_only, may_be_put_over, with_part}
@@ -61,11 +62,6 @@ put_end direction place at u v =
 abbrev pub record_type : Option Tau → types.Parts → Tau
 record_type None ps = fields ps U
 record_type (Some t) ps = t
-
--- fields are those of the type that is checked against, if any
-abbrev pub may_be_made_of : Option Tau → Named Place → Bool
-may_be_made_of None fs = true
-may_be_made_of (Some t) fs = is_made_of t fs
 
 module _ (functions : List Function) (vars : List Kinds) where
   -- a term in the scope of a new variable, with K3 at its end

@@ -1,9 +1,10 @@
 -- Operators as one step of the pass after another: an operand, the other one, and the type of both.
-use Rattle.std.specs.Prelude.{Bool, false, cond, List, Option, Some, None, Ok}
+use Rattle.std.specs.Prelude.{Bool, cond, List, Option, Some, None, Ok}
 use Rattle.cg_base.specs.declared.place.Place.{Place}
 use Rattle.cg_base.specs.Types as types
 use Rattle.cg_base.specs.Types.{Tau}
 use Rattle.cg_check_def.specs.Pass.{Got, Out, Way, bind, meet, need, operated, operated_both}
+use Rattle.cg_check_pieces.specs.Directions.{guided_direction, is_by_right, right_direction}
 use Rattle.cg_core.specs.declared.op.Op.{Op}
 use Rattle.cg_faults.specs.declared.rule.Rule.TheVariants.{T12}
 use Rattle.cg_kinds.specs.Kinds.{is_word}
@@ -15,16 +16,6 @@ abbrev pub first_operand : Sort → Option Tau → Place → (Option Tau → Out
 first_operand logic direction place x = x (Some types.bool)
 first_operand arithmetic (Some t) place x = need T12 place (is_word t) (x (Some t))
 first_operand sort direction place x = bind (x None) (λ u. need T12 place (takes sort u.ty) (Ok u))
-
--- the direction of the other one, whose guide has this type, or of an operand of arithmetic that is checked
-abbrev pub guided_direction : Sort → Option Tau → Tau → Option Tau
-guided_direction arithmetic (Some wanted) t = Some wanted
-guided_direction sort direction t = Some t
-
--- the direction of an operand behind a left one of this type
-abbrev pub right_direction : Sort → Option Tau → Tau → Option Tau
-right_direction logic direction t = Some types.bool
-right_direction sort direction t = guided_direction sort direction t
 
 -- the type of the operator
 abbrev pub operator_type : Sort → Option Tau → Place → Tau → Out Tau
@@ -51,12 +42,6 @@ abbrev pub by_right : Sort → Op → Option Tau → Place → List Bool → Way
 by_right sort o direction place before l r =
     bind (first_operand sort direction place (λ way. r before way)) (λ y. bind (l before (guided_direction sort direction y.ty)) (λ x.
     both_end o sort direction place y.ty x y))
-
--- whether the right operand is checked first: it guides a left one that is a literal
-abbrev pub is_by_right : Sort → Option Tau → Bool → Bool
-is_by_right logic direction literal = false
-is_by_right arithmetic (Some t) literal = false
-is_by_right sort direction literal = literal
 
 abbrev pub binary_by : Sort → Op → Option Tau → Place → Bool → List Bool → Way → Way → Out Got
 binary_by sort o direction place literal before l r =

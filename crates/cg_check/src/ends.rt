@@ -1,16 +1,16 @@
 // Forms behind their parts: the tests that are left there, and the node.
-ghost use Rattle.std.specs.Prelude.{◌≡◌, IfOk, Ok, map};
+ghost use Rattle.std.specs.Prelude.{Ok, map};
 ghost use Rattle.std.specs.Option.{option_copied};
 ghost use Rattle.cg_base.specs.Types.{type_of};
-ghost use Rattle.cg_check.specs.Forms.{case_end, esac_end, if_end, may_be_made_of as may_be_made_of_way, member_end, put_end, record_type};
-ghost use Rattle.cg_check.specs.Operators.{both_end, guided_direction as guided_direction_of, is_by_right as is_by_right_of, one_end, operator_type as operator_type_of};
+ghost use Rattle.cg_check.specs.Forms.{case_end, esac_end, if_end, member_end, put_end, record_type};
+ghost use Rattle.cg_check.specs.Operators.{both_end, one_end, operator_type as operator_type_of};
 ghost use Rattle.cg_check_def.specs.Pass.{meet as meet_by, need as need_by, test};
 ghost use Rattle.cg_check_context.specs.View.{Agrees, entries_of, types_in};
-ghost use Rattle.cg_core.specs.Kernels.{function_of, the_field};
-ghost use Rattle.cg_core.specs.Terms.{arg_of, to_named};
+ghost use Rattle.cg_core.specs.Kernels.{function_of};
+ghost use Rattle.cg_core.specs.Terms.{arg_of};
 ghost use Rattle.cg_faults.specs.declared.rule.Rule.TheVariants.{T11, T12};
 ghost use Rattle.cg_faults.specs.Rule.{type_limit};
-ghost use Rattle.cg_check_nodes.specs.Boxed.{in_box};
+ghost use Rattle.cg_check_pieces.specs.Boxed.{in_box};
 ghost use Rattle.cg_check_nodes.specs.Fields.{fields_of};
 ghost use Rattle.cg_check_nodes.specs.Gots.{got_of};
 ghost use Rattle.cg_check_nodes.specs.Nodes as forms;
@@ -19,17 +19,18 @@ ghost use Rattle.cg_check_pieces.specs.View.{bounds_of, way_of};
 ghost use Rattle.cg_typing.specs.Operators.{takes as takes_by};
 ghost use Rattle.cg_typing.specs.Parts.{given_by, is_small_enough as small_by, widens as widens_by};
 
-use cg_base::{Items, Memory, Place, Ty};
+use cg_base::{Place, Ty};
 use cg_check_context::{
     Known, Source, Stop, branches, but_last, last_type, meet, member_type, need,
 };
 use cg_check_nodes::{
-    Fields, Got, annot_node, app_node, boxed, boxed_tested, case_node, cast_node, copied,
-    esac_node, if_node, member_node, operated, operated_both, put_node, record_node, struct_node,
+    Fields, Got, annot_node, app_node, boxed_tested, case_node, cast_node, esac_node, if_node,
+    member_node, operated, operated_both, put_node, record_node, struct_node,
 };
-use cg_core::{At, FieldTerm, Op, TyArg};
+use cg_check_pieces::{boxed, copied, given};
+use cg_core::{At, Op, TyArg};
 use cg_faults::Rule;
-use cg_typing_parts::{Sort, is_made_of, is_small_enough, takes, widens, with_part};
+use cg_typing_parts::{Sort, is_small_enough, takes, widens, with_part};
 use std::alloc::Global;
 
 /// A part whose type is within the limit.
@@ -65,20 +66,6 @@ fn operator_type(
         (Sort::Arithmetic, Some(wanted)) => Ok(copied(alloc, wanted)?),
         (Sort::Arithmetic, None) => Ok(copied(alloc, first)?),
         _ => met(alloc, direction, place, &Ty::Bool),
-    }
-}
-
-/// The direction of an operand whose guide has this type, or of one of arithmetic that is checked.
-pub(crate) fn guided_direction<'a>(
-    direction: Option<&'a Ty>,
-    sort: Sort,
-    guide: &'a Ty,
-) -> Option<&'a Ty>
-    ensures { way_of (option_copied result) ≡ guided_direction_of (the_sort sort) (way_of (option_copied direction.entry)) (type_of guide.now) }
-{
-    match (sort, direction) {
-        (Sort::Arithmetic, Some(wanted)) => Some(wanted),
-        _ => Some(guide),
     }
 }
 
@@ -129,17 +116,6 @@ pub(crate) fn end_by_right(
     operated_both(alloc, op, place, ty, left, right)
 }
 
-/// Whether the right operand is checked first, where the left one is a literal or not.
-pub(crate) fn is_by_right(direction: Option<&Ty>, sort: Sort, literal: bool) -> bool
-    ensures { result ≡ is_by_right_of (the_sort sort) (way_of (option_copied direction.entry)) literal }
-{
-    match sort {
-        Sort::Logic => false,
-        Sort::Arithmetic => direction.is_none() && literal,
-        Sort::Equality | Sort::Order => literal,
-    }
-}
-
 /// An operand of a type that operators of this sort take (T12).
 pub(crate) fn taken_by_sort(place: Place, sort: Sort, got: Got) -> Result<Got, Stop>
     ensures { Agrees got_of result (need_by T12 place (takes_by (the_sort sort) (got_of got).ty) (Ok (got_of got))) }
@@ -148,16 +124,6 @@ pub(crate) fn taken_by_sort(place: Place, sort: Sort, got: Got) -> Result<Got, S
         Ok(got)
     } else {
         Err(Stop::Rule(Rule::T12, place))
-    }
-}
-
-// What a function gives. Want of memory is its one refusal.
-fn given(alloc: Global, ty: &Ty) -> Result<Box<Ty>, Memory>
-    ensures { IfOk result (λ b. in_box b ≡ given_by (type_of ty.now)) }
-{
-    match ty {
-        Ty::Arrow(_, to) => copied(alloc, to),
-        _ => Ok(Box::new(alloc, Ty::Unit)?),
     }
 }
 
@@ -227,16 +193,6 @@ pub(crate) fn end_esac(
     let ty = boxed_tested(source.alloc, last_type(source, at, part.ty()))?;
     meet(direction, place, &ty)?;
     esac_node(source.alloc, place, ty, at, part)
-}
-
-/// Whether fields are those of the type that is checked against, if any.
-pub(crate) fn may_be_made_of(direction: Option<&Ty>, fields: &Items<FieldTerm<Place>>) -> bool
-    ensures { result ≡ may_be_made_of_way (way_of (option_copied direction.entry)) (to_named (map the_field fields.now)) }
-{
-    match direction {
-        Some(wanted) => is_made_of(wanted, fields),
-        None => true,
-    }
 }
 
 /// A record, of this type or of the one that its fields make.

@@ -14,23 +14,13 @@ ghost use Rattle.cg_check_pieces.specs.View.{bounds_of, way_of};
 
 use cg_base::{Fun, Items, Place, Ty};
 use cg_check_context::{Known, Source, Stop, may_touch, meet, need, type_at};
-use cg_check_nodes::{Got, boxed, copied, leaf_of};
-use cg_check_pieces::copied_arguments;
+use cg_check_nodes::{Got, leaf_of};
+use cg_check_pieces::{boxed, copied, copied_arguments, plain};
 use cg_check_uses::{no_uses, one_use};
 use cg_core::{Form, Node, Op, Term, TyArg, Typed};
 use cg_faults::Rule;
 use cg_typing_parts::{arguments_fault, in_range, is_word, mentioned};
 use std::alloc::Global;
-
-// A core of this type and form.
-fn plain(place: Place, ty: Ty, form: Form<Typed>) -> Term<Typed>
-    ensures place { result.note.place ≡ place }
-    ensures ty { result.note.ty ≡ ty }
-    ensures form { result.form ≡ form }
-{
-    let note = Typed { place, ty };
-    Term { note, form }
-}
 
 // A leaf that uses no variable.
 #[tactic(auto, using(cg_check_context::proofs::SourceSteps::types_long))]

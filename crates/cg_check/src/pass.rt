@@ -1,5 +1,5 @@
 // The pass over a term.
-#![tactic(auto, unfolding(cg_check_def::specs::Pass::check, crate::proofs::PassSteps::size), using(crate::proofs::PassSteps::pass_steps))]
+#![tactic(auto, unfolding(cg_check_def::specs::Pass::check, cg_check_pieces::proofs::TermSizes::size), using(crate::proofs::PassSteps::pass_steps))]
 
 ghost use Rattle.std.specs.Prelude.{◌≡◌, IfOk, Ok, map, None, false, true};
 ghost use Rattle.std.specs.Option.{option_copied};
@@ -16,7 +16,8 @@ ghost use Rattle.cg_typing.specs.Rules.{is_literal as literal_of, note_at as not
 ghost use Rattle.cg_check_nodes.specs.Fields.{fields_of};
 ghost use Rattle.cg_check.specs.Forms.{case_by, esac_by, if_by, let_bang_by, let_by, member_by, other_by, put_by, scoped, struct_by, take_by, taken_by};
 ghost use Rattle.cg_check_context.specs.Observed.{see};
-ghost use Rattle.cg_check.specs.Operators.{binary_by, by_left, by_right, first_operand, right_direction, unary_by};
+ghost use Rattle.cg_check.specs.Operators.{binary_by, by_left, by_right, first_operand, unary_by};
+ghost use Rattle.cg_check_pieces.specs.Directions.{right_direction};
 ghost use Rattle.cg_faults.specs.Events.{part_directions};
 ghost use Rattle.cg_faults.specs.Plain.{observed};
 ghost use Rattle.cg_typing_parts.specs.Views.{the_sort};
@@ -27,8 +28,7 @@ ghost use Rattle.cg_typing.specs.Parts.{with_part as with_part_of};
 
 use crate::ends::{
     end_annot, end_app, end_by_left, end_by_right, end_case, end_cast, end_esac, end_if,
-    end_member, end_put, end_struct, end_unary, guided_direction, is_by_right, may_be_made_of,
-    small, taken_by_sort,
+    end_member, end_put, end_struct, end_unary, small, taken_by_sort,
 };
 use crate::leaves::{check_bare, check_bool, check_literal, check_mention, check_unit, check_var};
 use cg_base::{Items, Name, Part, Place, Ty};
@@ -37,10 +37,13 @@ use cg_check_context::{
     observe, observe_all, put_type, restore, taken_type,
 };
 use cg_check_nodes::{
-    Fields, Got, are_none, behind_observed, boxed, boxed_tested, con_node, end_scoped, end_taken,
+    Fields, Got, are_none, behind_observed, boxed_tested, con_node, end_scoped, end_taken,
     enter_both, enter_copy, in_front, let_bang_node, let_node, no_fields, take_node,
 };
-use cg_check_pieces::{is_literal, later_wanted, next_wanted, other_way, parts_of};
+use cg_check_pieces::{
+    boxed, guided_direction, is_by_right, is_literal, later_wanted, may_be_made_of, next_wanted,
+    other_way, parts_of,
+};
 use cg_check_uses::{mark, seen_places};
 use cg_core::{At, FieldTerm, Form, Op, Seen, Term, TyArg};
 use cg_faults::Rule;

@@ -1,4 +1,3 @@
-pub mod Boxed
 pub mod Closed
 pub mod Fields
 pub mod Gots

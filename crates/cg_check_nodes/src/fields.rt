@@ -14,10 +14,9 @@ ghost use Rattle.cg_check_def.specs.Pass.{in_front as in_front_of, is_end};
 ghost use Rattle.cg_check_uses.specs.Marks as splits;
 
 use crate::got::{Got, finished, made};
-use crate::types::copied;
 use cg_base::{Items, Memory, Name, Part, Place, Sigil, Ty};
 use cg_check_context::{Known, Stop};
-use cg_check_pieces::{add_core, add_part, add_tree, turned};
+use cg_check_pieces::{add_core, add_part, add_tree, copied, turned};
 use cg_check_uses::{Use, join, marks_of_uses, no_uses};
 use cg_core::{Deriv, FieldTerm, Form, Mark, Node, Term, Typed};
 use std::alloc::Global;

@@ -5,7 +5,7 @@ ghost use Rattle.cg_core.specs.Derivations.{derivation, derivation_of, done};
 ghost use Rattle.cg_core.specs.Kernels.{the_core, the_core_form};
 ghost use Rattle.cg_check_def.specs.Pass.{made as made_of};
 ghost use Rattle.cg_check_context.specs.View.{Agrees};
-ghost use Rattle.cg_check_nodes.specs.Boxed.{in_box};
+ghost use Rattle.cg_check_pieces.specs.Boxed.{in_box};
 ghost use Rattle.cg_check_uses.specs.Marks as splits;
 ghost use Rattle.cg_check_uses.specs.Uses as tables;
 ghost use Rattle.cg_check_nodes.specs.Gots.{got_of};

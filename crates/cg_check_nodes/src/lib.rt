@@ -18,4 +18,4 @@ pub use nodes::{
     let_node, member_node, operated, operated_both, put_node, take_node,
 };
 pub use scopes::{behind_observed, end_scoped, end_taken, enter_both, enter_copy};
-pub use types::{boxed, boxed_tested, copied};
+pub use types::boxed_tested;

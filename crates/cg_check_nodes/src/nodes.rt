@@ -9,16 +9,15 @@ ghost use Rattle.cg_check_uses.specs.Marks as splits;
 ghost use Rattle.cg_check_uses.specs.Uses as tables;
 ghost use Rattle.cg_check_def.specs.Pass.{operated as operated_of, operated_both as operated_both_of};
 ghost use Rattle.cg_check_context.specs.View.{Agrees};
-ghost use Rattle.cg_check_nodes.specs.Boxed.{in_box};
+ghost use Rattle.cg_check_pieces.specs.Boxed.{in_box};
 ghost use Rattle.cg_check_nodes.specs.Closed as parts;
 ghost use Rattle.cg_check_nodes.specs.Nodes as forms;
 ghost use Rattle.cg_check_nodes.specs.Gots.{got_of};
 
 use crate::got::{Got, Pair, Single, Triple, alone, branched, in_turn, made, paired};
-use crate::types::copied;
 use cg_base::{Items, Memory, Name, Place, Ty};
 use cg_check_context::Stop;
-use cg_check_pieces::{copied_observers, one_operand, two_operands};
+use cg_check_pieces::{copied, copied_observers, one_operand, two_operands};
 use cg_check_uses::{
     Use, join_seen, keep_new, kept_beside, kept_seen, leave, marks_seen, seen_places, settle,
 };

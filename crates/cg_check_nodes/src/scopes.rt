@@ -13,11 +13,11 @@ ghost use Rattle.cg_typing.specs.Contexts.{push as push_of};
 ghost use Rattle.cg_check_uses.specs.Uses as tables;
 
 use crate::got::Got;
-use crate::types::copied;
 use cg_base::{Items, Memory, Place, Ty};
 use cg_check_context::{
     Known, Source, Stop, end, enter, escape, inner_seen, last_use, use_before_last,
 };
+use cg_check_pieces::copied;
 use cg_check_uses::seen_places;
 use cg_core::Seen;
 use std::alloc::Global;

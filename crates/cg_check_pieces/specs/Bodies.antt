@@ -1,5 +1,5 @@
 -- What a checker keeps: of a body its core and its derivation, and of functions the two lists of these.
-use Rattle.std.specs.Prelude.{Option, Some, None, List, [], ◌∷◌, ◌++◌, map}
+use Rattle.std.specs.Prelude.{Option, Some, None, Result, Ok, Err, List, [], ◌∷◌, ◌++◌, map}
 use Rattle.cg_core.specs.Derivations.{Derivation, derivation_of}
 use Rattle.cg_core.specs.Kernels.{the_core}
 use Rattle.cg_core.specs.Terms.{Tree, Note}
@@ -45,3 +45,8 @@ joined xs ys = (xs.0 ++ ys.0, xs.1 ++ ys.1)
 
 abbrev pub one_more : Lists → Option Both → Lists
 one_more xs both = joined xs (core_in both ∷ [], tree_in both ∷ [])
+
+-- the answer of a pass, whatever its faults are, as two lists
+abbrev pub as_lists : {E : Type 0} → Result (List (Option Both)) E → Result Lists E
+as_lists (Ok kept) = Ok (lists_in kept)
+as_lists (Err fault) = Err fault

@@ -1,3 +1,5 @@
 pub mod Bodies
+pub mod Boxed
+pub mod Directions
 pub mod Fields
 pub mod View

@@ -116,22 +116,57 @@ branch_conditions vars s a b =
     flat_map (λ e. missed (place_inside b) (drops vars e.ty) e.variable (push s.path 1) (push s.path 2)
     ∷ (missed (place_inside a) (drops vars e.ty) e.variable (push s.path 2) (push s.path 1) ∷ [])) s.scope
 
+-- ---- when a node's conditions are judged
+
+-- of a node with one part, with two and with three: before each part, and behind the last one
+pub record AroundOne : Type 0 where
+  pub before : List Condition
+  pub behind : List Condition
+
+pub record AroundTwo : Type 0 where
+  pub before_first : List Condition
+  pub before_second : List Condition
+  pub behind_both : List Condition
+
+pub record AroundThree : Type 0 where
+  pub before_first : List Condition
+  pub before_second : List Condition
+  pub before_third : List Condition
+  pub behind_all : List Condition
+
+-- each as a list by how many parts are done; of a node whose conditions all stand before its parts, if it has any, it is one entry
+abbrev pub before_all : List Condition → List (List Condition)
+before_all cs = cs ∷ []
+
+abbrev pub around_one : AroundOne → List (List Condition)
+around_one a = a.before ∷ (a.behind ∷ [])
+
+abbrev pub around_two : AroundTwo → List (List Condition)
+around_two a = a.before_first ∷ (a.before_second ∷ (a.behind_both ∷ []))
+
+abbrev pub around_three : AroundThree → List (List Condition)
+around_three a = a.before_first ∷ (a.before_second ∷ (a.before_third ∷ (a.behind_all ∷ [])))
+
 -- an operator's own test, before its operands, behind the guide, or behind the operand
 abbrev pub binary_conditions : Sort → Option Tau → Place → Tau → List (List Condition)
-binary_conditions logic direction place guide = [] ∷ ([] ∷ (agrees direction place types.bool ∷ []))
-binary_conditions arithmetic (Some t) place guide = (ruled T12 place (is_word t) ∷ []) ∷ []
-binary_conditions arithmetic None place guide = [] ∷ ((ruled T12 place (is_word guide) ∷ []) ∷ [])
-binary_conditions sort direction place guide = [] ∷ ((ruled T12 place (takes sort guide) ∷ []) ∷ (agrees direction place types.bool ∷ []))
+binary_conditions logic direction place guide = around_two (record { before_first = []; before_second = []; behind_both = agrees direction place types.bool })
+binary_conditions arithmetic (Some t) place guide =
+    around_two (record { before_first = ruled T12 place (is_word t) ∷ []; before_second = []; behind_both = [] })
+binary_conditions arithmetic None place guide =
+    around_two (record { before_first = []; before_second = ruled T12 place (is_word guide) ∷ []; behind_both = [] })
+binary_conditions sort direction place guide =
+    around_two (record { before_first = []; before_second = ruled T12 place (takes sort guide) ∷ []; behind_both = agrees direction place types.bool })
 
 abbrev pub unary_conditions : Sort → Option Tau → Place → Tau → List (List Condition)
-unary_conditions logic direction place guide = [] ∷ (agrees direction place types.bool ∷ [])
-unary_conditions arithmetic (Some t) place guide = (ruled T12 place (is_word t) ∷ []) ∷ []
-unary_conditions arithmetic None place guide = [] ∷ ((ruled T12 place (is_word guide) ∷ []) ∷ [])
-unary_conditions sort direction place guide = [] ∷ ((ruled T12 place (takes sort guide) ∷ agrees direction place types.bool) ∷ [])
+unary_conditions logic direction place guide = around_one (record { before = []; behind = agrees direction place types.bool })
+unary_conditions arithmetic (Some t) place guide = around_one (record { before = ruled T12 place (is_word t) ∷ []; behind = [] })
+unary_conditions arithmetic None place guide = around_one (record { before = []; behind = ruled T12 place (is_word guide) ∷ [] })
+unary_conditions sort direction place guide =
+    around_one (record { before = []; behind = ruled T12 place (takes sort guide) ∷ agrees direction place types.bool })
 
 abbrev pub cast_conditions : Option Tau → Place → Tau → List (List Condition)
-cast_conditions None place t = (ruled T2 place false ∷ []) ∷ []
-cast_conditions (Some wanted) place t = [] ∷ ((ruled T11 place (widens t wanted) ∷ []) ∷ [])
+cast_conditions None place t = before_all (ruled T2 place false ∷ [])
+cast_conditions (Some wanted) place t = around_one (record { before = []; behind = ruled T11 place (widens t wanted) ∷ [] })
 
 -- those of one stage
 abbrev pub or_no_conditions : Option (List Condition) → List Condition
@@ -142,62 +177,84 @@ abbrev pub at_stage : List (List Condition) → ℕ → List Condition
 at_stage all n = or_no_conditions (slice_get all n)
 
 module _ (functions : List Function) (vars : List Kinds) where
-  -- the conditions of a node at its place: those before part 0, before part 1, and so on, and behind the last part
+  -- the conditions of a node at its place, by how many of its parts are done
   abbrev pub stages : Site → Place → Shape Place → List (List Condition)
   stages s place (var i) =
-      (touch_condition vars place (record { path = s.path; observer = None }) (slice_get s.scope i) ++ agrees s.direction place (type_here functions s s.node)) ∷ []
-  stages s place unit = agrees s.direction place types.unit ∷ []
-  stages s place (bool b) = agrees s.direction place types.bool ∷ []
-  stages s place (lit value) = literal_conditions s.direction place value ∷ []
-  stages s place (fun f args) = (argument_conditions vars (asked_by functions f) args ++ agrees s.direction place (mentioned functions f args)) ∷ []
+      before_all (touch_condition vars place (record { path = s.path; observer = None }) (slice_get s.scope i) ++ agrees s.direction place (type_here functions s s.node))
+  stages s place unit = before_all (agrees s.direction place types.unit)
+  stages s place (bool b) = before_all (agrees s.direction place types.bool)
+  stages s place (lit value) = before_all (literal_conditions s.direction place value)
+  stages s place (fun f args) = before_all (argument_conditions vars (asked_by functions f) args ++ agrees s.direction place (mentioned functions f args))
   stages s place (op o (more x none)) = unary_conditions (sort_of o) s.direction place (type_here functions s x)
   stages s place (op o (more l (more r none))) =
       binary_conditions (sort_of o) s.direction place (cond (is_literal l) (type_here functions s r) (type_here functions s l))
   stages s place (op o ts) = []
   stages s place (app f x) =
-      [] ∷ ((ruled T4 (place_inside f) (is_arrow (type_here functions s f)) ∷ []) ∷ (agrees s.direction place (given_by (type_here functions s f)) ∷ []))
-  stages s place (lets binder e k) = [] ∷ ([] ∷ (bound_conditions vars s 0 binder (type_here functions s e) ∷ []))
+      let t = type_here functions s f in
+      around_two (record {
+        before_first = [];
+        before_second = ruled T4 (place_inside f) (is_arrow t) ∷ [];
+        behind_both = agrees s.direction place (given_by t);
+      })
+  stages s place (lets binder e k) =
+      around_two (record { before_first = []; before_second = []; behind_both = bound_conditions vars s 0 binder (type_here functions s e) })
   stages s place (let_bang observers binder e k) =
-      observer_conditions vars s 0 observers
-      ∷ ((ruled K2 (place_inside e) (kinds vars (type_seen functions s observers e)).escape ∷ [])
-      ∷ (bound_conditions vars s 0 binder (type_seen functions s observers e) ∷ []))
-  stages s place (if_else c x y) = [] ∷ ([] ∷ ([] ∷ (branch_conditions vars s x y ∷ [])))
-  stages s place (con name e) = constructor_conditions s.direction place name ∷ []
+      let t = type_seen functions s observers e in
+      around_two (record {
+        before_first = observer_conditions vars s 0 observers;
+        before_second = ruled K2 (place_inside e) (kinds vars t).escape ∷ [];
+        behind_both = bound_conditions vars s 0 binder t;
+      })
+  stages s place (if_else c x y) =
+      around_three (record { before_first = []; before_second = []; before_third = []; behind_all = branch_conditions vars s x y })
+  stages s place (con name e) = before_all (constructor_conditions s.direction place name)
   stages s place (case_of e at binder x y) =
       let t = type_here functions s e in
-      []
-      ∷ ((ruled T8 at.place (is_there (alternative_in at.name t)) ∷ (ruled T10 at.place (is_left (alternative_in at.name t)) ∷ []))
-      ∷ (bound_conditions vars s 0 binder (held (alternative_in at.name t))
-      ∷ ((bound_conditions vars s 1 at.place (with_part at.name true t) ++ branch_conditions vars s x y) ∷ [])))
+      around_three (record {
+        before_first = [];
+        before_second = ruled T8 at.place (is_there (alternative_in at.name t)) ∷ (ruled T10 at.place (is_left (alternative_in at.name t)) ∷ []);
+        before_third = bound_conditions vars s 0 binder (held (alternative_in at.name t));
+        behind_all = bound_conditions vars s 1 at.place (with_part at.name true t) ++ branch_conditions vars s x y;
+      })
   stages s place (esac at e) =
       let t = type_here functions s e in
-      []
-      ∷ ((ruled T8 at.place (is_there (alternative_in at.name t))
-      ∷ (ruled T10 at.place (is_left (alternative_in at.name t))
-      ∷ (ruled T9 at.place (is_last at.name t) ∷ agrees s.direction place (held (alternative_in at.name t)))))
-      ∷ [])
-  stages s place (struct fs) = record_conditions s.direction place fs ∷ []
+      around_one (record {
+        before = [];
+        behind =
+            ruled T8 at.place (is_there (alternative_in at.name t))
+            ∷ (ruled T10 at.place (is_left (alternative_in at.name t))
+            ∷ (ruled T9 at.place (is_last at.name t) ∷ agrees s.direction place (held (alternative_in at.name t))));
+      })
+  stages s place (struct fs) = before_all (record_conditions s.direction place fs)
   stages s place (member e at) =
       let t = type_here functions s e in
-      []
-      ∷ ((ruled T5 at.place (is_there (field_in at.name t))
-      ∷ (ruled T6 at.place (is_left (field_in at.name t))
-      ∷ (ruled K6 at.place (shares vars t) ∷ agrees s.direction place (held (field_in at.name t)))))
-      ∷ [])
+      around_one (record {
+        before = [];
+        behind =
+            ruled T5 at.place (is_there (field_in at.name t))
+            ∷ (ruled T6 at.place (is_left (field_in at.name t))
+            ∷ (ruled K6 at.place (shares vars t) ∷ agrees s.direction place (held (field_in at.name t))));
+      })
   stages s place (take_field e at rest binder k) =
       let t = type_here functions s e in
-      []
-      ∷ ((ruled T5 at.place (is_there (field_in at.name t))
-      ∷ (ruled T7 at.place (not (is_read_only t)) ∷ (ruled T6 at.place (is_left (field_in at.name t)) ∷ [])))
-      ∷ ((bound_conditions vars s 0 rest (with_part at.name true t) ++ bound_conditions vars s 1 binder (held (field_in at.name t))) ∷ []))
+      around_two (record {
+        before_first = [];
+        before_second =
+            ruled T5 at.place (is_there (field_in at.name t))
+            ∷ (ruled T7 at.place (not (is_read_only t)) ∷ (ruled T6 at.place (is_left (field_in at.name t)) ∷ []));
+        behind_both = bound_conditions vars s 0 rest (with_part at.name true t) ++ bound_conditions vars s 1 binder (held (field_in at.name t));
+      })
   stages s place (put e at x) =
       let t = type_here functions s e in
-      []
-      ∷ ((ruled T5 at.place (is_there (field_in at.name t))
-      ∷ (ruled T7 at.place (not (is_read_only t)) ∷ (ruled K7 at.place (may_be_put_over vars (field_in at.name t)) ∷ [])))
-      ∷ (agrees s.direction place (with_part at.name false t) ∷ []))
+      around_two (record {
+        before_first = [];
+        before_second =
+            ruled T5 at.place (is_there (field_in at.name t))
+            ∷ (ruled T7 at.place (not (is_read_only t)) ∷ (ruled K7 at.place (may_be_put_over vars (field_in at.name t)) ∷ []));
+        behind_both = agrees s.direction place (with_part at.name false t);
+      })
   stages s place (cast e) = cast_conditions s.direction place (type_here functions s e)
-  stages s place (annot e a) = (ruled T14 a.place (has_word_arrays a.ty) ∷ []) ∷ (agrees s.direction place a.ty ∷ [])
+  stages s place (annot e a) = around_one (record { before = ruled T14 a.place (has_word_arrays a.ty) ∷ []; behind = agrees s.direction place a.ty })
 
   -- the limit on a node's own type stands behind all its other conditions, in a stage of its own
   abbrev pub size_condition : Site → Condition

@@ -84,7 +84,7 @@ module _ (functions : List Function) (vars : List Kinds) (root : Site) (s : Site
         (stop functions vars root s 2 _ _ (ap (λ ps. length ps) p) (at_most _ _ 3 q (omega arith)) (ap (λ z. at_stage z 2) q) w)))
 
     -- the same of arithmetic, with nothing behind
-    arithmetic_told : (a : Place) (t : Tau) → parts functions s ≡ guided_parts s g t h → S functions vars root s ≡ [] ∷ ((ruled T12 a (takes arithmetic t) ∷ []) ∷ []) → T functions vars root s 0 (guided arithmetic a t guide other)
+    arithmetic_told : (a : Place) (t : Tau) → parts functions s ≡ guided_parts s g t h → S functions vars root s ≡ [] ∷ ((ruled T12 a (takes arithmetic t) ∷ []) ∷ ([] ∷ [])) → T functions vars root s 0 (guided arithmetic a t guide other)
     arithmetic_told a t p q =
         part_told functions vars root s _ 0 _ [] _ _ (ap (λ ps. slice_get ps 0) p) (ap (λ z. at_stage z 0) q) (tells_nothing functions root) (f None (ap (λ ps. slice_get ps 0) p))
         (last_told functions vars root s 1 (judged T12 a _ ∷ []) (other (Some t))

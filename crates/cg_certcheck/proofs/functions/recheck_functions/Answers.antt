@@ -1,8 +1,9 @@
 use Rattle.std.proofs.Common.{rules, ◌≡◌, ◌+◌, Err, map, drop, sym, ◌∙◌, ap, subst, arith}
-use Rattle.cg_certcheck.proofs.BodySteps.{behind, next_kept, stops}
-use Rattle.cg_certcheck.specs.Bodies.{as_lists, function_by, next_in}
-use Rattle.cg_check_pieces.specs.Bodies.{lists_of, one_more}
-use Rattle.cg_certcheck_nodes.specs.View.{Agrees}
+use Rattle.cg_certcheck.proofs.BodySteps.{next_kept, stops}
+use Rattle.cg_certcheck.specs.Bodies.{function_by, next_in}
+use Rattle.cg_check_pieces.proofs.BodySteps.{behind}
+use Rattle.cg_check_pieces.specs.Bodies.{as_lists, lists_of, one_more}
+use Rattle.cg_certcheck_context.specs.View.{Agrees}
 use Rattle.cg_core.specs.declared.kernel.KFun.{KFun}
 use Rattle.cg_core.specs.Kernels.{function_of}
 use Rattle.cg_certcheck_def.specs.Pass.{check_cert, check_functions}

@@ -1,7 +1,6 @@
 use Rattle.std.proofs.Common.{◌≡◌, map, drop}
-use Rattle.cg_certcheck.proofs.BodySteps.{behind}
-use Rattle.cg_certcheck.specs.Bodies.{as_lists}
-use Rattle.cg_check_pieces.specs.Bodies.{lists_of}
+use Rattle.cg_check_pieces.proofs.BodySteps.{behind}
+use Rattle.cg_check_pieces.specs.Bodies.{as_lists, lists_of}
 use Rattle.cg_core.specs.Kernels.{function_of}
 use Rattle.cg_certcheck_def.specs.Pass.{check_functions}
 use Rattle.cg_certcheck.proofs.functions.recheck_functions.Given as goal

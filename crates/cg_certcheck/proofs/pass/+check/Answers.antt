@@ -1,21 +1,24 @@
-use Rattle.std.proofs.Common.{rules, ◌≡◌, Ok, Err, arith, ap, length, map, sym, ◌∙◌, subst}
+use Rattle.std.proofs.Common.{rules, ◌≡◌, true, false, Ok, Err, arith, ap, length, map, sym, ◌∙◌, subst}
 use Rattle.std.specs.Option.{option_copied}
 use Rattle.cg_base.specs.declared.limit.Limit.TheVariants.{Ty}
 use Rattle.cg_base.specs.Types.{part_of, to_parts}
 use Rattle.cg_cert.specs.declared.fault.CertFault.TheVariants.{Limit}
-use Rattle.cg_certcheck.proofs.FormSteps.{check_is, goes_on}
-use Rattle.cg_certcheck.proofs.PassSteps.{fields_last, fields_more, fields_none, other_operands, size_more, size_one, size_two, sizes}
+use Rattle.cg_certcheck.proofs.FormSteps.{by_left_else, by_right_then, check_is, goes_on}
+use Rattle.cg_certcheck.proofs.PassSteps.{fields_last, fields_more, fields_none, other_operands}
+use Rattle.cg_check_pieces.proofs.TermSizes.{size_more, size_one, size_two, sizes}
+use Rattle.cg_check_pieces.specs.Directions.{is_by_right}
 use Rattle.cg_certcheck.specs.Forms.{form_by}
 use Rattle.cg_check_pieces.specs.View.{bounds_of, shape_at, way_of}
-use Rattle.cg_certcheck_nodes.specs.Contexts.{context_of}
+use Rattle.cg_certcheck_context.specs.Contexts.{context_of}
 use Rattle.cg_certcheck_nodes.specs.Gots.{fields_in, got_in}
-use Rattle.cg_certcheck_nodes.specs.View.{Agrees, cursor_of}
+use Rattle.cg_certcheck_context.specs.View.{Agrees, cursor_of}
 use Rattle.cg_core.specs.Kernels.{function_of, the_term}
 use Rattle.cg_core.specs.Terms.{to_trees}
 use Rattle.cg_faults.specs.Events.{part_directions}
 use Rattle.cg_certcheck_def.specs.Pass.{Got, bind, check, test}
 use Rattle.cg_typing.specs.Parts.{is_small_enough}
-use Rattle.cg_typing.specs.Rules.{note_at}
+use Rattle.cg_typing.specs.Rules.{is_literal, note_at}
+use Rattle.cg_typing_parts.specs.Views.{the_sort}
 use Rattle.cg_certcheck.proofs.pass.+check.Goals as goal
 use Rattle.cg_certcheck.proofs.pass.+check.Goals.{check_op-in_default-via-then-as_slice-lt1, check_op-in_default-via-else-as_slice-lt1+else-this-lt2+else-this-lt3}
 use Rattle.cg_core.proofs.Operands.{one_operand, two_operands}
@@ -78,21 +81,30 @@ check_fields-returns-in-len1-up t c =
     (part_directions (to_parts (map part_of c.args.wanted.now))) c.args.strings.now (cursor_of c.args.source.now.nodes.now c.args.at) c.args.fields.now c.field-item-2.result
     c.in-len1-up.len_at_least c.field-item-2.is)) c.check_more_fields.ensures
 
-pub check_term-returns-then-is_small_enough : goal.check_term-returns-then-is_small_enough
-check_term-returns-then-is_small_enough t c =
-    let u = got_in c.args.source.now.nodes.now c.in_ok-got.got in
-    sym (check_is (map function_of c.args.source.now.functions.now) (bounds_of c.args.source.now.vars.now) (context_of (bounds_of c.args.source.now.vars.now) c.args.context.now)
-    (way_of (option_copied c.args.direction)) (cursor_of c.args.source.now.nodes.now c.args.at) (the_term c.args.term.now))
-    ∙ ap (λ o. bind {B = Got} o (λ u. test (Limit Ty) (is_small_enough u.ty) (Ok u))) c.in_ok-got.ensures
-    ∙ ap (λ b. test (Limit Ty) b (Ok u)) (sym (c.is_small_enough.ensures ∙ ap is_small_enough c.ty.ensures) ∙ c.if-is_small_enough.true)
+pub check_operands-returns-then-is_by_right : goal.check_operands-returns-then-is_by_right
+check_operands-returns-then-is_by_right t c =
+    let way = way_of (option_copied c.args.direction) in
+    let test : is_by_right (the_sort c.args.operator.sort) way (is_literal (the_term c.args.left.now)) ≡ true = cc (c.is_by_right.ensures, c.if-is_by_right.true, c.is_literal.ensures) in
+    let is = by_right_then (map function_of c.args.source.now.functions.now) (bounds_of c.args.source.now.vars.now) (the_sort c.args.operator.sort) c.args.marks.now
+    (context_of (bounds_of c.args.source.now.vars.now) c.args.context.now) way c.args.operator.number (cursor_of c.args.source.now.nodes.now c.args.at) c.args.operator.place c.args.operator.op
+    (the_term c.args.left.now) (the_term c.args.right.now) test in
+    rw is c.check_by_right.ensures
 
-pub check_term-returns-else-is_small_enough : goal.check_term-returns-else-is_small_enough
-check_term-returns-else-is_small_enough t c =
-    let u = got_in c.args.source.now.nodes.now c.in_ok-got.got in
-    sym (check_is (map function_of c.args.source.now.functions.now) (bounds_of c.args.source.now.vars.now) (context_of (bounds_of c.args.source.now.vars.now) c.args.context.now)
-    (way_of (option_copied c.args.direction)) (cursor_of c.args.source.now.nodes.now c.args.at) (the_term c.args.term.now))
-    ∙ ap (λ o. bind {B = Got} o (λ u. test (Limit Ty) (is_small_enough u.ty) (Ok u))) c.in_ok-got.ensures
-    ∙ ap (λ b. test (Limit Ty) b (Ok u)) (sym (c.is_small_enough.ensures ∙ ap is_small_enough c.ty.ensures) ∙ c.if-is_small_enough.false)
+pub check_operands-returns-else-is_by_right : goal.check_operands-returns-else-is_by_right
+check_operands-returns-else-is_by_right t c =
+    let way = way_of (option_copied c.args.direction) in
+    let test : is_by_right (the_sort c.args.operator.sort) way (is_literal (the_term c.args.left.now)) ≡ false = cc (c.is_by_right.ensures, c.if-is_by_right.false, c.is_literal.ensures) in
+    let is = by_left_else (map function_of c.args.source.now.functions.now) (bounds_of c.args.source.now.vars.now) (the_sort c.args.operator.sort) c.args.marks.now
+    (context_of (bounds_of c.args.source.now.vars.now) c.args.context.now) way c.args.operator.number (cursor_of c.args.source.now.nodes.now c.args.at) c.args.operator.place c.args.operator.op
+    (the_term c.args.left.now) (the_term c.args.right.now) test in
+    rw is c.check_by_left.ensures
+
+pub check_term-returns : goal.check_term-returns
+check_term-returns t c =
+    subst (λ o. Agrees (got_in c.args.source.now.nodes.now) c.small.result o)
+    (sym (ap (λ o. bind {B = Got} o (λ u. test (Limit Ty) (is_small_enough u.ty) (Ok u))) c.in_ok-got.ensures)
+    ∙ check_is (map function_of c.args.source.now.functions.now) (bounds_of c.args.source.now.vars.now) (context_of (bounds_of c.args.source.now.vars.now) c.args.context.now)
+    (way_of (option_copied c.args.direction)) (cursor_of c.args.source.now.nodes.now c.args.at) (the_term c.args.term.now)) c.small.ensures
 
 pub check_term-returns-in_err-got : goal.check_term-returns-in_err-got
 check_term-returns-in_err-got t c =

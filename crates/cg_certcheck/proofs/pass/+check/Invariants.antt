@@ -1,5 +1,5 @@
 use Rattle.std.proofs.Common.{◌+◌, ◌*◌, map}
-use Rattle.cg_certcheck.proofs.PassSteps.{size, size_fields, sizes}
+use Rattle.cg_check_pieces.proofs.TermSizes.{size, size_fields, sizes}
 use Rattle.cg_core.specs.Kernels.{the_field, the_term}
 use Rattle.cg_core.specs.Terms.{to_named, to_trees}
 use Rattle.cg_certcheck.proofs.pass.+check.Given as goal
@@ -19,29 +19,20 @@ decreases-check_second l = 5 * size (the_term l.term.now) + 2
 abbrev pub decreases-check_opened : goal.decreases-check_opened
 decreases-check_opened l = 5 * size (the_term l.term.now) + 2
 
-abbrev pub decreases-check_opened_twice : goal.decreases-check_opened_twice
-decreases-check_opened_twice l = 5 * size (the_term l.term.now) + 2
+abbrev pub decreases-check_taken : goal.decreases-check_taken
+decreases-check_taken l = 5 * size (the_term l.body.now) + 2
 
 abbrev pub decreases-check_op : goal.decreases-check_op
 decreases-check_op l = 5 * sizes (to_trees (map the_term l.operands.now)) + 4
 
 abbrev pub decreases-check_unary : goal.decreases-check_unary
-decreases-check_unary l = 5 * size (the_term l.part.now) + 5
+decreases-check_unary l = 5 * size (the_term l.part.now) + 4
 
 abbrev pub decreases-check_operand : goal.decreases-check_operand
-decreases-check_operand l = 5 * size (the_term l.part.now) + 4
+decreases-check_operand l = 5 * size (the_term l.part.now) + 3
 
-abbrev pub decreases-check_logic : goal.decreases-check_logic
-decreases-check_logic l = 5 * size (the_term l.part.now) + 3
-
-abbrev pub decreases-check_sum_against : goal.decreases-check_sum_against
-decreases-check_sum_against l = 5 * size (the_term l.part.now) + 3
-
-abbrev pub decreases-check_sum : goal.decreases-check_sum
-decreases-check_sum l = 5 * size (the_term l.part.now) + 3
-
-abbrev pub decreases-check_compared : goal.decreases-check_compared
-decreases-check_compared l = 5 * size (the_term l.part.now) + 3
+abbrev pub decreases-check_guide : goal.decreases-check_guide
+decreases-check_guide l = 5 * size (the_term l.part.now) + 2
 
 abbrev pub decreases-check_binary : goal.decreases-check_binary
 decreases-check_binary l = 5 * (size (the_term l.left.now) + size (the_term l.right.now)) + 6
@@ -49,29 +40,14 @@ decreases-check_binary l = 5 * (size (the_term l.left.now) + size (the_term l.ri
 abbrev pub decreases-check_operands : goal.decreases-check_operands
 decreases-check_operands l = 5 * (size (the_term l.left.now) + size (the_term l.right.now)) + 5
 
-abbrev pub decreases-check_logic_of_both : goal.decreases-check_logic_of_both
-decreases-check_logic_of_both l = 5 * (size (the_term l.left.now) + size (the_term l.right.now)) + 4
+abbrev pub decreases-check_by_left : goal.decreases-check_by_left
+decreases-check_by_left l = 5 * (size (the_term l.first.now) + size (the_term l.second.now)) + 4
 
-abbrev pub decreases-check_both_against : goal.decreases-check_both_against
-decreases-check_both_against l = 5 * (size (the_term l.left.now) + size (the_term l.right.now)) + 4
+abbrev pub decreases-check_by_right : goal.decreases-check_by_right
+decreases-check_by_right l = 5 * (size (the_term l.literal.now) + size (the_term l.part.now)) + 4
 
-abbrev pub decreases-check_both : goal.decreases-check_both
-decreases-check_both l = 5 * (size (the_term l.left.now) + size (the_term l.right.now)) + 4
-
-abbrev pub decreases-check_comparison : goal.decreases-check_comparison
-decreases-check_comparison l = 5 * (size (the_term l.left.now) + size (the_term l.right.now)) + 4
-
-abbrev pub decreases-check_both_by_left : goal.decreases-check_both_by_left
-decreases-check_both_by_left l = 5 * (size (the_term l.left.now) + size (the_term l.right.now)) + 3
-
-abbrev pub decreases-check_both_by_right : goal.decreases-check_both_by_right
-decreases-check_both_by_right l = 5 * (size (the_term l.left.now) + size (the_term l.right.now)) + 3
-
-abbrev pub decreases-check_comparison_by_left : goal.decreases-check_comparison_by_left
-decreases-check_comparison_by_left l = 5 * (size (the_term l.left.now) + size (the_term l.right.now)) + 3
-
-abbrev pub decreases-check_comparison_by_right : goal.decreases-check_comparison_by_right
-decreases-check_comparison_by_right l = 5 * (size (the_term l.left.now) + size (the_term l.right.now)) + 3
+abbrev pub decreases-check_right : goal.decreases-check_right
+decreases-check_right l = 5 * size (the_term l.part.now) + 3
 
 abbrev pub decreases-check_app : goal.decreases-check_app
 decreases-check_app l = 5 * (size (the_term l.fun.now) + size (the_term l.arg.now)) + 3
@@ -106,9 +82,6 @@ decreases-check_annot l = 5 * size (the_term l.part.now) + 3
 abbrev pub decreases-check_case : goal.decreases-check_case
 decreases-check_case l = 5 * (size (the_term l.value.now) + size (the_term l.first.now) + size (the_term l.second.now)) + 4
 
-abbrev pub decreases-check_matched : goal.decreases-check_matched
-decreases-check_matched l = 5 * (size (the_term l.first.now) + size (the_term l.second.now)) + 4
-
 abbrev pub decreases-check_other : goal.decreases-check_other
 decreases-check_other l = 5 * size (the_term l.second.now) + 3
 
@@ -116,13 +89,7 @@ abbrev pub decreases-check_put : goal.decreases-check_put
 decreases-check_put l = 5 * (size (the_term l.value.now) + size (the_term l.part.now)) + 3
 
 abbrev pub decreases-check_struct : goal.decreases-check_struct
-decreases-check_struct l = 5 * size_fields (to_named (map the_field l.fields.now)) + 4
-
-abbrev pub decreases-check_record : goal.decreases-check_record
-decreases-check_record l = 5 * size_fields (to_named (map the_field l.fields.now)) + 3
-
-abbrev pub decreases-check_own_record : goal.decreases-check_own_record
-decreases-check_own_record l = 5 * size_fields (to_named (map the_field l.fields.now)) + 3
+decreases-check_struct l = 5 * size_fields (to_named (map the_field l.fields.now)) + 3
 
 abbrev pub decreases-check_fields : goal.decreases-check_fields
 decreases-check_fields l = 5 * size_fields (to_named (map the_field l.fields.now)) + 2

@@ -1,9 +1,8 @@
 use Rattle.std.proofs.Common.{◌≡◌, map, drop}
 use Rattle.cg_core.specs.Kernels.{function_of}
 use Rattle.cg_check_def.specs.Pass.{check_all}
-use Rattle.cg_check.specs.Bodies.{as_lists}
-use Rattle.cg_check_pieces.specs.Bodies.{lists_of}
-use Rattle.cg_check.proofs.BodySteps.{behind}
+use Rattle.cg_check_pieces.proofs.BodySteps.{behind}
+use Rattle.cg_check_pieces.specs.Bodies.{as_lists, lists_of}
 use Rattle.cg_check.proofs.functions.check_functions.Given as goal
 
 abbrev pub invariant-loop-fun : goal.invariant-loop-fun

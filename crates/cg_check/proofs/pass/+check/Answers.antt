@@ -9,12 +9,12 @@ use Rattle.cg_check_context.proofs.ObservedSteps.{seen_types}
 use Rattle.cg_check_def.specs.Pass.{check, check_shape}
 use Rattle.cg_core.specs.Kernels.{function_of, the_field, the_term}
 use Rattle.cg_core.specs.Terms.{to_named, to_trees, lets, let_bang, if_else, case_of, esac, struct, member, take_field, put}
-use Rattle.cg_check.specs.Operators.{is_by_right}
+use Rattle.cg_check_pieces.specs.Directions.{is_by_right}
 use Rattle.cg_typing.specs.Operators.{sort_of}
 use Rattle.cg_typing.specs.Rules.{is_literal}
-use Rattle.cg_check.proofs.OperandSteps.{other_operands, size_more, size_one, size_two}
+use Rattle.cg_check.proofs.OperandSteps.{other_operands}
 use Rattle.cg_check_pieces.proofs.FieldSteps.{no_named, more_named}
-use Rattle.cg_check.proofs.PassSteps.{sizes}
+use Rattle.cg_check_pieces.proofs.TermSizes.{size_more, size_one, size_two, sizes}
 use Rattle.cg_check.proofs.pass.+check.Goals as goal
 use Rattle.cg_check.proofs.pass.+check.Goals.{check_op-in_default-via-then-as_slice-lt1, check_op-in_default-via-else-as_slice-lt1+else-this-lt2+else-this-lt3}
 use Rattle.cg_core.proofs.Operands.{one_operand, two_operands}

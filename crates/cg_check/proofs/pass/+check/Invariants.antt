@@ -1,7 +1,7 @@
 use Rattle.std.proofs.Common.{◌+◌, ◌*◌, map}
 use Rattle.cg_core.specs.Kernels.{the_field, the_term}
 use Rattle.cg_core.specs.Terms.{to_named, to_trees}
-use Rattle.cg_check.proofs.PassSteps.{size, size_fields, sizes}
+use Rattle.cg_check_pieces.proofs.TermSizes.{size, size_fields, sizes}
 use Rattle.cg_check.proofs.pass.+check.Given as goal
 
 abbrev pub decreases-check_term : goal.decreases-check_term

@@ -1,0 +1,8 @@
+use Rattle.std.proofs.Common.{◌≡◌, ◌++◌, drop}
+use Rattle.cg_certcheck_context.specs.Contexts.{context_of}
+use Rattle.cg_check_pieces.specs.View.{bounds_of}
+use Rattle.cg_typing.specs.Contexts.{first}
+use Rattle.cg_certcheck_context.proofs.context.firsts.Given as goal
+
+abbrev pub invariant-loop-i : goal.invariant-loop-i
+invariant-loop-i l = context_of (bounds_of l.source.vars.now) l.side.items ++ first (drop l.i l.marks) (context_of (bounds_of l.source.vars.now) (drop l.i l.context)) ≡ first l.marks (context_of (bounds_of l.source.vars.now) l.context)
