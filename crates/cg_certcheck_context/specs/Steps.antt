@@ -1,20 +1,17 @@
--- Steps of the pass that need no term: a node is reached, and what is left of a part's type is read.
-use Rattle.std.specs.Prelude.{ℕ, Bool, true, false, ◌&&◌, not, Option, Some, List, [], ◌∷◌, Ok}
+-- Steps of the pass that need no term: how a node is reached.
+use Rattle.std.specs.Prelude.{Bool, true, false, ◌&&◌, Option, List, [], ◌∷◌, Ok}
 use Rattle.cg_base.specs.declared.kind.Kinds.{Kinds}
-use Rattle.cg_base.specs.declared.limit.Limit.TheVariants.{Ty}
 use Rattle.cg_base.specs.declared.place.Place.{Place}
 use Rattle.cg_base.specs.Types.{Tau}
-use Rattle.cg_cert.specs.declared.fault.CertFault.TheVariants.{Limit}
 use Rattle.cg_core.specs.declared.derivation.Mark.{Mark}
 use Rattle.cg_core.specs.declared.derivation.Node.{Node}
 use Rattle.cg_core.specs.declared.derivation.Node.TheVariants as nodes
 use Rattle.cg_core.specs.declared.term.Seen.{Seen}
-use Rattle.cg_core.specs.Terms.{Named, lit}
-use Rattle.cg_certcheck_def.specs.Events.{is_some, name_at, strings_at, one_string, field_strings, meets, is_number}
-use Rattle.cg_certcheck_def.specs.Pass.{Out, Cursor, Got, bind, row, stands, test, step, made}
+use Rattle.cg_core.specs.Terms.{Named}
+use Rattle.cg_certcheck_def.specs.Events.{is_some, name_at, strings_at, one_string, field_strings, meets}
+use Rattle.cg_certcheck_def.specs.Pass.{Out, Cursor, bind, row, stands, step}
 use Rattle.cg_certcheck_def.specs.Tests.{same_node, drops_all}
-use Rattle.cg_typing.specs.Contexts.{Context, shares}
-use Rattle.cg_typing.specs.Parts.{field_in, alternative_in, held, is_left, is_there, is_last, is_read_only, may_be_put_over, is_small_enough}
+use Rattle.cg_typing.specs.Contexts.{Context}
 use Rattle.cg_typing.specs.Trees.{first_marks, leaf}
 
 -- the mark strings of the node that stands here, which is of this rule

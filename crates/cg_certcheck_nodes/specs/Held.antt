@@ -1,21 +1,17 @@
 -- What a literal left of its guide comes to, and what a part of a type holds that a node names.
-use Rattle.std.specs.Prelude.{ℕ, Bool, true, false, ◌&&◌, not, Option, Some, List, [], ◌∷◌, Ok}
+use Rattle.std.specs.Prelude.{ℕ, ◌&&◌, not, Option, Some, List, Ok}
 use Rattle.cg_base.specs.declared.kind.Kinds.{Kinds}
 use Rattle.cg_base.specs.declared.limit.Limit.TheVariants.{Ty}
 use Rattle.cg_base.specs.declared.place.Place.{Place}
 use Rattle.cg_base.specs.Types.{Tau}
 use Rattle.cg_cert.specs.declared.fault.CertFault.TheVariants.{Limit}
-use Rattle.cg_core.specs.declared.derivation.Mark.{Mark}
-use Rattle.cg_core.specs.declared.derivation.Node.{Node}
 use Rattle.cg_core.specs.declared.derivation.Node.TheVariants as nodes
-use Rattle.cg_core.specs.declared.term.Seen.{Seen}
-use Rattle.cg_core.specs.Terms.{Named, lit}
-use Rattle.cg_certcheck_def.specs.Events.{is_some, name_at, strings_at, one_string, field_strings, meets, is_number}
-use Rattle.cg_certcheck_def.specs.Pass.{Out, Cursor, Got, bind, row, stands, test, step, made}
-use Rattle.cg_certcheck_def.specs.Tests.{same_node, drops_all}
-use Rattle.cg_typing.specs.Contexts.{Context, shares}
+use Rattle.cg_core.specs.Terms.{lit}
+use Rattle.cg_certcheck_def.specs.Events.{meets, is_number}
+use Rattle.cg_certcheck_def.specs.Pass.{Out, Cursor, Got, row, test, made}
+use Rattle.cg_typing.specs.Contexts.{shares}
 use Rattle.cg_typing.specs.Parts.{field_in, alternative_in, held, is_left, is_there, is_last, is_read_only, may_be_put_over, is_small_enough}
-use Rattle.cg_typing.specs.Trees.{first_marks, leaf}
+use Rattle.cg_typing.specs.Trees.{leaf}
 
 -- what such a literal comes to, by its guide's type
 unfoldable pub literal_judged : Place → Option ℕ → Tau → ℕ → Cursor → Out Got

@@ -4,7 +4,7 @@
 ghost use Rattle.std.specs.Prelude.{◌≡◌};
 ghost use Rattle.std.specs.Option.{option_copied};
 ghost use Rattle.cg_base.specs.Types.{type_of};
-ghost use Rattle.cg_certcheck_nodes.specs.Held as steps;
+ghost use Rattle.cg_certcheck_nodes.specs.Held as rows;
 ghost use Rattle.cg_certcheck_context.specs.View.{Agrees};
 ghost use Rattle.cg_check_pieces.specs.Boxed.{in_box};
 ghost use Rattle.cg_check_pieces.specs.View.{bounds_of, way_of};
@@ -37,7 +37,7 @@ pub fn alternative_type(
     name: &Name,
     ty: &Ty,
 ) -> Result<Box<Ty>, CertFault>
-    ensures { Agrees in_box result (steps.alternative_held number name.now (type_of ty.now)) }
+    ensures { Agrees in_box result (rows.alternative_held number name.now (type_of ty.now)) }
 {
     let part = alternative_in(name, ty);
     if !is_left(part) {
@@ -55,7 +55,7 @@ pub fn last_type(
     name: &Name,
     ty: &Ty,
 ) -> Result<Box<Ty>, CertFault>
-    ensures { Agrees in_box result (steps.last_held number (way_of (option_copied direction.entry)) name.now (type_of ty.now)) }
+    ensures { Agrees in_box result (rows.last_held number (way_of (option_copied direction.entry)) name.now (type_of ty.now)) }
 {
     let part = alternative_in(name, ty);
     if !is_left(part) {
@@ -79,7 +79,7 @@ pub fn member_type(
     name: &Name,
     ty: &Ty,
 ) -> Result<Box<Ty>, CertFault>
-    ensures { Agrees in_box result (steps.member_held (bounds_of source.now.vars.now) number (way_of (option_copied direction.entry)) name.now (type_of ty.now)) }
+    ensures { Agrees in_box result (rows.member_held (bounds_of source.now.vars.now) number (way_of (option_copied direction.entry)) name.now (type_of ty.now)) }
 {
     let part = field_in(name, ty);
     if !is_left(part) {
@@ -97,7 +97,7 @@ pub fn member_type(
 /// What a field holds that is taken: it is there and left, in a record that isn't read-only. Else C2 with the number of the node; and
 /// `Memory` for want of memory.
 pub fn taken_type(source: &Source, number: u64, name: &Name, ty: &Ty) -> Result<Box<Ty>, CertFault>
-    ensures { Agrees in_box result (steps.taken_held number name.now (type_of ty.now)) }
+    ensures { Agrees in_box result (rows.taken_held number name.now (type_of ty.now)) }
 {
     let part = field_in(name, ty);
     if !is_left(part) {
@@ -112,7 +112,7 @@ pub fn taken_type(source: &Source, number: u64, name: &Name, ty: &Ty) -> Result<
 /// What a field holds that is put: it is there, in a record that isn't read-only, and taken or may be dropped. Else C2 with the number of
 /// the node; and `Memory` for want of memory.
 pub fn put_type(source: &Source, number: u64, name: &Name, ty: &Ty) -> Result<Box<Ty>, CertFault>
-    ensures { Agrees in_box result (steps.put_held (bounds_of source.now.vars.now) number name.now (type_of ty.now)) }
+    ensures { Agrees in_box result (rows.put_held (bounds_of source.now.vars.now) number name.now (type_of ty.now)) }
 {
     let part = field_in(name, ty);
     if !is_there(part) {

@@ -10,7 +10,7 @@ use Rattle.cg_core.specs.declared.derivation.Node.TheVariants as nodes
 use Rattle.cg_core.specs.declared.op.Op.{Op}
 use Rattle.cg_core.specs.declared.term.Seen.{Seen}
 use Rattle.cg_core.specs.Derivations as trees
-use Rattle.cg_core.specs.Derivations.{Derivation, Derivations, derivation}
+use Rattle.cg_core.specs.Derivations.{Derivation, derivation}
 use Rattle.cg_core.specs.Kernels.{Function}
 use Rattle.cg_core.specs.Terms.{Tree, term, Shape, var, unit, bool, lit, fun, op, app, lets, let_bang, if_else, con, case_of, esac, struct, member, take_field, put, cast, annot, none, more, Named, end, field}
 use Rattle.cg_faults.specs.Occurrences.{touched, touched_shape, touched_fields}

@@ -8,7 +8,7 @@ use Rattle.cg_cmachine_resolve.specs.declared.line.Right.{Right}
 use Rattle.cg_cmachine_resolve.specs.declared.line.Right.TheVariants as right
 use Rattle.cg_cmachine_resolve.specs.Resolutions.{IsLine, Resolution, lines_at, next}
 use Rattle.cg_cmachine_def.specs.Operands as operands
-use Rattle.cg_cmachine_def.specs.Operands.{Value, typed, scalars_of}
+use Rattle.cg_cmachine_def.specs.Operands.{Value, scalars_of}
 use Rattle.cg_cmachine_def.specs.Outcomes.{State, Outcome, done, stuck, needs, lift}
 use Rattle.cg_cmachine_def.specs.Runs.{Flow, back, goes, onward}
 use Rattle.cg_ctree.specs.declared.why.Why.TheVariants.{NoReturn}

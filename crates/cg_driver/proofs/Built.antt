@@ -1,5 +1,5 @@
 -- The steps of `build` come to status 0 over exactly the files whose source can be built; and where those of `recheck` do, those of `check` do.
-use Rattle.std.proofs.Common.{◌≡◌, ◌≤◌, ℕ, List, [], ◌∷◌, Option, Some, None, inl, inr, take, ◌+◌, length, refl, subst}
+use Rattle.std.proofs.Common.{◌≡◌, ◌≤◌, ℕ, List, [], ◌∷◌, Option, Some, None, inr, take, ◌+◌, length, refl, subst}
 use Rattle.std.proofs.lemmas.List.Elements.{All-nil, All-cons}
 use Rattle.std.specs.FinMap.{insert}
 use Rattle.std.specs.List.{All}

@@ -40,7 +40,6 @@ use Rattle.cg_driver_steps.specs.Steps.{Outcome, refuses, goes}
 use Rattle.cg_driver_steps.specs.Scripts.{IsRuling}
 use Rattle.cg_surface.specs.declared.program.Program.{Program}
 use Rattle.cg_surface.specs.Programs.{Entry}
-use Rattle.cg_resolve_takes.specs.Says as takes
 use Rattle.cg_typing.specs.Accepted.{IsAcceptedKernel}
 use Rattle.cg_value.specs.Values.{Val, number, function}
 use Rattle.cg_driver_words.specs.Words.{Command, check, build, recheck, run}

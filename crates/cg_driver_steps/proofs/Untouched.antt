@@ -1,7 +1,7 @@
 -- Where a read failed, and no step reads behind one that writes, nothing was written.
 use Rattle.std.proofs.Common.{◌≡◌, ℕ, List, [], ◌∷◌, Option, inl, inr, sym, ◌∙◌, subst}
 use Rattle.cg_driver_steps.specs.declared.status.Status.{Status}
-use Rattle.cg_driver_steps.specs.declared.status.Status.TheVariants.{Done, ReadFault, WriteFault, Memory}
+use Rattle.cg_driver_steps.specs.declared.status.Status.TheVariants.{ReadFault}
 use Rattle.cg_driver_steps.specs.World.{World, Unwritten}
 use Rattle.cg_driver_steps.specs.Steps.{Outcome, refuses, goes, Step, reads, judges, writes, Runs, ReadsFirst, ReadsNone}
 use Rattle.cg_driver_steps.specs.Scripts.{Script, Says, Answers, printed, unprinted, no_memory, IsRuling}

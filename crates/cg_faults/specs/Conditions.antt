@@ -5,7 +5,7 @@ use Rattle.std.specs.List.{flat_map}
 use Rattle.cg_base.specs.declared.kind.Kinds.{Kinds}
 use Rattle.cg_base.specs.declared.place.Place.{Place}
 use Rattle.cg_base.specs.Types as types
-use Rattle.cg_base.specs.Types.{Tau, word, fields, Parts, part}
+use Rattle.cg_base.specs.Types.{Tau, part}
 use Rattle.cg_core.specs.declared.term.Seen.{Seen}
 use Rattle.cg_core.specs.Kernels.{Function}
 use Rattle.cg_core.specs.Terms.{Tree, Shape, var, unit, bool, lit, fun, op, app, lets, let_bang, if_else, con, case_of, esac, struct, member, take_field, put, cast, annot, none, more, Named, Arg}

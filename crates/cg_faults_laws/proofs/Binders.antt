@@ -1,5 +1,5 @@
 -- In which part of its node a variable stands that is bound there.
-use Rattle.std.proofs.Common.{◌≡◌, ℕ, zero, suc, ◌+◌, Bool, Option, Some, None, List, [], ◌∷◌, slice_get, ⊎_elim, refl, sym, ap, ◌∙◌, subst, arith}
+use Rattle.std.proofs.Common.{◌≡◌, ℕ, zero, suc, ◌+◌, Bool, Option, Some, List, [], ◌∷◌, slice_get, ⊎_elim, refl, sym, ap, ◌∙◌, subst, arith}
 use Rattle.cg_base.specs.declared.place.Place.{Place}
 use Rattle.cg_base.specs.Types.{Tau, Parts}
 use Rattle.cg_core.specs.Kernels.{Function}

@@ -1,5 +1,5 @@
 -- What holds at a site of a lawful body where its events are judged, and which flags stand there for earlier touches.
-use Rattle.std.proofs.Common.{◌≡◌, ◌⊎◌, ◌↔◌, ℕ, ◌<◌, ◌≤◌, true, false, ◌||◌, not, Option, Some, None, List, [], ◌∷◌, ◌++◌, length, map, slice_get}
+use Rattle.std.proofs.Common.{◌≡◌, ◌⊎◌, ◌↔◌, ℕ, ◌<◌, ◌≤◌, true, false, ◌||◌, not, Option, Some, None, List, [], ◌∷◌, ◌++◌, length, slice_get}
 use Rattle.cg_base.specs.declared.place.Place.{Place}
 use Rattle.cg_base.specs.Types.{Tau}
 use Rattle.cg_core.specs.declared.term.Seen.{Seen}

@@ -9,7 +9,7 @@ use Rattle.cg_heap.specs.declared.cell.Cell.TheVariants.{Words, Answers}
 use Rattle.cg_heap.specs.declared.cell.Scalar.{Scalar}
 use Rattle.cg_heap.specs.Reps.{Heap, HeapWorld, StandsFor, Holds, HoldsAll, HoldsAt, Represents, slots, inner, first_number, first_address, tail}
 use Rattle.cg_value.specs.Values as values
-use Rattle.cg_value.specs.Values.{Val, number, chosen, parts, elements, answers, Vals}
+use Rattle.cg_value.specs.Values.{Val, chosen, parts, Vals}
 
 instance_once : (o : Option (Val × Tau)) (v v' : Val) (t : Tau) → o ≡ Some (v, t) → o ≡ Some (v', t) → v ≡ v'
 instance_once o v v' t e f = let p : ◌≡◌ {A = Val × Tau} (v, t) (v', t) = cc in ap (λ p. p.0) p

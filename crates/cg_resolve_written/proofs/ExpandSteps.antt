@@ -8,7 +8,7 @@ use Rattle.cg_surface.specs.declared.written.STy.{STy, roll-STy, the_lemmas}
 use Rattle.cg_surface.specs.declared.written.STyForm.{STyForm, Name, fold-STyForm, the_lemmas as form_lemmas}
 use Rattle.cg_surface.specs.declared.written.SPart.{SPart}
 use Rattle.cg_surface.specs.declared.written.SAlt.{SAlt}
-use Rattle.cg_surface.specs.Written.{Written, Writtens, WrittenFields, WrittenAlts, OneAlt, OneField, layer, alt_layer, field_layer, type_layer, written_of, field_of, alt_of, and_type, and_field, and_one, to_types, to_fields, to_alts, alts_behind, types_none, fields_none, alts_none}
+use Rattle.cg_surface.specs.Written.{Written, Writtens, WrittenFields, WrittenAlts, OneAlt, OneField, layer, alt_layer, field_layer, type_layer, written_of, field_of, alt_of, and_one, to_types, to_fields, to_alts, alts_behind, types_none, fields_none, alts_none}
 use Rattle.cg_surface.specs.Written as types
 use Rattle.cg_resolve_def.specs.Declared.{is_variable}
 use Rattle.cg_resolve_def.specs.Expand.{Bodies, bytes_le, component, components, expanded, expanded_all, expanded_alts, expanded_fields, in_order, inserted, position_of, types_length}

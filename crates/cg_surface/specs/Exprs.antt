@@ -10,7 +10,7 @@ use Rattle.cg_surface.specs.declared.expr.FExpr.{FExpr}
 use Rattle.cg_surface.specs.declared.expr.SForm.TheOpen as open'
 use Rattle.cg_surface.specs.declared.expr.SForm.TheOpen.{SForm-F, Alt-F, Bind-F, FExpr-F, SExpr-F}
 use Rattle.cg_surface.specs.declared.expr.SForm.TheFolds.{fold-SExpr, fold-Alt, fold-Bind, fold-FExpr}
-use Rattle.cg_surface.specs.Written.{Written, Writtens, to_types, written_of, types_depth}
+use Rattle.cg_surface.specs.Written.{Written, Writtens, to_types, written_of}
 use Rattle.cg_surface.specs.Written as types
 use Rattle.cg_surface.specs.Patterns.{Pattern, pattern_of}
 use Rattle.cg_surface.specs.Patterns as patterns

@@ -1,5 +1,4 @@
 use Rattle.std.proofs.Common.{◌∙◌, sym, ap}
-use Rattle.std.specs.Prelude.{drop}
 use Rattle.cg_base.specs.Bytes.{white, digit}
 use Rattle.cg_heaptext.specs.Cuts.{behind}
 use Rattle.cg_heaptext.proofs.Reading.{within, fronts, behinds, last_none, last_some, last_more}

@@ -1,4 +1,4 @@
-use Rattle.std.proofs.Common.{◌∙◌, sym}
+use Rattle.std.proofs.Common.{sym}
 use Rattle.cg_heaptext.proofs.Reading.{none, in_word, no_word}
 use Rattle.cg_heaptext.proofs.read.read_argument.Goals as goal
 
