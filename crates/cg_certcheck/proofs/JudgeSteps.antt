@@ -19,7 +19,7 @@ use Rattle.cg_core.specs.declared.kernel.Kernel.{Kernel}
 use Rattle.cg_core.specs.declared.term.Term.{Term}
 use Rattle.cg_core.specs.declared.term.Typed.{Typed}
 use Rattle.cg_core.specs.Kernels.{Function, kernel_of}
-use Rattle.cg_faults.specs.Events.{LimitsHold, kernel_events}
+use Rattle.cg_faults.specs.Fails.{AreTypesWithin}
 use Rattle.cg_core_def.specs.Lawful.{IsLawfulKernel}
 use Rattle.cg_typing.specs.declared.checked.Checked.{Checked}
 use Rattle.cg_typing.specs.Holds.{kernel_in, cores_in, trees_in}
@@ -71,7 +71,7 @@ module _ (functions : List Function) (cert : Cert) (lawful : IsLawfulKernel func
   are_listed : (lists : Lists) → as_lists (check_cert functions cert) ≡ Ok lists → cert ≡ certificate functions lists.1
   are_listed lists h = (kept_listed functions cert lawful (fine lists h)).1 ∙ ap (certificate functions) (sym (trees_are lists h))
 
-  within : (lists : Lists) → as_lists (check_cert functions cert) ≡ Ok lists → LimitsHold (kernel_events functions)
+  within : (lists : Lists) → as_lists (check_cert functions cert) ≡ Ok lists → AreTypesWithin functions
   within lists h = ((decide functions cert lawful).0 (fine lists h)).1
 
   refused : (fault : CertFault) → First ≡ Some fault → Refuses functions cert fault

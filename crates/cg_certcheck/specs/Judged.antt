@@ -8,7 +8,7 @@ use Rattle.cg_cert.specs.declared.fault.CertFault.TheVariants.{C1, C2, C3, Limit
 use Rattle.cg_certcheck_def.specs.Events.{cert_events, first_failing}
 use Rattle.cg_core.specs.declared.kernel.Kernel.{Kernel}
 use Rattle.cg_core.specs.Kernels.{Function, kernel_of}
-use Rattle.cg_faults.specs.Events.{LimitsHold, kernel_events}
+use Rattle.cg_faults.specs.Fails.{AreTypesWithin}
 use Rattle.cg_typing.specs.declared.checked.Checked.{Checked}
 use Rattle.cg_typing.specs.Holds.{kernel_in, cores_in, trees_in}
 use Rattle.cg_typing.specs.Kept.{AreKept, maybe_core, maybe_tree}
@@ -31,7 +31,7 @@ pub record IsRechecked (kernel : Kernel) (cert : Cert) (checked : Checked) : Typ
   pub same : kernel_in checked ≡ kernel
   pub lists : cert ≡ certificate (kernel_of kernel) (map maybe_tree (trees_in checked))
   pub kept : AreKept (kernel_of kernel) (kernel_of kernel) (map maybe_core (cores_in checked)) (map maybe_tree (trees_in checked))
-  pub within : LimitsHold (kernel_events (kernel_of kernel))
+  pub within : AreTypesWithin (kernel_of kernel)
 
 -- what the answer says
 abbrev pub Rechecks : Kernel → Cert → Result Checked CertFault → Type 0

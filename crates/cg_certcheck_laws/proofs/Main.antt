@@ -4,9 +4,11 @@ use Rattle.std.proofs.Common.{Bool, true, List, map, ap, subst, sym, ◌∙◌}
 use Rattle.cg_cert.specs.declared.cert.Cert.{Cert}
 use Rattle.cg_cert.specs.declared.cert.CertFun.{CertFun}
 use Rattle.cg_cert.specs.Certificates.{certificate}
+use Rattle.cg_typing.proofs.KeptAccepted.{kept_accepted}
 use Rattle.cg_typing.specs.Kept.{AreKept}
 use Rattle.cg_core.specs.Kernels.{Function}
 use Rattle.cg_faults.specs.Events.{kernel_events}
+use Rattle.cg_faults_laws.proofs.Occurring.{types_are_within}
 use Rattle.cg_certcheck_def.specs.Events.{cert_events}
 use Rattle.cg_certcheck_laws.specs.Laws.{SpellsDerivation, EventsDecide, KeptIsListed, all_kept}
 use Rattle.cg_check_pieces.specs.Bodies.{tree_in}
@@ -27,8 +29,11 @@ spelled_holds functions cert limited h l =
 pub decide : EventsDecide
 decide functions cert lawful = (
   λ h. let r = functions_sound functions functions lawful.functions_stand cert.funs 1 h in
-      (record { cores = r.cores; trees = r.trees; kept = r.kept; lists = ap cert_of r.lists }, r.limits),
-  λ h. all_hold (cert_events functions cert) (spelled_holds functions cert true h.0 (limits_asked (kernel_events functions) h.1)),
+      (record { cores = r.cores; trees = r.trees; kept = r.kept; lists = ap cert_of r.lists },
+      (types_are_within functions lawful (kept_accepted functions r.cores r.trees r.kept)).0 r.limits),
+  λ h. all_hold (cert_events functions cert)
+      (spelled_holds functions cert true h.0
+      (limits_asked (kernel_events functions) ((types_are_within functions lawful (kept_accepted functions h.0.cores h.0.trees h.0.kept)).1 h.1))),
 )
 
 pub kept_listed : KeptIsListed

@@ -7,7 +7,7 @@ use Rattle.cg_check_def.specs.NormalForm.{core}
 use Rattle.cg_core.specs.Derivations.{Derivation}
 use Rattle.cg_core.specs.Kernels.{Function, Body}
 use Rattle.cg_core.specs.Terms.{Tree, Note}
-use Rattle.cg_faults.specs.Events.{LimitsHold, kernel_events}
+use Rattle.cg_faults.specs.Fails.{AreTypesWithin}
 use Rattle.cg_core_def.specs.Lawful.{IsLawfulKernel}
 use Rattle.cg_certcheck_def.specs.Events.{AllHold, first_failing, cert_events, nodes_next, funs_behind}
 use Rattle.cg_certcheck_def.specs.Pass.{Kept, check_cert, verdict}
@@ -26,7 +26,7 @@ pub record SpellsDerivation (functions : List Function) (cert : Cert) : Type 0 w
 -- no event fails exactly where the certificate spells a derivation of the kernel, and no type of a node passes the limit
 abbrev pub EventsDecide : Type 0
 EventsDecide = (functions : List Function) (cert : Cert) → IsLawfulKernel functions
-    → AllHold (cert_events functions cert) ↔ (SpellsDerivation functions cert × LimitsHold (kernel_events functions))
+    → AllHold (cert_events functions cert) ↔ (SpellsDerivation functions cert × AreTypesWithin functions)
 
 -- what the pass keeps of functions where no event fails: the core of plain typing, and the derivation that the nodes spell
 abbrev pub body_kept : List Function → Function → Option Body → List CertFun → (List CertFun → List Kept) → List Kept

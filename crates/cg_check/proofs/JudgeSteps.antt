@@ -7,7 +7,8 @@ use Rattle.cg_check_context.specs.declared.stop.Stop.{Stop}
 use Rattle.cg_check_context.specs.declared.stop.Stop.TheVariants.{Rule as Broken, Size, Memory}
 use Rattle.cg_check.specs.Bodies.{refusal_of}
 use Rattle.cg_check_pieces.specs.Bodies.{Both, Lists, as_lists, core_in, lists_in, lists_of, tree_in}
-use Rattle.cg_check.specs.Judged.{AreTypesWithin, Refuses, IsChecked}
+use Rattle.cg_check.specs.Judged.{Refuses, IsChecked}
+use Rattle.cg_faults.specs.Fails.{AreTypesWithin, Fails}
 use Rattle.cg_check_context.specs.View.{Agrees}
 use Rattle.cg_check_laws.proofs.Main.{kept}
 use Rattle.cg_check_laws.proofs.OnePass.{first_fault}
@@ -19,7 +20,6 @@ use Rattle.cg_core.specs.declared.term.Term.{Term}
 use Rattle.cg_core.specs.declared.term.Typed.{Typed}
 use Rattle.cg_core.specs.Kernels.{Function, Body, kernel_of}
 use Rattle.cg_faults.specs.Events.{Fault, kernel_events, first_failing}
-use Rattle.cg_faults.specs.Fails.{Fails}
 use Rattle.cg_faults.specs.Rule.{Test, rule, type_limit}
 use Rattle.cg_faults_laws.proofs.Occurring.{kernels_are_accepted_or_at_fault}
 use Rattle.cg_core_def.specs.Lawful.{IsLawfulKernel}

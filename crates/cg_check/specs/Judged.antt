@@ -5,8 +5,7 @@ use Rattle.cg_base.specs.declared.place.Place.{Place}
 use Rattle.cg_check_def.specs.Kept.{function_core, function_tree}
 use Rattle.cg_core.specs.declared.kernel.Kernel.{Kernel}
 use Rattle.cg_core.specs.Kernels.{Function, kernel_of}
-use Rattle.cg_faults.specs.Events.{LimitsHold, kernel_events}
-use Rattle.cg_faults.specs.Fails.{Fails}
+use Rattle.cg_faults.specs.Fails.{AreTypesWithin, Fails}
 use Rattle.cg_faults.specs.Rule.{rule, type_limit}
 use Rattle.cg_typing.specs.Accepted.{IsAcceptedKernel}
 use Rattle.cg_typing.specs.declared.checked.Checked.{Checked}
@@ -14,10 +13,6 @@ use Rattle.cg_typing.specs.Holds.{kernel_in, cores_in, trees_in}
 use Rattle.cg_typing.specs.Kept.{AreKept, maybe_core, maybe_tree}
 use Rattle.cg_check.specs.declared.refusal.Refusal.{Refusal}
 use Rattle.cg_check.specs.declared.refusal.Refusal.TheVariants.{Rule as Broken, Limit as Beyond, Memory}
-
--- no type of a node of a body passes the limit
-abbrev pub AreTypesWithin : List Function → Type 0
-AreTypesWithin functions = LimitsHold (kernel_events functions)
 
 -- what a refusal says of a kernel: it is the one fault by the definition in its own words, unless memory is wanting
 abbrev pub Refuses : List Function → Refusal → Type 0

@@ -7,7 +7,7 @@ use Rattle.cg_base.specs.declared.limit.Limit.TheVariants.{Nesting, Functions, F
 use Rattle.cg_cert.specs.declared.cert.Cert.{Cert}
 use Rattle.cg_cert.specs.Texts.{CertText}
 use Rattle.cg_certcheck_laws.specs.Laws.{SpellsDerivation}
-use Rattle.cg_check.specs.Judged.{AreTypesWithin}
+use Rattle.cg_faults.specs.Fails.{AreTypesWithin}
 use Rattle.cg_graphs.specs.Circles.{NoCircle}
 use Rattle.cg_lower.specs.Collected.{Copy}
 use Rattle.cg_resolve_def.specs.Faults.{program_faults}
@@ -33,6 +33,7 @@ use Rattle.cg_driver.specs.Found.{Found, nothing, with_source, with_program, wit
 use Rattle.cg_driver.specs.Instanced.{HasInstances, certified_text, emitted}
 use Rattle.cg_driver.proofs.Judging.{ruling}
 use Rattle.cg_driver.proofs.Saying.{accepted_settles, reading_settles}
+use Rattle.cg_driver.proofs.Sources.{accepted_source}
 
 -- `build` alone writes, and its own files
 pub own_writes : (c : Option Command) → WritesItsOwn c
@@ -129,14 +130,7 @@ accepted_of file f n r =
     let last : goes n ≡ goes both.0 = derived.2 in
     let same : n ≡ both.0 = cc in
     let kernel : functions both.0 ≡ functions_of read.program = ap functions read.state in
-    record {
-      program = read.program;
-      short = read.short;
-      resolved = read.resolved;
-      typed = subst IsAcceptedKernel kernel derived.0;
-      within = subst AreTypesWithin kernel derived.1;
-      kernel = ap functions same ∙ kernel;
-    }
+    accepted_source f.source read.program (functions n) read.short read.resolved (subst IsAcceptedKernel kernel derived.0) (subst AreTypesWithin kernel derived.1) (ap functions same ∙ kernel)
 
 read_whole : (held : Held) (file : List ℕ) (found : Found) (after : Held) → Runs Judges (reads_source file ∷ judged_first (source_rules file) []) nothing (calm held) (goes found) (calm after)
     → IsAcceptedSource (bytes_at held file) (functions found)
@@ -144,7 +138,7 @@ read_whole held file found after (inl r) = absurd r.0
 read_whole held file found after (inr r) =
     let accepted = accepted_of file r.0 found (settled (source_rules file) r.0 r.1 (calm after) found r.3) in
     let is : r.0.source ≡ take (source_limit + 1) (bytes_at held file) = ap (λ f. f.source) r.2.2 ∙ r.2.1 in
-    subst (λ x. IsAcceptedSource x (functions found)) (whole source_limit (bytes_at held file) r.0.source is accepted.short) accepted
+    subst (λ x. IsAcceptedSource x (functions found)) (whole source_limit (bytes_at held file) r.0.source is accepted.limits.short) accepted
 
 pub only_accepted : (held : Held) (file : List ℕ) → ComesTo Judges (script_of (Some (check file))) held Done → (fs : List Function) × IsAcceptedSource (bytes_at held file) fs
 only_accepted held file k = let d = came_done Judges ruling (script_of (Some (check file))) held k in (functions d.0, read_whole held file d.0 d.1 d.2)
@@ -153,8 +147,8 @@ pub all_accepted : (held : Held) (file : List ℕ) → (fs : List Function) × I
 all_accepted held file a =
     let bytes = take (source_limit + 1) (bytes_at held file) in
     let f = with_source bytes nothing in
-    let next = with_program a.1.program f in
-    let settles = accepted_settles file (bytes_at held file) a.0 a.1 f (short_whole source_limit (bytes_at held file) a.1.short) in
+    let next = with_program a.1.accepted.program f in
+    let settles = accepted_settles file (bytes_at held file) a.0 a.1 f (short_whole source_limit (bytes_at held file) a.1.limits.short) in
     (goes next, held, inr (f, calm held, (bytes, refl, refl, refl), judged_runs Judges (source_rules file) [] f next (calm held) (calm held) (goes next) settles (refl, refl)), refl)
 
 -- ---- building
@@ -198,7 +192,7 @@ built_of held file text certificate f n old new told source r =
     let is : m ≡ h = cc in
     let written = written_both text certificate m n old new steps.2 in
     let last : n ≡ h = written.same ∙ is in
-    let whole_source = subst (λ x. IsAcceptedSource x (functions g)) (source accepted.short) accepted in
+    let whole_source = subst (λ x. IsAcceptedSource x (functions g)) (source accepted.limits.short) accepted in
     record {
       accepted = subst (λ x. IsAcceptedSource (bytes_at held file) (functions x)) (sym last) whole_source;
       instances = subst (λ x. HasInstances (functions x) x.copies) (sym last) listed.1;

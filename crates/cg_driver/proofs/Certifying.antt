@@ -12,7 +12,7 @@ use Rattle.cg_certcheck.specs.Judged.{IsNodeFault}
 use Rattle.cg_certcheck_laws.proofs.Main.{decide}
 use Rattle.cg_certcheck_def.specs.Events.{Event, event, AllHold, cert_events, first_failing}
 use Rattle.cg_certcheck_laws.specs.Laws.{SpellsDerivation}
-use Rattle.cg_check.specs.Judged.{AreTypesWithin}
+use Rattle.cg_faults.specs.Fails.{AreTypesWithin}
 use Rattle.cg_core.specs.Kernels.{Function}
 use Rattle.cg_core_def.specs.Lawful.{IsLawfulKernel}
 use Rattle.cg_driver_steps.specs.declared.status.Status.{Status}

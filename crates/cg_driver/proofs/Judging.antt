@@ -6,7 +6,7 @@ use Rattle.cg_base.specs.declared.fun.Fun.TheVariants.{User}
 use Rattle.cg_base.specs.declared.place.Place.{Place}
 use Rattle.cg_cert.proofs.Complete.{one as one_certificate}
 use Rattle.cg_cert.proofs.OneByte.{one_byte, no_byte}
-use Rattle.cg_check.specs.Judged.{AreTypesWithin}
+use Rattle.cg_faults.specs.Fails.{AreTypesWithin, Fails}
 use Rattle.cg_check_laws.proofs.OneFault.{one_fault}
 use Rattle.cg_lower.specs.Collected.{Copy}
 use Rattle.cg_core.specs.Kernels.{Function}
@@ -17,7 +17,6 @@ use Rattle.cg_resolve_def.specs.Faults.{NameFault, program_faults}
 use Rattle.cg_eval_def.specs.Evaluation.{evaluation}
 use Rattle.cg_faults.specs.declared.rule.Rule.{Rule}
 use Rattle.cg_faults.specs.Events.{kernel_events, first_failing}
-use Rattle.cg_faults.specs.Fails.{Fails}
 use Rattle.cg_faults.specs.Rule.{Test, rule, type_limit}
 use Rattle.cg_faults_laws.proofs.Occurring.{kernels_are_accepted_or_at_fault}
 use Rattle.cg_heap.specs.declared.cell.Scalar.{Scalar}

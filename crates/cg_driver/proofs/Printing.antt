@@ -5,7 +5,7 @@ use Rattle.cg_cert.specs.Certificates.{certificate}
 use Rattle.cg_cert.specs.declared.cert.Cert.{Cert}
 use Rattle.cg_cert.specs.Laws.{AreNamed}
 use Rattle.cg_certcheck_laws.specs.Laws.{SpellsDerivation}
-use Rattle.cg_check.specs.Judged.{AreTypesWithin}
+use Rattle.cg_faults.specs.Fails.{AreTypesWithin}
 use Rattle.cg_core.specs.Kernels.{kernel_of}
 use Rattle.cg_parser_laws.proofs.Spelling.{spelled_named}
 use Rattle.cg_typing.specs.Holds.{kernel_in, cores_in, trees_in}

@@ -8,7 +8,7 @@ use Rattle.cg_cert.specs.declared.cert.Cert.{Cert}
 use Rattle.cg_cert.specs.declared.fault.CertFault.TheVariants.{C1, C2, C3, Limit as Beyond}
 use Rattle.cg_certcheck.specs.Judged.{IsRechecked, Refuses}
 use Rattle.cg_certcheck_laws.specs.Laws.{SpellsDerivation}
-use Rattle.cg_check.specs.Judged.{AreTypesWithin}
+use Rattle.cg_faults.specs.Fails.{AreTypesWithin}
 use Rattle.cg_core.specs.declared.kernel.Kernel.{Kernel}
 use Rattle.cg_core.specs.Kernels.{Function, kernel_of}
 use Rattle.cg_core_def.specs.Lawful.{IsLawfulKernel}

@@ -9,7 +9,8 @@ use Rattle.cg_base.specs.declared.place.Place.{Place}
 use Rattle.cg_base.specs.Places.{most}
 use Rattle.cg_cert.specs.Laws.{AreNamed}
 use Rattle.cg_check.specs.declared.refusal.Refusal.TheVariants.{Limit as Beyond}
-use Rattle.cg_check.specs.Judged.{AreTypesWithin, IsChecked, Refuses}
+use Rattle.cg_check.specs.Judged.{IsChecked, Refuses}
+use Rattle.cg_faults.specs.Fails.{AreTypesWithin, Fails}
 use Rattle.cg_check_def.specs.Kept.{function_tree}
 use Rattle.cg_core.specs.declared.kernel.KFun.{KFun}
 use Rattle.cg_core.specs.declared.kernel.Kernel.{Kernel}
@@ -22,7 +23,6 @@ use Rattle.cg_resolve_def.specs.Takes.{missing_fields}
 use Rattle.cg_graphs.specs.Circles.{NoCircle}
 use Rattle.cg_driver_entry.specs.Entries.{ReachesAbstract}
 use Rattle.cg_faults.specs.declared.rule.Rule.{Rule}
-use Rattle.cg_faults.specs.Fails.{Fails}
 use Rattle.cg_faults.specs.Rule.{rule, type_limit}
 use Rattle.cg_heaptext.specs.HeapText.{HeapText}
 use Rattle.cg_core_def.specs.Lawful.{IsLawfulKernel}
@@ -53,6 +53,7 @@ use Rattle.cg_driver.specs.Entered.{is_entry}
 use Rattle.cg_driver.specs.Found.{Found, with_program, with_entry, with_argument, functions, source_limit, heap_limit}
 use Rattle.cg_driver.specs.Judged.{functions_in, IsCheckedKernel, IsCheckedSource, IsKernelOf, IsReadSource, Keeps, RefusesKernel, RefusesProgram, RefusesReading, RefusesSource, RefusesEntry, RefusesFunction, RefusesBytes, IsAllowed, IsAllowedAt, IsEntry, IsArgument}
 use Rattle.cg_driver.specs.Lines.{fault_line, name_rule, rule_line, no_entry_line, entry_type_line, abstract_line, no_heap_text_line, out_of_range_line, limit_name, limit_line}
+use Rattle.cg_driver.proofs.Sources.{accepted_source, resolved_in}
 
 -- a report of a line says what the line says
 pub line_says : (Q : Status → List ℕ → Type 0) (wanted : Status) (line : List ℕ) (r : Report) → IsLine wanted line r → Q wanted line → Reports Q r
@@ -262,10 +263,11 @@ reading_settles file source p short has f same =
     )
 
 -- and those of a source that is accepted
-pub accepted_settles : (file source : List ℕ) (fs : List Function) (a : IsAcceptedSource source fs) (f : Found) → f.source ≡ source → Settles Judges (source_rules file) f (goes (with_program a.program f))
+pub accepted_settles : (file source : List ℕ) (fs : List Function) (a : IsAcceptedSource source fs) (f : Found) → f.source ≡ source → Settles Judges (source_rules file) f (goes (with_program a.accepted.program f))
 accepted_settles file source fs a f same =
-    let next = with_program a.program f in
-    then_settles Judges (reading_rules file) (kernel_rules file) f next (goes next) (reading_settles file source a.program a.short a.resolved f same) (inr (next, (refl, a.typed, a.within), refl))
+    let next = with_program a.accepted.program f in
+    then_settles Judges (reading_rules file) (kernel_rules file) f next (goes next)
+    (reading_settles file source a.accepted.program a.limits.short (resolved_in source fs a) f same) (inr (next, (refl, a.accepted.typed, a.limits.types), refl))
 
 -- a source is refused where it isn't read, and where its kernel is refused
 pub reading_refused : (file source : List ℕ) (s : Status) (text : List ℕ) → RefusesReading file source s text → RefusesSource file source s text
@@ -288,14 +290,7 @@ unread_is file source r report is said =
 pub source_checked : (source : List ℕ) (kernel : Kernel) → IsReadSource source kernel → (checked : Checked) → IsCheckedKernel (kernel_of kernel) checked → IsCheckedSource source checked
 source_checked source kernel r checked c =
     record {
-      accepted = record {
-        program = r.program;
-        short = r.short;
-        resolved = r.resolved;
-        typed = subst IsAcceptedKernel r.same c.accepted;
-        within = subst AreTypesWithin r.same c.within;
-        kernel = c.same ∙ r.same;
-      };
+      accepted = accepted_source source r.program (functions_in checked) r.short r.resolved (subst IsAcceptedKernel r.same c.accepted) (subst AreTypesWithin r.same c.within) (c.same ∙ r.same);
       cores = c.cores;
       ready = record {
         marks = c.marks;
@@ -309,7 +304,7 @@ pub source_judged : (file source : List ℕ) (f : Found) → f.source ≡ source
 source_judged file source f same r said =
     steps_judged (IsCheckedSource source) (RefusesSource file source) Keeps (source_rules file) f
     (λ checked c. (
-      with_program c.accepted.program f,
+      with_program c.accepted.accepted.program f,
       accepted_settles file source (functions_in checked) c.accepted f same,
       record { same = sym c.accepted.kernel; cores = c.cores; few = c.few },
     ))

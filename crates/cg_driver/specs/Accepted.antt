@@ -5,7 +5,8 @@ use Rattle.cg_cert.specs.Certificates.{certificate}
 use Rattle.cg_cert.specs.declared.cert.Cert.{Cert}
 use Rattle.cg_cert.specs.Texts.{CertText, text as text_of}
 use Rattle.cg_certcheck_laws.specs.Laws.{SpellsDerivation}
-use Rattle.cg_check.specs.Judged.{AreTypesWithin, IsChecked}
+use Rattle.cg_check.specs.Judged.{IsChecked}
+use Rattle.cg_faults.specs.Fails.{AreTypesWithin}
 use Rattle.cg_core.specs.Kernels.{Function, kernel_of}
 use Rattle.cg_resolve_def.specs.Desugar.{functions_of, NamesStand, WithinLimits}
 use Rattle.cg_parser.specs.Grammar.{Spells}
@@ -31,15 +32,27 @@ pub record HasKernel (source : List ℕ) (p : List Entry) : Type 0 where
   pub names : NamesStand p
   pub limits : WithinLimits p
 
--- a source is accepted within the limits, and this is its kernel: the typing rules derive each of its functions, and no type of a node of
--- a body passes the limit
-pub record IsAcceptedSource (source : List ℕ) (functions : List Function) : Type 0 where
+-- A source is accepted: it spells a program whose names are in order, and the typing rules derive each function of its kernel. No limit plays
+-- a part in it.
+pub record Accepted (source : List ℕ) : Type 0 where
   pub program : List Entry
-  pub short : length source ≤ source_limit
-  pub resolved : HasKernel source program
+  pub spelled : Spells source program
+  pub names : NamesStand program
   pub typed : IsAcceptedKernel (functions_of program)
-  pub within : AreTypesWithin (functions_of program)
-  pub kernel : functions ≡ functions_of program
+
+-- a source and the program that it spells are within the limits: its length, its depth, what is written in it, and the types of the nodes of
+-- its bodies
+pub record IsWithinLimits (source : List ℕ) (p : List Entry) : Type 0 where
+  pub short : length source ≤ source_limit
+  pub shallow : program_depth p ≤ depth_limit
+  pub written : WithinLimits p
+  pub types : AreTypesWithin (functions_of p)
+
+-- a source is accepted and within the limits, and this is its kernel
+pub record IsAcceptedSource (source : List ℕ) (functions : List Function) : Type 0 where
+  pub accepted : Accepted source
+  pub limits : IsWithinLimits source accepted.program
+  pub kernel : functions ≡ functions_of accepted.program
 
 -- the text of a certificate within the limits spells a derivation of the source, which is within its own: its nodes and marks are those of
 -- derivations, with any splits, of the functions of the program that the source spells

@@ -11,7 +11,7 @@ use Rattle.cg_cert.specs.declared.fault.CertFault.TheVariants.{C1, C2, C3, Limit
 use Rattle.cg_cert.specs.Texts.{CertText}
 use Rattle.cg_certcheck_def.specs.Events.{cert_events, first_failing}
 use Rattle.cg_certcheck_laws.specs.Laws.{SpellsDerivation}
-use Rattle.cg_check.specs.Judged.{AreTypesWithin}
+use Rattle.cg_faults.specs.Fails.{AreTypesWithin, Fails}
 use Rattle.cg_graphs.specs.Circles.{NoCircle}
 use Rattle.cg_lower.specs.Collected.{Copy}
 use Rattle.cg_core.specs.Kernels.{Function}
@@ -21,7 +21,6 @@ use Rattle.cg_resolve_def.specs.Order.{AreOrdered, AreGrowing}
 use Rattle.cg_resolve_def.specs.Takes.{missing_fields}
 use Rattle.cg_driver_entry.specs.Entries.{ReachesAbstract}
 use Rattle.cg_faults.specs.declared.rule.Rule.{Rule}
-use Rattle.cg_faults.specs.Fails.{Fails}
 use Rattle.cg_faults.specs.Rule.{rule, type_limit}
 use Rattle.cg_heaptext.specs.HeapText.{HeapText}
 use Rattle.cg_core_def.specs.Lawful.{IsLawfulKernel}

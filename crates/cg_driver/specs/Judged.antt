@@ -4,7 +4,7 @@ use Rattle.cg_cert.specs.declared.cert.Cert.{Cert}
 use Rattle.cg_cert.specs.Laws.{AreNamed}
 use Rattle.cg_cert.specs.Texts.{CertText}
 use Rattle.cg_check_def.specs.Kept.{function_tree}
-use Rattle.cg_check.specs.Judged.{AreTypesWithin}
+use Rattle.cg_faults.specs.Fails.{AreTypesWithin}
 use Rattle.cg_core.specs.declared.kernel.Kernel.{Kernel}
 use Rattle.cg_core.specs.Kernels.{Function, kernel_of}
 use Rattle.cg_resolve_def.specs.Desugar.{deepest_body, functions_of, functions_limit, term_limit, NamesStand, WithinLimits}

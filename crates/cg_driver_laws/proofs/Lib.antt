@@ -13,3 +13,4 @@ pub mod Whole
 pub mod Sound
 pub mod Reached
 pub mod Entries
+pub mod Represented

@@ -53,17 +53,17 @@ holds_none list name v owned held = absurd (cc)
 
 module _ (checked : Checked) (list : List Instance) (is : IsList (functions_in checked) (core_in checked) list) where
   -- what is kept of the source
-  abbrev Kept : Type 0
+  abbrev pub Kept : Type 0
   Kept = AreKept (functions_in checked) (functions_in checked) (map maybe_core (cores_in checked)) (map maybe_tree (trees_in checked))
 
   module _ (kept : Kept) where
     typed : AreTyped (functions_in checked) (core_in checked) (tree_in checked)
     typed = source_typed checked kept
 
-    instances : AreInstances (functions_in checked) list (map (entry_of (functions_in checked) (core_in checked)) list)
+    pub instances : AreInstances (functions_in checked) list (map (entry_of (functions_in checked) (core_in checked)) list)
     instances = list_derived (functions_in checked) (core_in checked) (tree_in checked) typed list is
 
-    program_is : IsProgramOf (program_over (functions_in checked) (core_in checked) list) [] (copies_in checked list)
+    pub program_is : IsProgramOf (program_over (functions_in checked) (core_in checked) list) [] (copies_in checked list)
     program_is = is_program (functions_in checked) (core_in checked) list instances (instances_are_good checked list is)
 
     -- the copies have proper types

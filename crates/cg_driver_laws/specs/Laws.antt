@@ -1,5 +1,5 @@
--- The C of the instances of a source (docs/LANGUAGE.md, "The C of instances"): it can be printed, and without cells it runs to what evaluation
--- gives. And what is known of an entry (docs/LANGUAGE.md, "Entries").
+-- The C of the instances of a source (docs/LANGUAGE.md, "The C of instances"): it can be printed, and without cells it runs to what represents what
+-- evaluation gives, from any store. And what is known of an entry (docs/LANGUAGE.md, "Entries").
 use Rattle.std.specs.Prelude.{◌≡◌, ℕ, ◌+◌, ◌*◌, ◌^◌, ◌<◌, ◌≤◌, Bool, true, IsTrue, List, [], map, slice_get, Some}
 use Rattle.cg_base.specs.declared.fun.Fun.TheVariants.{User}
 use Rattle.cg_base.specs.declared.kind.Word.TheVariants.{U32}
@@ -7,11 +7,16 @@ use Rattle.cg_base.specs.Types.{Tau, arrow, word}
 use Rattle.cg_driver_cells.specs.Cells.{ReachesCells}
 use Rattle.cg_lower.specs.Collected.{Copy, list_of}
 use Rattle.cg_core.specs.Kernels.{Function}
+use Rattle.cg_core.specs.Terms.{Note, Tree}
 use Rattle.cg_ctree.specs.Spells.{IsPrintable}
 use Rattle.cg_ctree.specs.Trees.{Program as CText}
 use Rattle.cg_resolve_def.specs.Desugar.{deepest_body}
 use Rattle.cg_driver_entry.specs.Entries.{ReachesAbstract}
+use Rattle.cg_heap.specs.Calls.{heap_of}
+use Rattle.cg_heap.specs.declared.cell.Scalar.{Scalar}
 use Rattle.cg_heap.specs.NoForeignHeap.{no_foreign_heap}
+use Rattle.cg_heap.specs.Reps.{HeapWorld, Holds}
+use Rattle.cg_heap.specs.Stored.{Stored}
 use Rattle.cg_inst.specs.Judged.{core_in, functions_in}
 use Rattle.cg_inst.specs.Lists.{Cores, IsList}
 use Rattle.cg_inst_laws.specs.Laws.{entry_of}
@@ -20,14 +25,21 @@ use Rattle.cg_lower.specs.Promises.{CanBePrinted, IsProgramOf, IsSimulated}
 use Rattle.cg_eval_def.specs.Evaluation.{evaluation, outcome, stuck}
 use Rattle.cg_eval_def.specs.Foreigns.{table_of}
 use Rattle.cg_typing.specs.declared.checked.Checked.{Checked}
-use Rattle.cg_typing.specs.Instances.{Instance, IsIn}
+use Rattle.cg_typing.specs.Holds.{cores_in, trees_in}
+use Rattle.cg_typing.specs.Instances.{Entry, Instance, IsIn}
+use Rattle.cg_typing.specs.Kept.{AreKept, maybe_core, maybe_tree}
+use Rattle.cg_typing.specs.Parts.{given_by, taken_by}
 use Rattle.cg_update.specs.Calls.{Program}
+use Rattle.cg_update.specs.Unboxed.{is_unboxed_entry}
+use Rattle.cg_update_laws.specs.Laws.{world_among}
 use Rattle.cg_value.specs.Fits.{fits}
 use Rattle.cg_value.specs.Foreign.{first_order}
 use Rattle.cg_value.specs.NoForeign.{no_foreign}
 use Rattle.cg_value.specs.Values.{Val, function, number}
 use Rattle.cg_driver_cells.specs.WithoutCells.{IsWithoutCells}
-use Rattle.cg_cmachine_def.specs.WordRuns.{RunsTo}
+use Rattle.cg_cmachine_def.specs.Outcomes.{done}
+use Rattle.cg_cmachine_def.specs.Runs.{crun}
+use Rattle.cg_cmachine_def.specs.WordRuns.{RunsTo, alone}
 
 -- the copies of a list of instances
 abbrev pub copies_over : List Function → Cores → List Instance → List Copy
@@ -44,6 +56,19 @@ program_over functions cores list = record { functions = functions; list = list;
 -- made or freed.
 abbrev pub RunsAlike : CText → List ℕ → ℕ → Val → ℕ → Type 0
 RunsAlike program name arg value cost = (r : ℕ) × (value ≡ number r) × (r < 2 ^ 32) × (left : ℕ) × RunsTo program name arg (32 * cost + 32) r left
+
+-- What a C function gives on scalars in a store, where evaluation gives this value of a type at this cost: within 32k + 32 steps scalars that
+-- represent it. The store is as it was, and no cell is made or freed.
+pub record GivesRepresented (world : HeapWorld) (program : CText) (name : List ℕ) (us : List Scalar) (m : Stored) (t : Tau) (value : Val) (cost : ℕ) : Type 0 where
+  pub given : List Scalar
+  pub left : ℕ
+  pub ends : crun (alone program) (32 * cost + 32) name us m ≡ done given (record { store = m; made = []; freed = [] }) left
+  pub represents : Holds world (heap_of m) t given value
+
+-- At some places of a list of instances there are bodies without cells, which mention only instances at these places, and iterators over numbers.
+abbrev pub AreWithoutCells : Program → (ℕ → Bool) → Type 0
+AreWithoutCells p among =
+    (k : ℕ) (x : Instance) (e : Entry) → among k ≡ true → slice_get p.list k ≡ Some x → slice_get p.entries k ≡ Some e → IsTrue (is_unboxed_entry p.list among x e)
 
 -- A function without type variables has an instance in the list of a source.
 abbrev pub FunctionsStand : Type 0
@@ -73,6 +98,21 @@ UnboxedRun =
     → (entry_of (functions_in checked) (core_in checked) (record { fun = User i; types = [] })).ty ≡ arrow (word U32) (word U32) → x < 2 ^ 32
     → evaluation (table_of no_foreign checked) n (function (User i) []) (number x) ≡ Some (v, k)
     → RunsAlike program (function_name at) x v k
+
+-- Where evaluation of an instance that stands among bodies without cells gives a value on a value, the C function of this instance gives scalars
+-- that represent it, from any store in which scalars represent the argument.
+abbrev pub UnboxedIsRepresented : Type 0
+UnboxedIsRepresented =
+    (checked : Checked) (list : List Instance) (program : CText)
+    → AreKept (functions_in checked) (functions_in checked) (map maybe_core (cores_in checked)) (map maybe_tree (trees_in checked))
+    → IsList (functions_in checked) (core_in checked) list → IsSimulated (copies_in checked list) program
+    → (among : ℕ → Bool) → AreWithoutCells (program_over (functions_in checked) (core_in checked) list) among
+    → (at n k : ℕ) (x : Instance) (core : Tree Note) (us : List Scalar) (m : Stored) (v w : Val) → slice_get list at ≡ Some x → among at ≡ true
+    → (entry_of (functions_in checked) (core_in checked) x).body ≡ Some core
+    → Holds (world_among (program_over (functions_in checked) (core_in checked) list) among) (heap_of m) (taken_by (entry_of (functions_in checked) (core_in checked) x).ty) us v
+    → evaluation (table_of no_foreign checked) n (function x.fun x.types) v ≡ Some (w, k)
+    → GivesRepresented (world_among (program_over (functions_in checked) (core_in checked) list) among) program (function_name at) us m
+    (given_by (entry_of (functions_in checked) (core_in checked) x).ty) w k
 
 -- an instance whose body needs cells is the one at a place, or is reached from it by mentions in bodies
 abbrev pub CopiesReachCells : List Copy → ℕ → Type 0

@@ -1,13 +1,15 @@
--- Which rule fails, and where: the first condition that fails in the order of reading, of a whole kernel.
-use Rattle.std.specs.Prelude.{◌≡◌, ◌⊎◌, ◌<◌, ◌≤◌, ℕ, false, Option, Some, None, List, [], ◌∷◌, slice_get}
+-- Which rule fails, and where: the first condition that fails in the order of reading, of a whole kernel. And that no type of a node passes
+-- the limit.
+use Rattle.std.specs.Prelude.{◌≡◌, ◌⊎◌, ◌<◌, ◌≤◌, ℕ, false, IsTrue, Option, Some, None, List, [], ◌∷◌, slice_get}
 use Rattle.cg_base.specs.declared.place.Place.{Place}
 use Rattle.cg_core.specs.Kernels.{Function, Body}
 use Rattle.cg_faults.specs.declared.rule.Rule.TheVariants.{T4, T14}
 use Rattle.cg_typing.specs.Accepted.{kinds_of_vars}
 use Rattle.cg_faults.specs.Conditions.{Condition, typed, Breaks, ruled, scope_conditions, conditions}
-use Rattle.cg_typing.specs.Parts.{is_arrow, taken_by, given_by, has_word_arrays}
+use Rattle.cg_typing.specs.Parts.{is_arrow, taken_by, given_by, has_word_arrays, is_small_enough}
+use Rattle.cg_faults.specs.Plain.{plain_in}
 use Rattle.cg_faults.specs.Rule.{Test}
-use Rattle.cg_faults.specs.Sites.{Path, argument, Site, down}
+use Rattle.cg_faults.specs.Sites.{Path, argument, Site, down, scope_types}
 
 -- when something of a function is judged: its signature, a node after so many of its parts, or the end of its body
 pub data Moment : Type 0 where
@@ -89,3 +91,17 @@ module _ (functions : List Function) where
     pub judged : Judged
     pub fails : FailsAt judged test place
     pub first : (other : Judged) → JudgedBefore other judged → (t : Test) (p : Place) → FailsAt other t p → ⊥
+
+  -- ---- the limit on types
+
+  -- the type of the node that stands there, by plain typing, is within the limit
+  abbrev pub IsTypeWithin : Site → Type 0
+  IsTypeWithin s = IsTrue (is_small_enough (plain_in functions (scope_types s) s.direction s.node))
+
+  -- and so is that of each node of a body
+  abbrev pub AreTypesIn : Function → Body → Type 0
+  AreTypesIn f body = (path : Path) (s : Site) → down functions (Some (root_of f body)) path ≡ Some s → IsTypeWithin s
+
+-- no type of a node of a body passes the limit `type`
+abbrev pub AreTypesWithin : List Function → Type 0
+AreTypesWithin functions = (i : ℕ) (f : Function) (body : Body) → slice_get functions i ≡ Some f → f.body ≡ Some body → AreTypesIn functions f body

@@ -1,24 +1,27 @@
 -- The first event that fails, in a lawful kernel, is the first condition that does.
-use Rattle.std.proofs.Common.{◌≡◌, ◌⊎◌, ℕ, zero, suc, ◌<◌, Bool, false, Option, Some, None, List, [], ◌∷◌, ◌++◌, length, map, slice_get, ⊎_elim, refl, sym, ap, ◌∙◌, subst, arith, flat_map}
+use Rattle.std.proofs.Common.{◌≡◌, ◌⊎◌, ℕ, zero, suc, ◌<◌, Bool, true, false, Option, Some, None, List, [], ◌∷◌, ◌++◌, length, map, slice_get, ⊎_elim, refl, sym, ap, ◌∙◌, subst, arith, flat_map}
 use Rattle.std.specs.List.{All}
 use Rattle.std.proofs.lemmas.List.Elements.{All-head, All-tail}
 use Rattle.cg_base.specs.declared.place.Place.{Place}
 use Rattle.cg_core.specs.Kernels.{Function, Body}
 use Rattle.cg_core.specs.Terms.{term, unit}
+use Rattle.cg_faults.specs.declared.rule.Rule.{Rule}
 use Rattle.cg_faults.specs.declared.rule.Rule.TheVariants.{T4, T14}
 use Rattle.cg_core_def.specs.Lawful.{IsLawfulFunction, IsLawfulBody, IsLawfulKernel}
-use Rattle.cg_typing.specs.Accepted.{kinds_of_vars}
+use Rattle.cg_typing.specs.Accepted.{IsAcceptedKernel, kinds_of_vars}
 use Rattle.cg_faults.specs.Conditions.{Condition, typed, Breaks, scope_conditions}
-use Rattle.cg_faults.specs.Events.{Event, Fault, first_failing, judged, nowhere, scope_end, events, body_events, function_events, kernel_events}
-use Rattle.cg_faults.specs.Fails.{Moment, at_signature, at_node, at_end, MomentBefore, Judged, JudgedBefore, root_of, signature_conditions, site_conditions, FailsInSignature, FailsInBody, FailsInFunction, FailsAt, Fails}
+use Rattle.cg_faults.specs.Events.{Event, event, Fault, RulesHold, first_failing, judged, nowhere, scope_end, events, body_events, function_events, kernel_events}
+use Rattle.cg_faults.specs.Fails.{Moment, at_signature, at_node, at_end, MomentBefore, Judged, JudgedBefore, root_of, signature_conditions, site_conditions, FailsInSignature, FailsInBody, FailsInFunction, FailsAt, Fails, AreTypesWithin}
 use Rattle.cg_check_laws.specs.Laws.{IsLawfulIn}
 use Rattle.cg_typing.specs.Parts.{is_arrow, taken_by, given_by, has_word_arrays}
-use Rattle.cg_faults.specs.Rule.{Test, rule}
+use Rattle.cg_faults.specs.Rule.{Test, rule, type_limit}
 use Rattle.cg_faults.specs.Sites.{Path, argument, Site, down}
 use Rattle.cg_check_laws.proofs.Limits.{within_limits}
+use Rattle.cg_check_laws.proofs.Main.{kernels}
 use Rattle.cg_check_laws.proofs.OneFault.{one_fault, some_is}
-use Rattle.cg_faults_laws.specs.Laws.{KernelsAreAcceptedOrAtFault}
+use Rattle.cg_faults_laws.specs.Laws.{KernelsAreAcceptedOrAtFault, TypesAreWithin}
 use Rattle.cg_faults_laws.proofs.Moments.{ClearFrom, FirstFrom, Outcome, from_first}
+use Rattle.cg_faults_laws.proofs.Sizes.{nothing_limits, types_within}
 use Rattle.cg_faults_laws.proofs.Standing.{OccurrenceRows}
 use Rattle.cg_faults_laws.proofs.Tells.{either_fault, fault_append, Clear, FirstOf, Result, Tells, FirstAt, first_at, clear_at, tells_one, tells_cons}
 use Rattle.cg_faults_laws.proofs.Trees.{tells}
@@ -258,6 +261,19 @@ module _ (functions : List Function) (all : AllRows functions) where
 
 -- ---- the law
 
+-- the test of a fault
+test_of : Test → Option Fault → Test
+test_of t None = t
+test_of t (Some fault) = fault.0
+
+-- where every rule holds that is judged, none fails
+no_rule_fails : (xs : List Event) (r : Rule) (p : Place) → RulesHold xs → first_failing xs ≡ Some (rule r, p) → ⊥
+unfolding test_of
+no_rule_fails [] r p h e = absurd (cc)
+no_rule_fails (event test q true ∷ xs) r p h e = no_rule_fails xs r p h.1 e
+no_rule_fails (event (rule s) q false ∷ xs) r p h e = absurd (let z = h.0 in cc)
+no_rule_fails (event type_limit q false ∷ xs) r p h e = absurd (let limit : type_limit ≡ rule r = ap (test_of type_limit) e in cc)
+
 module _ (functions : List Function) (all : AllRows functions) (lawful : IsLawfulKernel functions) where
   outcome : (o : Option Fault) → first_failing (kernel_events functions) ≡ o → KernelOutcome functions all o
   outcome o e = subst (λ o. KernelOutcome functions all o) e (kernel_fault functions all lawful)
@@ -276,10 +292,25 @@ module _ (functions : List Function) (all : AllRows functions) (lawful : IsLawfu
       go None e = e
       go (Some (u, q)) e = let fault = outcome (Some (u, q)) e in absurd (h fault.judged u q fault.fails)
 
+  accepted_within : first_failing (kernel_events functions) ≡ None → IsAcceptedKernel functions × AreTypesWithin functions
+  accepted_within e = (((within_limits functions lawful).0 e).0, types_within functions (outcome None e))
+
+  no_test : IsAcceptedKernel functions → AreTypesWithin functions → first_failing (kernel_events functions) ≡ None
+  no_test accepted within = go (first_failing (kernel_events functions)) refl
+    where
+      go : (o : Option Fault) → first_failing (kernel_events functions) ≡ o → first_failing (kernel_events functions) ≡ None
+      go None e = e
+      go (Some (rule r, p)) e = absurd (no_rule_fails (kernel_events functions) r p ((kernels functions lawful).1 accepted) e)
+      go (Some (type_limit, p)) e = let fault = outcome (Some (type_limit, p)) e in absurd (nothing_limits functions within fault.judged p fault.fails)
+
 pub kernels_are_accepted_or_at_fault : ((functions : List Function) → AllRows functions) → KernelsAreAcceptedOrAtFault
 kernels_are_accepted_or_at_fault all =
     record {
-      accepted = within_limits;
+      accepted = λ functions lawful. (accepted_within functions (all functions) lawful, λ h. no_test functions (all functions) lawful h.0 h.1);
       fault = λ functions lawful t p. (λ e. outcome functions (all functions) lawful (Some (t, p)) e, λ h. named functions (all functions) lawful t p h);
       faultless = λ functions lawful. (λ e. outcome functions (all functions) lawful None e, λ h. no_event functions (all functions) lawful h);
     }
+
+pub types_are_within : KernelsAreAcceptedOrAtFault → TypesAreWithin
+types_are_within law functions lawful accepted =
+    (λ h. ((law.accepted functions lawful).0 ((within_limits functions lawful).1 (accepted, h))).1, λ h. ((within_limits functions lawful).0 ((law.accepted functions lawful).1 (accepted, h))).1)

@@ -16,6 +16,7 @@ pub mod Rows
 pub mod ScopeRows
 pub mod Scopes
 pub mod Sightings
+pub mod Sizes
 pub mod Stages
 pub mod Standing
 pub mod Tells

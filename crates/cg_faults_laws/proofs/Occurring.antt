@@ -1,5 +1,6 @@
--- The tests on occurrences tell what their conditions say, at each site of a lawful body; so kernels are accepted or at fault.
-use Rattle.cg_faults_laws.specs.Laws.{KernelsAreAcceptedOrAtFault}
+-- The tests on occurrences tell what their conditions say, at each site of a lawful body; so kernels are accepted or at fault, and the
+-- limit on types is judged at each site.
+use Rattle.cg_faults_laws.specs.Laws.{KernelsAreAcceptedOrAtFault, TypesAreWithin}
 use Rattle.cg_faults_laws.proofs.BranchRows.{tells_branches}
 use Rattle.cg_faults_laws.proofs.Flags.{root_stands, part_stands}
 use Rattle.cg_faults_laws.proofs.Kernel as kernel
@@ -17,3 +18,6 @@ kernels_are_accepted_or_at_fault =
       tells_argument = tells_argument functions f body types_in lawful;
       tells_branches = tells_branches functions f body types_in lawful;
     })
+
+pub types_are_within : TypesAreWithin
+types_are_within = kernel.types_are_within kernels_are_accepted_or_at_fault

@@ -6,7 +6,7 @@ use Rattle.cg_core.specs.Kernels.{Function, Body}
 use Rattle.cg_core_def.specs.Lawful.{IsLawfulKernel}
 use Rattle.cg_typing.specs.Accepted.{IsAcceptedKernel}
 use Rattle.cg_faults.specs.Events.{LimitsHold, kernel_events, first_failing}
-use Rattle.cg_faults.specs.Fails.{Judged, root_of, FailsAt, Fails}
+use Rattle.cg_faults.specs.Fails.{Judged, root_of, FailsAt, Fails, AreTypesWithin}
 use Rattle.cg_check_laws.specs.Laws.{IsLawfulIn}
 use Rattle.cg_faults.specs.Occurrences.{touched, used}
 use Rattle.cg_faults.specs.Rule.{Test}
@@ -46,8 +46,13 @@ BoundVariablesStandBelow =
 -- at fault; else the first event that fails is the one fault, its test and its place
 pub record KernelsAreAcceptedOrAtFault : Type 0 where
   pub accepted : (functions : List Function) → IsLawfulKernel functions
-      → (first_failing (kernel_events functions) ≡ None ↔ IsAcceptedKernel functions × LimitsHold (kernel_events functions))
+      → (first_failing (kernel_events functions) ≡ None ↔ IsAcceptedKernel functions × AreTypesWithin functions)
   pub fault : (functions : List Function) → IsLawfulKernel functions → (test : Test) (place : Place)
       → (first_failing (kernel_events functions) ≡ Some (test, place) ↔ Fails functions test place)
   pub faultless : (functions : List Function) → IsLawfulKernel functions
       → (first_failing (kernel_events functions) ≡ None ↔ ((judged : Judged) (test : Test) (place : Place) → FailsAt functions judged test place → ⊥))
+
+-- in a lawful kernel that is accepted, no type of a node passes the limit exactly where no event of that limit fails
+abbrev pub TypesAreWithin : Type 0
+TypesAreWithin =
+    (functions : List Function) → IsLawfulKernel functions → IsAcceptedKernel functions → (LimitsHold (kernel_events functions) ↔ AreTypesWithin functions)
