@@ -11,6 +11,7 @@ use Rattle.cg_cert.proofs.Printed.{printed as certificate_printed}
 use Rattle.cg_cert.specs.Certificates.{certificate}
 use Rattle.cg_cert.specs.Texts.{text as text_of}
 use Rattle.cg_check_def.specs.Kept.{function_tree}
+use Rattle.cg_lower.specs.Collected.{Copy}
 use Rattle.cg_lower.specs.Copies.{copies_of, pair_of}
 use Rattle.cg_core.specs.declared.kernel.KFun.{KFun}
 use Rattle.cg_core.specs.declared.kernel.Kernel.{Kernel}
@@ -31,6 +32,7 @@ use Rattle.cg_mono.specs.Copies.{copy_of}
 use Rattle.cg_mono.specs.declared.copies.Copy.{Copy as OneCopy}
 use Rattle.cg_mono.specs.declared.copies.Mono.{Mono}
 use Rattle.cg_mono.specs.Monos.{copies_in as kept_copies}
+use Rattle.cg_driver_laws.proofs.Represented.{unboxed_is_represented}
 use Rattle.cg_driver_laws.specs.Laws.{SourcesPrint, copies_in, copies_over}
 use Rattle.cg_driver_steps.specs.declared.report.Report.{Report}
 use Rattle.cg_driver_steps.specs.declared.report.Step.{Step}
@@ -40,15 +42,16 @@ use Rattle.cg_driver_steps.specs.Steps.{goes}
 use Rattle.cg_typing.specs.declared.checked.Checked.{Checked}
 use Rattle.cg_typing.specs.Holds.{cores_in, kernel_in, trees_in}
 use Rattle.cg_typing.specs.Instances.{Entry, Instance}
-use Rattle.cg_typing.specs.Kept.{maybe_core, maybe_tree}
+use Rattle.cg_typing.specs.Kept.{AreKept, maybe_core, maybe_tree}
 use Rattle.cg_driver.specs.Built.{IsWritten, IsListed, KeepsCopies, RefusesCertificate, RefusesInstances}
 use Rattle.cg_driver.specs.Commands.{Judges, IsBuilt, certifiable, instanced}
 use Rattle.cg_driver.specs.declared.build.Built.{Built}
 use Rattle.cg_driver.specs.Found.{Found, certificate_limit, functions, with_copies}
-use Rattle.cg_driver.specs.Instanced.{HasInstances, IsMeant, IsProved, PassesInstances, bodies_in, certified_text, emitted, too_large, too_many, too_wide}
+use Rattle.cg_driver.specs.Instanced.{HasInstances, IsCompiled, IsMeant, IsProved, IsRepresented, IsRepresentedOver, PassesInstances, bodies_in, certified_text, emitted, too_large, too_many, too_wide}
 use Rattle.cg_driver.specs.Judged.{CanBeBuilt, HoldsCores, HoldsMarks, functions_in}
 use Rattle.cg_driver.specs.Lines.{built_line as written_line, limit_line, limit_name}
 use Rattle.cg_driver.specs.Executed.{cores_of}
+use Rattle.cg_driver.proofs.Cores.{one_list}
 use Rattle.cg_driver.proofs.Executing.{bodies_same}
 use Rattle.cg_driver.proofs.Saying.{steps_judged}
 
@@ -175,6 +178,19 @@ module _ (checked : Checked) (list : List Instance) (found : Found) (built : Bui
 
 -- ---- what is printed
 
+-- the derivations that are kept, as the code keeps them
+kept_trees : (checked : Checked) → HoldsMarks checked → AreKept (functions_in checked) (functions_in checked) (map maybe_core (cores_in checked)) (map maybe_tree (trees_in checked))
+kept_trees checked marks = subst (λ ds. AreKept (functions_in checked) (functions_in checked) (map maybe_core (cores_in checked)) ds) (sym marks.are) marks.kept
+
+-- what the C does on any store, where no cells are needed
+represented : (checked : Checked) → HoldsMarks checked → (copies : List Copy) (p : Program) → IsSimulated copies p → IsRepresented (functions_in checked) copies p
+represented checked marks copies p simulates cores derived =
+    subst (λ b. IsRepresentedOver (functions_in checked) b copies p) (bodies_same checked ∙ ap bodies_in (one_list (functions_in checked) (cores_of checked) cores (map (function_tree (functions_in checked)) (functions_in checked), marks.kept) derived)) here
+  where
+    here : IsRepresentedOver (functions_in checked) (core_in checked) copies p
+    here list is same among without at n k x core us m v w there stands body holds gives =
+        unboxed_is_represented checked list p (kept_trees checked marks) is (subst (λ cs. IsSimulated cs p) same simulates) among without at n k x core us m v w there stands body holds gives
+
 proved : (checked : Checked) → CanBeBuilt checked → IsProved (functions_in checked)
 proved checked ready =
     let fs = functions_in checked in
@@ -191,8 +207,9 @@ built_said checked list built found ready b kept kernel fs k is line said =
     let functions_are : map function_of fs ≡ functions found = ap (map function_of) is ∙ ap kernel_of k ∙ sym kept.same in
     let count : built.instances ≡ length found.copies = b.counted ∙ sym (length-map list _) ∙ ap length (sym kept.copies) in (
       said ∙ ap (λ g. written_line g built.instances) functions_are ∙ ap (written_line (functions found)) count,
-      subst IsMeant (sym kept.copies) b.meant,
-      subst IsProved (sym kept.same) (proved checked ready),
+      subst (λ fs. IsCompiled fs found.copies) (sym kept.same)
+          (subst (λ cs. IsCompiled (functions_in checked) cs) (sym kept.copies)
+          (record { meant = b.meant; represents = represented checked ready.marks (copies_in checked list) b.meant.program b.meant.simulates; proved = proved checked ready })),
     )
 
 -- what is said once all is written

@@ -15,7 +15,7 @@ use Rattle.cg_driver_words.specs.Words.{Command, check, build, recheck, run}
 use Rattle.std.specs.Io.KnownBytes.{append_known}
 use Rattle.cg_driver.specs.Commands.{Judges, build_steps, reads_source, script_of}
 use Rattle.cg_driver.specs.Found.{Found, functions, nothing}
-use Rattle.cg_driver.specs.Instanced.{IsMeant, IsProved}
+use Rattle.cg_driver.specs.Instanced.{IsCompiled}
 use Rattle.cg_driver.specs.Lines.{usage_text}
 use Rattle.cg_driver.proofs.Judging.{IsOfCommand, IsNotUsage, not_usage}
 
@@ -111,5 +111,5 @@ Finished c old new taken taken' =
 
 pub compiled : (c : Option Command) (file text certificate : List ℕ) → c ≡ Some (build file text certificate) → (old new : World) (taken taken' : Option (List ℕ))
     → Finished c old new taken taken'
-    → (found : Found) × Runs Judges (reads_source file ∷ build_steps file text certificate) nothing old (goes found) new × IsMeant found.copies × IsProved (functions found)
+    → (found : Found) × Runs Judges (reads_source file ∷ build_steps file text certificate) nothing old (goes found) new × IsCompiled (functions found) found.copies
 compiled c file text certificate is old new taken taken' h = let g = subst (λ x. Finished x old new taken taken') is h in (g.0, g.2, g.3.1, g.3.2)

@@ -40,7 +40,7 @@ use Rattle.cg_driver_words.specs.Words.{Command, check, build, recheck, run, tex
 use Rattle.cg_driver.specs.Found.{Found, nothing, with_source, with_program, with_copies, with_certificate, with_cert, with_entry, with_place, with_heap, with_argument, with_value, functions, source_limit, certificate_limit, heap_limit, bound, quantity}
 use Rattle.cg_driver.specs.Lines.{usage_text, ok_line, built_line as written_line, fault_line, name_rule, rule_line, rechecked_line as accepted_text, byte_line, node_line, not_built_line, no_entry_line, entry_type_line, abstract_line, no_heap_text_line, out_of_range_line, limit_name, limit_line, step_limit_line}
 use Rattle.cg_driver.specs.Entered.{IsOnWords, NeedsMore, is_entry}
-use Rattle.cg_driver.specs.Instanced.{HasInstances, PassesInstances, IsMeant, IsProved, emitted, certified_text}
+use Rattle.cg_driver.specs.Instanced.{HasInstances, PassesInstances, IsCompiled, emitted, certified_text}
 use Rattle.cg_driver.specs.Run.{Evaluates, RunsOut, IsReport}
 
 -- The judgements, in the order of the steps; each has the names that it prints. The words are no command; a quantity is within its limit; the
@@ -229,7 +229,7 @@ abbrev pub checked_line : Found → List ℕ → Type 0
 checked_line found text = text ≡ ok_line (functions found)
 
 abbrev pub IsBuilt : Found → List ℕ → Type 0
-IsBuilt found text = (text ≡ written_line (functions found) (length found.copies)) × IsMeant found.copies × IsProved (functions found)
+IsBuilt found text = (text ≡ written_line (functions found) (length found.copies)) × IsCompiled (functions found) found.copies
 
 abbrev pub rechecked_line : Found → List ℕ → Type 0
 rechecked_line found text = text ≡ accepted_text

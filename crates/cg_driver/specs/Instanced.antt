@@ -1,6 +1,6 @@
 -- The instances of a source, and what is written of it: its C text, and its certificate (docs/LANGUAGE.md, "Instances", "The C of instances"
 -- and "Certificates").
-use Rattle.std.specs.Prelude.{◌≡◌, ℕ, List, Option, map}
+use Rattle.std.specs.Prelude.{◌≡◌, ℕ, Bool, true, List, Option, Some, map, slice_get}
 use Rattle.cg_base.specs.declared.limit.Limit.TheVariants.{Core, Instances, Ty}
 use Rattle.cg_cert.specs.Certificates.{certificate}
 use Rattle.cg_cert.specs.declared.cert.Cert.{Cert}
@@ -15,13 +15,25 @@ use Rattle.cg_ctext.specs.Printed.{printed}
 use Rattle.cg_ctree.specs.Spells.{CSpells}
 use Rattle.cg_ctree.specs.Trees.{Program}
 use Rattle.cg_inst.specs.Judged.{AreTooMany, HaveLargeTypes, HaveTooManyNodes, IsWithin}
-use Rattle.cg_inst.specs.Lists.{Cores}
+use Rattle.cg_heap.specs.Calls.{heap_of}
+use Rattle.cg_heap.specs.declared.cell.Scalar.{Scalar}
+use Rattle.cg_heap.specs.Reps.{Holds}
+use Rattle.cg_heap.specs.Stored.{Stored}
+use Rattle.cg_inst.specs.Lists.{Cores, IsList}
+use Rattle.cg_inst_laws.specs.Laws.{entry_of}
+use Rattle.cg_eval_def.specs.Evaluation.{evaluation}
+use Rattle.cg_eval_def.specs.Foreigns.{table_over}
+use Rattle.cg_lower_def.specs.Lowered.{function_name}
 use Rattle.cg_lower.specs.Programs.{lowered}
 use Rattle.cg_lower.specs.Promises.{IsSimulated}
-use Rattle.cg_driver_laws.specs.Laws.{copies_over}
+use Rattle.cg_driver_laws.specs.Laws.{AreWithoutCells, GivesRepresented, copies_over, program_over}
 use Rattle.cg_typing.specs.Holds.{kept_at}
 use Rattle.cg_typing.specs.Instances.{Instance}
 use Rattle.cg_typing.specs.Kept.{AreKept}
+use Rattle.cg_typing.specs.Parts.{given_by, taken_by}
+use Rattle.cg_update_laws.specs.Laws.{world_among}
+use Rattle.cg_value.specs.NoForeign.{no_foreign}
+use Rattle.cg_value.specs.Values.{Val, function}
 use Rattle.cg_driver.specs.Lines.{limit_line, limit_name}
 
 -- The cores of an accepted kernel, one for each function with a body: each erases to its body, and the typing rules derive it.
@@ -65,6 +77,22 @@ pub record IsMeant (copies : List Copy) : Type 0 where
   pub spelled : CSpells (emitted copies) program
   pub simulates : IsSimulated copies program
 
+-- From any store in which scalars represent the argument of an instance that stands among bodies without cells, the C of this instance ends
+-- with scalars that represent what evaluation of the function gives at cost k, within 32k + 32 steps; the store is as it was. The cores of the
+-- source, and the list of its instances, are any that are derived, and that are one.
+abbrev pub IsRepresentedOver : List Function → Cores → List Copy → Program → Type 0
+IsRepresentedOver functions cores copies program =
+    (list : List Instance) → IsList functions cores list → copies ≡ copies_over functions cores list
+    → (among : ℕ → Bool) → AreWithoutCells (program_over functions cores list) among
+    → (at n k : ℕ) (x : Instance) (core : Tree Note) (us : List Scalar) (m : Stored) (v w : Val) → slice_get list at ≡ Some x → among at ≡ true
+    → (entry_of functions cores x).body ≡ Some core
+    → Holds (world_among (program_over functions cores list) among) (heap_of m) (taken_by (entry_of functions cores x).ty) us v
+    → evaluation (table_over no_foreign functions cores) n (function x.fun x.types) v ≡ Some (w, k)
+    → GivesRepresented (world_among (program_over functions cores list) among) program (function_name at) us m (given_by (entry_of functions cores x).ty) w k
+
+abbrev pub IsRepresented : List Function → List Copy → Program → Type 0
+IsRepresented functions copies program = (cores : List (Option (Tree Note))) → AreCores functions cores → IsRepresentedOver functions (bodies_in cores) copies program
+
 -- the certificate of an accepted kernel: that of the derivations with the occurrence marks; and its text
 abbrev pub certificate_of : List Function → Cert
 certificate_of functions = certificate functions (map (function_tree functions) functions)
@@ -76,3 +104,10 @@ certified_text functions = text_of (certificate_of functions)
 pub record IsProved (functions : List Function) : Type 0 where
   pub written : CertText (certified_text functions) (certificate_of functions)
   pub spells : SpellsDerivation functions (certificate_of functions)
+
+-- What `build` writes means what it should: the C text means what the instances do, and what evaluation of the source gives where no cells are
+-- needed; and the certificate is one of the source.
+pub record IsCompiled (functions : List Function) (copies : List Copy) : Type 0 where
+  pub meant : IsMeant copies
+  pub represents : IsRepresented functions copies meant.program
+  pub proved : IsProved functions

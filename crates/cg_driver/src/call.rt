@@ -10,7 +10,7 @@ ghost use Rattle.cg_driver_steps.specs.Scripts.{Answers, Leaves, Comes, ComesTo,
 ghost use Rattle.cg_driver_words.specs.Words.{build, texts, command_of};
 ghost use Rattle.cg_driver.specs.Commands.{Judges, asked, build_steps, reads_source};
 ghost use Rattle.cg_driver.specs.Found.{Found, functions, nothing};
-ghost use Rattle.cg_driver.specs.Instanced.{IsMeant, IsProved};
+ghost use Rattle.cg_driver.specs.Instanced.{IsCompiled};
 
 use crate::Status;
 use crate::plan::plan;
@@ -78,14 +78,14 @@ pub fn cogent<F: Files, O: Sink>(
         (world (F.held files.new) (F.failed_reads files.new) (F.failed_writes files.new))
         × (asked words.now).line found text × (O.taken out.new ≡ append_known (O.taken out.old) text) }
 
-    // At status 0 of `build` the C text means what the instances do, and the certificate is one of the source, whatever counts rose: both
-    // are those of what its steps found, which wrote them.
+    // At status 0 of `build` the C text means what the instances do, and where no cells are needed what evaluation gives, and the certificate is
+    // one of the source, whatever counts rose: both are those of what its steps found, which wrote them.
     ensures compiles { result ≡ Status.Done → (file text certificate : List ℕ)
         → command_of (texts words.now) ≡ Some (build file text certificate) → (found : Found)
         × Runs Judges (reads_source file ∷ build_steps file text certificate) nothing
         (world (F.held files.old) (F.failed_reads files.old) (F.failed_writes files.old)) (goes found)
         (world (F.held files.new) (F.failed_reads files.new) (F.failed_writes files.new))
-        × IsMeant found.copies × IsProved (functions found) }
+        × IsCompiled (functions found) found.copies }
 
     // Where no count of the command's calls rose, the status is the one that its steps come to, unless memory runs out.
     ensures done { (held : Held) (status : StatusOf) → F.held files.old ≡ Some held

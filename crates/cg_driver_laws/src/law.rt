@@ -1,5 +1,5 @@
 // The laws of the C of sources, and of their entries.
-ghost use Rattle.cg_driver_laws.specs.Laws.{EntriesAreSound, EntriesRun, FunctionsStand, SourcesArePrograms, SourcesPrint, UnboxedRun};
+ghost use Rattle.cg_driver_laws.specs.Laws.{EntriesAreSound, EntriesRun, FunctionsStand, SourcesArePrograms, SourcesPrint, UnboxedIsRepresented, UnboxedRun};
 
 /// A function without type variables has an instance in the list of a source.
 pub fn functions_stand()
@@ -32,4 +32,11 @@ pub fn entries_are_sound()
 /// reaches no body that needs cells, the C function of this instance gives the same word within 32k + 32 steps, and makes and frees no cell.
 pub fn entries_run()
     ensures { EntriesRun }
+{}
+
+/// Where evaluation of an instance that stands among bodies without cells gives a value at cost k, the C function of this instance, from any
+/// store in which scalars represent the argument, gives scalars that represent that value within 32k + 32 steps; the store is as it was,
+/// and no cell is made or freed.
+pub fn unboxed_is_represented()
+    ensures { UnboxedIsRepresented }
 {}

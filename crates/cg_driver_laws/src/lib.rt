@@ -1,7 +1,8 @@
 //! Stage: command. The C of the instances of any source can be printed, and runs to what evaluation gives.
 //! Role: laws.
-//! Promises: `functions_stand`, `sources_print`, `sources_are_programs`, `unboxed_run`, `entries_are_sound`, `entries_run`.
+//! Promises: `functions_stand`, `sources_print`, `sources_are_programs`, `unboxed_run`, `unboxed_is_represented`.
 //! May cite: definitions, laws and public crates below; no code above.
+//! Promises also: `entries_are_sound`, `entries_run`.
 //! docs/LANGUAGE.md, "The C of instances", says it in words.
 #![tactic(auto)]
 
@@ -9,5 +10,5 @@ mod law;
 
 pub use law::{
     entries_are_sound, entries_run, functions_stand, sources_are_programs, sources_print,
-    unboxed_run,
+    unboxed_is_represented, unboxed_run,
 };
