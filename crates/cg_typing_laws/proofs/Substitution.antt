@@ -18,7 +18,7 @@ use Rattle.cg_typing.specs.Parts.{widens, field_in, alternative_in, held, is_the
 use Rattle.cg_typing.specs.Rules.{Meets, InRange, second_branch, type_at, is_literal, is_literal_shape, parts_made, record_made, Derives, DerivesShape, DerivesFields}
 use Rattle.cg_typing.specs.Trees.{later_parts, first_marks, later_marks, marks_of}
 use Rattle.cg_typing_laws.specs.Laws.{AreInstance, SubstitutionKeepsDerivations}
-use Rattle.cg_typing.specs.Subst.{subst_direction, subst_context, subst_core, subst_shape, subst_fields}
+use Rattle.cg_typing.specs.Subst.{subst_arg, subst_direction, subst_context, subst_core, subst_shape, subst_fields}
 use Rattle.cg_typing_laws.proofs.Contexts.{look_subst, first_subst, second_subst, push_subst, splits_kept, drops_kept, drops_but_kept}
 use Rattle.cg_typing_laws.proofs.Functions.{arguments_kept, fun_type_subst}
 use Rattle.cg_typing_laws.proofs.Named.{field_kept, alternative_kept, with_field, with_alternative, written_kept, last_kept, held_kept, left_kept, there_kept, left_is_there}
