@@ -1,5 +1,7 @@
 -- Tests on nodes, marks and contexts say yes exactly where what they test holds.
 use Rattle.std.proofs.Common.{◌≡◌, ◌<◌, ℕ, zero, suc, Bool, true, ◌&&◌, not, Option, Some, None, List, [], ◌∷◌, length, get_or, refl, sym, ap, ◌∙◌, subst, arith, eqb-true, eq-eqb}
+use Rattle.std.proofs.lemmas.List.Elements.{All-nil}
+use Rattle.std.specs.List.{All}
 use Rattle.cg_base.specs.declared.kind.Kinds.{Kinds}
 use Rattle.cg_base.specs.Types.{Tau}
 use Rattle.cg_core.specs.declared.derivation.Mark.{Mark}
@@ -95,8 +97,12 @@ module _ (vars : List Kinds) where
   fits_each seen [] (o ∷ g) e i below = absurd (cc)
   fits_each seen (m ∷ ms) [] e i below = absurd (cc)
 
-  pub splits_is : (os : List Observer) (ms : List Mark) (g : Context) → splits vars os ms g ≡ true → Splits vars os ms g
-  splits_is os ms g e = record { long = as_long (λ i. among i os) ms g e; fits = fits_each (λ i. among i os) ms g e }
+  pub splits_is : (os : List Observer) (ms : List Mark) (g : Context) → All (λ o. o.var < length g) os → splits vars os ms g ≡ true → Splits vars os ms g
+  splits_is os ms g w e = record { long = as_long (λ i. among i os) ms g e; fits = fits_each (λ i. among i os) ms g e; observed = w }
+
+  -- without observers
+  pub splits_plain : (ms : List Mark) (g : Context) → splits vars [] ms g ≡ true → Splits vars [] ms g
+  splits_plain ms g e = splits_is [] ms g (All-nil (λ (o : Observer). o.var < length g)) e
 
   all_fit : (seen : ℕ → Bool) (ms : List Mark) (g : Context) → length ms ≡ length g → ((i : ℕ) → i < length g → Fits vars (seen i) (mark_at ms i) (look g i))
       → splits_where vars seen ms g ≡ true

@@ -1,5 +1,7 @@
 -- Lists of events of a certificate: what they say together and apart; and what is said where a node is reached, and of a type that is met.
-use Rattle.std.proofs.Common.{◌≡◌, Bool, true, ◌&&◌, Option, Some, None, List, [], ◌∷◌, ◌++◌, IsTrue, refl, ap, subst}
+use Rattle.std.proofs.Common.{◌≡◌, Bool, true, ◌&&◌, Option, Some, None, List, [], ◌∷◌, ◌++◌, ◌<◌, length, IsTrue, refl, ap, subst}
+use Rattle.std.proofs.lemmas.List.Elements.{All-nil}
+use Rattle.std.specs.List.{All}
 use Rattle.std.specs.Prelude.{⊤}
 use Rattle.cg_base.specs.declared.kind.Kinds.{Kinds}
 use Rattle.cg_base.specs.declared.place.Place.{Place}
@@ -86,14 +88,14 @@ unmarked (x ∷ ns) h = go x.marks h
     go (string ∷ strings) h = absurd (cc)
 
 module _ (functions : List Function) (vars : List Kinds) where
-  one_marked : (os : List Seen) (ns : List CertNode) (g : Context) → one_string vars os (strings_at ns) g ≡ true
+  one_marked : (os : List Seen) (ns : List CertNode) (g : Context) → All (λ o. o.var < length g) os → one_string vars os (strings_at ns) g ≡ true
       → (strings_at ns ≡ marks_next ns ∷ []) × Splits vars os (marks_next ns) g
-  one_marked os [] g h = absurd (cc)
-  one_marked os (x ∷ ns) g h = go x.marks h
+  one_marked os [] g w h = absurd (cc)
+  one_marked os (x ∷ ns) g w h = go x.marks h
     where
       go : (strings : List (List Mark)) → one_string vars os strings g ≡ true → (strings ≡ first_marks strings ∷ []) × Splits vars os (first_marks strings) g
       go [] h = absurd (cc)
-      go (m ∷ []) h = (refl, splits_is vars os m g h)
+      go (m ∷ []) h = (refl, splits_is vars os m g w h)
       go (m ∷ (m' ∷ ms)) h = absurd (cc)
 
   -- there is a node of this name, with one mark string, which splits the context
@@ -102,10 +104,14 @@ module _ (functions : List Function) (vars : List Kinds) where
     pub one : strings_at ns ≡ marks_next ns ∷ []
     pub splits : Splits vars os (marks_next ns) g
 
-  pub split_is : (os : List Seen) (ns : List CertNode) (node : Node) (g : Context) → is_some ns ≡ true → (same_node (name_at ns) node && one_string vars os (strings_at ns) g) ≡ true
-      → Split os ns node g
-  split_is os ns node g h k =
-      let r = reached_is ns node (one_string vars os (strings_at ns) g) h k in let m = one_marked os ns g r.marks in record { is = r.is; one = m.0; splits = m.1 }
+  pub split_seen : (os : List Seen) (ns : List CertNode) (node : Node) (g : Context) → All (λ o. o.var < length g) os → is_some ns ≡ true
+      → (same_node (name_at ns) node && one_string vars os (strings_at ns) g) ≡ true → Split os ns node g
+  split_seen os ns node g w h k =
+      let r = reached_is ns node (one_string vars os (strings_at ns) g) h k in let m = one_marked os ns g w r.marks in record { is = r.is; one = m.0; splits = m.1 }
+
+  -- without observers
+  pub split_is : (ns : List CertNode) (node : Node) (g : Context) → is_some ns ≡ true → (same_node (name_at ns) node && one_string vars [] (strings_at ns) g) ≡ true → Split [] ns node g
+  split_is ns node g h k = split_seen [] ns node g (All-nil (λ (o : Seen). o.var < length g)) h k
 
 -- ---- types that are met
 

@@ -1,5 +1,6 @@
 -- Where no event fails, a derivation is spelled: calls, puts and binders.
 use Rattle.std.proofs.Common.{ℕ, suc, ◌+◌, true, false, not, Option, Some, None, List, [], length, drop, refl, sym, ap, ◌∙◌, subst}
+use Rattle.std.specs.List.{All}
 use Rattle.cg_base.specs.declared.kind.Kinds.{Kinds}
 use Rattle.cg_base.specs.declared.place.Place.{Place}
 use Rattle.cg_base.specs.Types.{Tau, arrow}
@@ -23,7 +24,7 @@ use Rattle.cg_check_laws.proofs.SoundLeaves.{in_meets, body_in}
 use Rattle.cg_certcheck_laws.proofs.ReadSteps.{two_reads}
 use Rattle.cg_certcheck_laws.proofs.Limits.{limits_append, meets_limits, observer_limits, scope_limits}
 use Rattle.cg_certcheck_laws.proofs.Nodes.{heads_two}
-use Rattle.cg_certcheck_laws.proofs.Rows.{hold_left, hold_right, split_is, met_is}
+use Rattle.cg_certcheck_laws.proofs.Rows.{hold_left, hold_right, split_is, split_seen, met_is}
 use Rattle.cg_certcheck_laws.proofs.SoundLeaves.{Sound, SoundShape}
 use Rattle.cg_check_laws.proofs.SoundBinders.{arrow_is}
 use Rattle.cg_base.proofs.Truths.{both as and_both, not_true as not_is}
@@ -45,7 +46,7 @@ module _ (functions : List Function) (vars : List Kinds) (types_in : ℕ) where
       let t = plain functions p f in
       let ef = E (first m g) p None (behind ns) (suc n) f in
       let ex = E (second m g) p (Some (taken_by t)) (drop (size f) (behind ns)) (suc n + size f) x in
-      let sp = split_is functions vars [] ns nodes.App g h.0 h.1.0 in
+      let sp = split_is functions vars ns nodes.App g h.0 h.1.0 in
       let h1 = hold_right ef _ h.1.1 in
       let df = ff (first m g) p None (behind ns) (suc n) s.0 (within_first vars m g p sp.splits w) (hold_left ef _ h.1.1) in
       let dx = fx (second m g) p (Some (taken_by t)) (drop (size f) (behind ns)) (suc n + size f) s.1 (within_second vars m g p sp.splits w) (hold_left ex _ h1.1) in
@@ -80,7 +81,7 @@ module _ (functions : List Function) (vars : List Kinds) (types_in : ℕ) where
       let u = held (field_in at.name t) in
       let ee = E (first m g) p None (behind ns) (suc n) e in
       let ex = E (second m g) p (Some u) (drop (size e) (behind ns)) (suc n + size e) x in
-      let sp = split_is functions vars [] ns nodes.Put g h.0 h.1.0 in
+      let sp = split_is functions vars ns nodes.Put g h.0 h.1.0 in
       let h1 = hold_right ee _ h.1.1 in
       let y = and_both (is_there (field_in at.name t)) _ h1.0 in
       let z = and_both (not (is_read_only t)) _ y.1 in
@@ -122,7 +123,7 @@ module _ (functions : List Function) (vars : List Kinds) (types_in : ℕ) where
       let m = marks_next ns in
       let t = plain functions p e in
       let ee = E (first m g) p None (behind ns) (suc n) e in
-      let sp = split_is functions vars [] ns nodes.Let g h.0 h.1.0 in
+      let sp = split_is functions vars ns nodes.Let g h.0 h.1.0 in
       let de = fe (first m g) p None (behind ns) (suc n) s.0 (within_first vars m g p sp.splits w) (hold_left ee _ h.1.1) in
       let dk = fk (push (second m g) (Some t)) (push p t) dir (drop (size e) (behind ns)) (suc n + size e) (lawful_push p t k s.1)
       (within_push (second m g) p t (within_second vars m g p sp.splits w)) (hold_right ee _ h.1.1) in
@@ -145,7 +146,7 @@ module _ (functions : List Function) (vars : List Kinds) (types_in : ℕ) where
       let p1 = observed os p in
       let t = plain functions p1 e in
       let ee = E (first m g) p1 None (behind ns) (suc n) e in
-      let sp = split_is functions vars os ns nodes.LetBang g h.0 h.1.0 in
+      let sp = split_seen functions vars os ns nodes.LetBang g (subst (λ n. All (λ o. o.var < n) os) (sym w.long) s.0) h.0 h.1.0 in
       let ws = within_split vars os m g p sp.splits w in
       let h1 = hold_right ee _ h.1.1 in
       let de = fe (first m g) p1 None (behind ns) (suc n) (subst (λ n. Lawful functions vars types_in n e) (sym (length_banged (λ i. among i os) p)) s.1) ws.0 (hold_left ee _ h.1.1) in
@@ -173,7 +174,7 @@ module _ (functions : List Function) (vars : List Kinds) (types_in : ℕ) where
       let t = with_part at.name true (plain functions p e) in
       let u = held (field_in at.name (plain functions p e)) in
       let ee = E (first m g) p None (behind ns) (suc n) e in
-      let sp = split_is functions vars [] ns nodes.Take g h.0 h.1.0 in
+      let sp = split_is functions vars ns nodes.Take g h.0 h.1.0 in
       let h1 = hold_right ee _ h.1.1 in
       let y = and_both (is_left (field_in at.name (plain functions p e))) _ h1.0 in
       let de = fe (first m g) p None (behind ns) (suc n) s.0 (within_first vars m g p sp.splits w) (hold_left ee _ h.1.1) in

@@ -44,7 +44,7 @@ module _ (functions : List Function) (vars : List Kinds) (types_in : ℕ) where
       let way = second_branch dir (plain functions p x) in
       let ec = E (first m g) p (Some types.bool) (behind ns) (suc n) c in
       let ex = E (second m g) p dir (drop (size c) (behind ns)) (suc n + size c) x in
-      let sp = split_is functions vars [] ns nodes.If g h.0 h.1.0 in
+      let sp = split_is functions vars ns nodes.If g h.0 h.1.0 in
       let h1 = hold_right ec _ h.1.1 in
       let w2 = within_second vars m g p sp.splits w in
       let dc = fc (first m g) p (Some types.bool) (behind ns) (suc n) s.0 (within_first vars m g p sp.splits w) (hold_left ec _ h.1.1) in
@@ -82,7 +82,7 @@ module _ (functions : List Function) (vars : List Kinds) (types_in : ℕ) where
       let way = second_branch dir (plain functions px x) in
       let ee = E (first m g) p None (behind ns) (suc n) e in
       let ex = E (push (second m g) (Some t)) px dir (drop (size e) (behind ns)) (suc n + size e) x in
-      let sp = split_is functions vars [] ns nodes.Case g h.0 h.1.0 in
+      let sp = split_is functions vars ns nodes.Case g h.0 h.1.0 in
       let h1 = hold_right ee _ h.1.1 in
       let w2 = within_second vars m g p sp.splits w in
       let de = fe (first m g) p None (behind ns) (suc n) s.0 (within_first vars m g p sp.splits w) (hold_left ee _ h.1.1) in

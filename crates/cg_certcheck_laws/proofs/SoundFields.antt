@@ -24,7 +24,7 @@ use Rattle.cg_check_laws.proofs.Clean.{Within, within_first, within_second}
 use Rattle.cg_check_laws.proofs.SoundFields.{ways, Follows, behind, made_plain, made_checked, next_along, ways_on}
 use Rattle.cg_certcheck_laws.proofs.FieldWays.{follows_on}
 use Rattle.cg_certcheck_laws.proofs.Limits.{limits_append}
-use Rattle.cg_certcheck_laws.proofs.MarkTests.{splits_is}
+use Rattle.cg_certcheck_laws.proofs.MarkTests.{splits_plain}
 use Rattle.cg_certcheck_laws.proofs.Nodes.{HeadsIn, heads_part, heads_node}
 use Rattle.cg_certcheck_laws.proofs.Rows.{hold_left, hold_right, reached_is}
 use Rattle.cg_certcheck_laws.proofs.SoundLeaves.{Sound, SoundShape}
@@ -71,7 +71,7 @@ module _ (functions : List Function) (vars : List Kinds) (types_in : ℕ) where
       let way = next_direction (ways ps) in
       let ee = E (first string g) p way ns n e in
       let k = and_both (splits vars [] string g) (field_strings vars rest strings (second string g)) m in
-      let sp = splits_is vars [] string g k.0 in
+      let sp = splits_plain vars string g k.0 in
       let d = f (first string g) p way ns n s.0 (within_first vars string g p sp w) (hold_left ee _ h) in
       let ds = ff (second string g) p dir (behind ps) strings (drop (size e) ns) (n + size e) s.1 (within_second vars string g p sp w) (follows_on dir ps name e rest o) k.1
       (subst (λ z. AllHold (field_events functions vars (second string g) p z strings (drop (size e) ns) (n + size e) rest)) (ways_on ps) (hold_right ee _ h)) in

@@ -33,6 +33,7 @@ use Rattle.cg_certcheck_laws.proofs.MarkTests.{drops_are, others_are}
 use Rattle.cg_certcheck_laws.proofs.Nodes.{Heads, heads_plain}
 use Rattle.cg_certcheck_laws.proofs.Rows.{reached_is, met_is}
 use Rattle.cg_base.proofs.Truths.{both as and_both}
+use Rattle.cg_typing.proofs.Lists.{taken_as_many}
 
 -- a leaf is reached and judged
 pub record LeafHolds (ns : List CertNode) (node : Node) (test : Bool) : Type 0 where
@@ -146,6 +147,7 @@ module _ (functions : List Function) (vars : List Kinds) (types_in : ℕ) where
         heads = q.heads;
         derives = record {
           tree = refl;
+          many = taken_as_many functions f (length args) s.0;
           arguments = u.0;
           is = mention_is functions f args (length args) s.0 ∙ ap Some (sym (met_is functions p dir (term a (fun f args)) (mentioned functions f args) refl u.1));
           others = drops_are vars g t.0;

@@ -59,6 +59,7 @@ module _ (functions : List Function) (vars : List Kinds) (types_in : ℕ) where
         heads = heads_plain _ nodes.Op (part d.tree done) ns (reached_is ns nodes.Op (no_strings ns) h.0 h.1.0) (heads_part (size x) 0 d.tree done (behind ns) d.heads refl);
         derives = record {
           tree = refl;
+          counted = sym s.0;
           operand = subst (λ z. Derives functions vars g d.tree z (core functions p way x)) (sym (one_way functions p x (sort_of o) dir)) d.derives;
           takes = subst (λ u. takes (sort_of o) u ≡ true) (sym is) k.takes;
           is = k.result ∙ ap (gives (sort_of o)) (sym is);
@@ -79,7 +80,7 @@ module _ (functions : List Function) (vars : List Kinds) (types_in : ℕ) where
       let reaches = guided_reached vars (suc n) (behind ns) (first m g) in
       let number = guided_number (suc n) (value_of l) in
       let k = two_hold functions vars p n l r whole left right reaches number (sort_of o) dir q (guided functions vars (first m g) p (behind ns) (suc n) l) refl h.1.1 in
-      let sp = split_is functions vars [] ns nodes.Op g h.0 h.1.0 in
+      let sp = split_is functions vars ns nodes.Op g h.0 h.1.0 in
       let t = common functions p l r (sort_of o) dir q in
       let wl = operand (sort_of o) dir (not q) t in
       let wr = operand (sort_of o) dir q t in
@@ -95,6 +96,7 @@ module _ (functions : List Function) (vars : List Kinds) (types_in : ℕ) where
             (heads_part (size l) (size r + 0) dl.tree (part dr.tree done) (behind ns) dl.heads (heads_part (size r) 0 dr.tree done (drop (size l) (behind ns)) dr.heads refl));
         derives = record {
           tree = refl;
+          counted = sym s.0;
           splits = sp.splits;
           left = subst (λ z. Derives functions vars (first m g) dl.tree (operand (sort_of o) dir (not z) (plain_in functions p wl l)) (core functions p wl l)) (sym c)
               (subst (λ z. Derives functions vars (first m g) dl.tree z (core functions p wl l)) (sym (left_way functions p l r (sort_of o) dir q)) dl.derives);

@@ -9,19 +9,19 @@ use Rattle.cg_check_laws.specs.Cases.{Bindings, ComplementDerived, AddDerived, E
 
 complement_derived : ComplementDerived
 unfolding kinds both bang subst erased same
-complement_derived = record { derives = record { tree = refl; operand = var_row refl refl refl; takes = refl; is = refl; meets = refl }; holds = refl }
+complement_derived = record { derives = record { tree = refl; counted = refl; operand = var_row refl refl refl; takes = refl; is = refl; meets = refl }; holds = refl }
 
 add_derived : AddDerived
 unfolding kinds both bang subst erased same
-add_derived = record { derives = record { tree = refl; splits = splits [] _ _ _ refl; left = var_row refl refl refl; right = lit_row refl (omega arith) refl; alike = refl; takes = refl; is = refl; meets = refl }; holds = refl }
+add_derived = record { derives = record { tree = refl; counted = refl; splits = splits [] _ _ _ refl; left = var_row refl refl refl; right = lit_row refl (omega arith) refl; alike = refl; takes = refl; is = refl; meets = refl }; holds = refl }
 
 eq_derived : EqDerived
 unfolding kinds both bang subst erased same
-eq_derived = record { derives = record { tree = refl; splits = splits [] _ _ _ refl; left = lit_row refl (omega arith) refl; right = var_row refl refl tt; alike = refl; takes = refl; is = refl; meets = refl }; holds = refl }
+eq_derived = record { derives = record { tree = refl; counted = refl; splits = splits [] _ _ _ refl; left = lit_row refl (omega arith) refl; right = var_row refl refl tt; alike = refl; takes = refl; is = refl; meets = refl }; holds = refl }
 
 app_derived : AppDerived
 unfolding kinds both bang subst erased same
-app_derived = record { derives = record { tree = refl; splits = splits [] _ _ _ refl; function = fun_row refl refl refl tt; argument = var_row refl refl refl; is_arrow = refl; meets = refl }; holds = refl }
+app_derived = record { derives = record { tree = refl; splits = splits [] _ _ _ refl; function = fun_row refl refl refl refl tt; argument = var_row refl refl refl; is_arrow = refl; meets = refl }; holds = refl }
 
 let_derived : LetDerived
 unfolding kinds both bang subst erased same

@@ -24,7 +24,7 @@ lit_derived = record { derives = lit_row refl (omega arith) refl; holds = refl }
 
 fun_derived : FunDerived
 unfolding kinds both bang subst erased same
-fun_derived = record { derives = fun_row refl refl refl refl; holds = refl }
+fun_derived = record { derives = fun_row refl refl refl refl refl; holds = refl }
 
 var_refused : VarRefused
 unfolding kinds both bang subst erased same

@@ -1,5 +1,7 @@
 -- What the occurrence marks make of a context that a node's events allow: the split that the node asks for, at each entry.
 use Rattle.std.proofs.Common.{◌≡◌, ◌≢◌, ℕ, suc, ◌<◌, Bool, true, false, ◌||◌, cond, IsTrue, Option, Some, None, List, [], length, ⊎_elim, refl, sym, ap, ◌∙◌, subst, arith, nat_eq, eqb-true}
+use Rattle.std.proofs.lemmas.List.Elements.{All-nil}
+use Rattle.std.specs.List.{All}
 use Rattle.cg_base.specs.declared.kind.Kinds.{Kinds}
 use Rattle.cg_base.specs.Types.{Tau}
 use Rattle.cg_core.specs.declared.derivation.Mark.{Mark}
@@ -55,12 +57,12 @@ module _ (vars : List Kinds) where
     pub at1 : (i : ℕ) → i < length q → Entry (a i) (look (first m g) i) (plain_at q i)
     pub at2 : (i : ℕ) → i < length p → Entry (b i) (look (second m g) i) (plain_at p i)
 
-  pub parted_observed : (os : List Observer) (g : Context) (p : List Tau) (a b : ℕ → Bool) → length g ≡ length p
+  pub parted_observed : (os : List Observer) (g : Context) (p : List Tau) (a b : ℕ → Bool) → length g ≡ length p → All (λ o. o.var < length p) os
       → ((i : ℕ) → i < length p → among i os ≡ true → b i ≡ false → drops vars (plain_at p i) ≡ true)
       → ((i : ℕ) → i < length p → among i os ≡ false → a i ≡ true → b i ≡ true → shares vars (plain_at p i) ≡ true)
       → ((i : ℕ) → i < length p → Entry (among i os || (a i || b i)) (look g i) (plain_at p i))
       → Parted os (marks (λ i. among i os) a b g) g p (observed os p) a b
-  parted_observed os g p a b l d h e =
+  parted_observed os g p a b l w d h e =
       let s : ℕ → Bool = λ i. among i os in
       let m : List Mark = marks s a b g in
       let lm : length m ≡ length g = length_marks s a b g in
@@ -69,7 +71,7 @@ module _ (vars : List Kinds) where
       (sym (mark_marks s a b g i)) (entry_split (s i) (a i) (b i) (look g i) (plain_at p i) (d i lt) (h i lt) (e i lt)) in
       let lb : length (observed os p) ≡ length p = length_banged s p in
       record {
-        splits = record { long = lm; fits = λ i lt. (all i (omega arith)).0 };
+        splits = record { long = lm; fits = λ i lt. (all i (omega arith)).0; observed = subst (λ n. All (λ o. o.var < n) os) (sym l) w };
         long1 = length_first m g lm ∙ l ∙ sym lb;
         long2 = length_second m g lm ∙ l;
         at1 = λ i lt. subst (λ o. Entry (a i) o (plain_at (observed os p) i)) (sym (look_first m g i))
@@ -89,7 +91,7 @@ module _ (vars : List Kinds) where
       λ i lt. subst (λ x. Fits vars false x (look g i) × Entry (a i) (first_side x (look g i)) (plain_at p i) × Entry (b i) (second_side x (look g i)) (plain_at p i))
       (sym (mark_marks (λ i. false) a b g i)) (entry_split false (a i) (b i) (look g i) (plain_at p i) (λ u v. absurd (cc)) (λ u. h i lt) (e i lt)) in
       record {
-        splits = record { long = lm; fits = λ i lt. (all i (omega arith)).0 };
+        splits = record { long = lm; fits = λ i lt. (all i (omega arith)).0; observed = All-nil (λ (o : Observer). o.var < length g) };
         long1 = length_first m g lm ∙ l;
         long2 = length_second m g lm ∙ l;
         at1 = λ i lt. subst (λ o. Entry (a i) o (plain_at p i)) (sym (look_first m g i)) (all i lt).1;

@@ -201,7 +201,7 @@ module _ (functions : List Function) (vars : List Kinds) (types_in : ℕ) where
       let own : (i : ℕ) → i < length p → AllSeen (drops vars (plain_at p i)) (sightings_among i (used i k) os) = λ i lt. seen_left _ _ _ (q i lt) in
       let rest : (i : ℕ) → i < length p → AllSeen (drops vars (plain_at p i)) (cond (among i os) [] (sightings i e) ++ sightings i k) =
       λ i lt. seen_right _ (sightings_among i (used i k) os) _ (q i lt) in
-      let pt = parted_observed vars os g p (λ i. touched i e) (λ i. touched i k) l
+      let pt = parted_observed vars os g p (λ i. touched i e) (λ i. touched i k) l s.0
       (λ i lt x y. or_else (drops vars (plain_at p i)) (used i k) (among_seen i (drops vars (plain_at p i)) (used i k) os (own i lt) x) (unused k i y))
       (λ i lt n x y. clash_body functions vars types_in k (clash functions vars types_in k) p t (after_seen os b e) dir (suc (length p)) s.2 hk i lt y
       (or_right (b i) _ (but_is (among i os) (touched i e) n x))) en in

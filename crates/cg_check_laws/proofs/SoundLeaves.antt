@@ -21,6 +21,7 @@ use Rattle.cg_check_laws.proofs.Clash.{Lawful}
 use Rattle.cg_check_laws.proofs.Occurs.{AllSeen}
 use Rattle.cg_check_laws.proofs.Parted.{Entry, all_drop, others_drop}
 use Rattle.cg_check_laws.proofs.SameTypes.{same_is, and_refl as and_of}
+use Rattle.cg_typing.proofs.Lists.{taken_as_many}
 
 -- directions
 pub meets_is : (functions : List Function) (p : List Tau) (direction : Option Tau) (e : Tree Place) (place : Place) → RulesHold (meets direction place (plain functions p e))
@@ -118,6 +119,7 @@ module _ (functions : List Function) (vars : List Kinds) (types_in : ℕ) where
       let r = arguments_good functions vars (asked_by functions f) args (meets dir a (mentioned functions f args)) h in
       record {
         tree = refl;
+        many = taken_as_many functions f (length args) s.0;
         arguments = r.0;
         is = mention_is functions f args (length args) s.0 ∙ ap Some (sym (meets_is functions p dir (term a (fun f args)) a r.1));
         others = all_drop vars g p l e;

@@ -177,6 +177,7 @@ module _ (functions : List Function) (vars : List Kinds) (types_in : ℕ) where
       let d = f p b w g s.1.0 l (only x g p e) k.holds (λ i lt. seen_left _ _ [] (q i lt)) in
       record {
         tree = refl;
+        counted = sym s.0;
         operand = subst (λ way. Derives functions vars g (tree functions g p x) way (core functions p w x)) (sym (ap (λ u. operand (sort_of o) dir true u) k.is ∙ way_is (sort_of o) dir true t)) d;
         takes = subst (λ u. takes (sort_of o) u ≡ true) (sym k.is) k.takes;
         is = k.result ∙ ap (gives (sort_of o)) (sym k.is);
@@ -203,6 +204,7 @@ module _ (functions : List Function) (vars : List Kinds) (types_in : ℕ) where
       let c = literal_core functions p wl l in
       record {
         tree = refl;
+        counted = sym s.0;
         splits = pt.splits;
         left = subst (λ z. Derives functions vars (first m g) (tree functions (first m g) p l) (operand (sort_of o) dir (not z) (plain_in functions p wl l)) (core functions p wl l)) (sym c)
             (subst (λ way. Derives functions vars (first m g) (tree functions (first m g) p l) way (core functions p wl l))

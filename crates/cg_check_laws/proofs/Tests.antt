@@ -1,5 +1,7 @@
 -- Tests of splits and of drops: where they say yes, the marks split the context, and its entries may be dropped.
-use Rattle.std.proofs.Common.{◌≡◌, ◌≢◌, ◌<◌, ℕ, zero, suc, Bool, true, false, ◌&&◌, ◌||◌, not, IsTrue, Option, Some, None, List, [], ◌∷◌, length, nat_eq, refl, subst, arith, eqb-true}
+use Rattle.std.proofs.Common.{◌≡◌, ◌≢◌, ◌<◌, ℕ, zero, suc, Bool, true, false, ◌&&◌, ◌||◌, not, IsTrue, Option, Some, None, List, [], ◌∷◌, length, nat_eq, nat_lt, refl, subst, arith, eqb-true, ltb-true}
+use Rattle.std.proofs.lemmas.List.Elements.{All-nil, All-cons}
+use Rattle.std.specs.List.{All}
 use Rattle.cg_base.specs.declared.kind.Kinds.{Kinds}
 use Rattle.cg_base.specs.Types.{Tau}
 use Rattle.cg_core.specs.declared.derivation.Mark.{Mark}
@@ -52,8 +54,24 @@ module _ (vars : List Kinds) where
   fits_each observed [] (o ∷ g) e i below = absurd (cc)
   fits_each observed (m ∷ ms) [] e i below = absurd (cc)
 
-  pub splits : (observers : List Observer) (ms : List Mark) (g : Context) → splits_test (λ i. among i observers) ms g ≡ true → Splits vars observers ms g
-  splits observers ms g e = record { long = as_long (λ i. among i observers) ms g e; fits = fits_each (λ i. among i observers) ms g e }
+  -- the observers are entries
+  abbrev pub observers_test : List Observer → ℕ → Bool
+  observers_test [] n = true
+  observers_test (o ∷ os) n = nat_lt o.var n && observers_test os n
+
+  observers_within : (os : List Observer) (n : ℕ) → observers_test os n ≡ true → All (λ o. o.var < n) os
+  observers_within [] n e = All-nil (λ (o : Observer). o.var < n)
+  observers_within (o ∷ os) n e =
+      All-cons (λ (o : Observer). o.var < n) o os (ltb-true o.var n (and_left (nat_lt o.var n) _ e)) (observers_within os n (and_right (nat_lt o.var n) _ e))
+
+  pub splits : (observers : List Observer) (ms : List Mark) (g : Context) → (splits_test (λ i. among i observers) ms g && observers_test observers (length g)) ≡ true
+      → Splits vars observers ms g
+  splits observers ms g e =
+      let s : splits_test (λ i. among i observers) ms g ≡ true = and_left _ _ e in record {
+        long = as_long (λ i. among i observers) ms g s;
+        fits = fits_each (λ i. among i observers) ms g s;
+        observed = observers_within observers (length g) (and_right (splits_test (λ i. among i observers) ms g) _ e);
+      }
 
   -- an entry is used or may be dropped
   abbrev pub drop_test : Bool → Option Tau → Bool

@@ -15,7 +15,7 @@ use Rattle.cg_core.specs.declared.op.Op.TheVariants.{Add, Complement, Eq}
 use Rattle.cg_core.specs.Derivations as trees
 use Rattle.cg_core.specs.Derivations.{Derivation, derivation}
 use Rattle.cg_core.specs.Kernels.{Function, Body}
-use Rattle.cg_core.specs.Terms.{Tree, term, var, unit, bool, lit, fun, op, app, lets, let_bang, if_else, con, case_of, esac, struct, member, take_field, put, cast, annot, none, more, end, field, Note, erased}
+use Rattle.cg_core.specs.Terms.{Tree, var, unit, bool, lit, fun, op, app, lets, let_bang, if_else, con, case_of, esac, struct, member, take_field, put, cast, annot, none, more, end, field, Note, erased}
 use Rattle.cg_kinds.specs.Kinds.{no_kinds, seen_kinds}
 use Rattle.cg_faults.specs.declared.rule.Rule.{Rule}
 use Rattle.cg_faults.specs.declared.rule.Rule.TheVariants.{K1, K2, K3, K4, K5, K6, K7, T1, T2, T3, T4, T5, T6, T7, T8, T9, T10, T11, T12, T13, T14}

@@ -9,10 +9,10 @@ use Rattle.cg_core.specs.Kernels.{Function, kernel_of}
 use Rattle.cg_core.specs.Terms.{Note, Tree}
 use Rattle.cg_eval_def.specs.Evaluation.{Table}
 use Rattle.cg_core_def.specs.Lawful.{body_mentions}
-use Rattle.cg_typing.specs.Functions.{are_good_arguments, asked_by, fun_type}
+use Rattle.cg_typing.specs.Functions.{are_good_arguments, asked_by, fun_type, takes_as_many}
 use Rattle.cg_typing.specs.declared.checked.Checked.{Checked}
 use Rattle.cg_typing.specs.Holds.{cores_in, kept_at, kernel_in}
-use Rattle.cg_typing.specs.Instances.{as_arguments, is_closed, takes_as_many}
+use Rattle.cg_typing.specs.Instances.{as_arguments, is_closed}
 use Rattle.cg_typing.specs.Kept.{maybe_core}
 use Rattle.cg_typing.specs.Parts.{taken_by}
 use Rattle.cg_value.specs.Fits.{World, fits}

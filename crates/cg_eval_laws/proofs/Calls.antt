@@ -16,12 +16,12 @@ use Rattle.cg_core.specs.Terms.{Note, Tree}
 use Rattle.cg_eval_def.specs.Evaluation.{stuck, gives, pay_for, Table, Run, apply, call, enter, iterated, only}
 use Rattle.cg_eval_operations.specs.Iterators.{is_iterator}
 use Rattle.cg_eval_def.specs.Foreigns.{IsClosed, cost_at, is_among, is_empty, is_instance, is_known, is_taken, table_over, value_at, world_of}
-use Rattle.cg_typing.specs.Instances.{as_arguments, has_vars, is_closed}
+use Rattle.cg_typing.specs.Instances.{as_arguments, is_closed}
 use Rattle.cg_kinds.specs.Kinds.{subst}
 use Rattle.cg_core_def.specs.Lawful.{IsLawfulBody, IsLawfulFunction, IsLawfulTerm, body_mentions, term_mentions}
 use Rattle.cg_lib_value.specs.Library.{library_cost, library_value}
 use Rattle.cg_typing.specs.Accepted.{kinds_of_vars}
-use Rattle.cg_typing.specs.Functions.{are_good_arguments, arg_types, asked_by_user, fun_type}
+use Rattle.cg_typing.specs.Functions.{are_good_arguments, arg_types, asked_by_user, fun_type, has_vars}
 use Rattle.cg_typing.specs.Kept.{IsKept, IsKeptMaybe}
 use Rattle.cg_typing.specs.Library.{library_type}
 use Rattle.cg_typing.specs.Parts.{given_by, taken_by}

@@ -11,9 +11,9 @@ use Rattle.cg_base.specs.Types.{Tau}
 use Rattle.cg_core.specs.Kernels.{Function}
 use Rattle.cg_core.specs.Terms.{Arg}
 use Rattle.cg_eval_def.specs.Foreigns.{is_instance, is_this}
-use Rattle.cg_typing.specs.Instances.{as_arguments, is_closed, takes_as_many}
+use Rattle.cg_typing.specs.Instances.{as_arguments, is_closed}
 use Rattle.cg_kinds.specs.Kinds.{subst}
-use Rattle.cg_typing.specs.Functions.{are_good_arguments, arg_types, asked_by, fun_type}
+use Rattle.cg_typing.specs.Functions.{are_good_arguments, arg_types, asked_by, fun_type, takes_as_many}
 use Rattle.cg_typing.specs.Library.{library_type}
 use Rattle.cg_typing_laws.specs.Laws.{AreInstance}
 use Rattle.cg_typing.specs.Subst.{subst_arg}

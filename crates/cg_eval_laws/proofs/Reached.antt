@@ -9,21 +9,13 @@ use Rattle.cg_base.specs.declared.fun.Fun.TheVariants.{User, Lib as OfLib}
 use Rattle.cg_core.specs.Kernels.{Function}
 use Rattle.cg_core.specs.Terms.{Note, Tree, term, Shape, var, unit, bool, lit, fun, op, app, lets, let_bang, if_else, con, case_of, esac, struct, member, take_field, put, cast, annot, Trees, none, more, Named, end, field, erased, erased_shape, erased_trees, erased_named}
 use Rattle.cg_eval_def.specs.Foreigns.{is_among}
-use Rattle.cg_typing.specs.Instances.{has_vars, takes_as_many}
+use Rattle.cg_typing.specs.Functions.{takes_as_many}
+use Rattle.cg_typing.proofs.Lists.{taken_as_many}
 use Rattle.cg_core_def.specs.Lawful.{IsLawfulTerm, IsLawfulShape, AreLawfulTerms, AreLawfulFields, Takes, term_mentions, shape_mentions, terms_mentions, fields_mentions, user_of}
 
 -- how many type arguments each function takes
 abbrev pub arities : List Function → List ℕ
 arities functions = map (λ f. length f.vars) functions
-
-as_many : (functions : List Function) (i n : ℕ) → slice_get (arities functions) i ≡ Some n → IsTrue (has_vars (slice_get functions i) n)
-as_many [] i n e = absurd (cc)
-as_many (f ∷ fs) zero n e = let q : length f.vars ≡ n = cc in eq-eqb (length f.vars) n q
-as_many (f ∷ fs) (suc i) n e = as_many fs i n e
-
-taken_as_many : (functions : List Function) (f : Fun) (n : ℕ) → Takes (arities functions) f n → IsTrue (takes_as_many functions f n)
-taken_as_many functions (User i) n e = as_many functions i n e
-taken_as_many functions (OfLib l) n e = eq-eqb _ n e
 
 module _ (functions : List Function) (among : ℕ → Bool) where
   abbrev mutual

@@ -11,7 +11,7 @@ use Rattle.cg_core.specs.Kernels.{Function, kernel_of}
 use Rattle.cg_core.specs.Terms.{Note, Tree, term}
 use Rattle.cg_eval_def.specs.Evaluation.{Outcome, spent, stuck, gives, evaluate, outcome, with_fuel}
 use Rattle.cg_eval_def.specs.Foreigns.{IsClosed, table_of, table_over, world_of}
-use Rattle.cg_typing.specs.Instances.{has_vars}
+use Rattle.cg_typing.specs.Functions.{has_vars}
 use Rattle.cg_kinds.specs.Kinds.{subst}
 use Rattle.cg_core_def.specs.Lawful.{IsLawfulFunction, IsLawfulType}
 use Rattle.cg_typing.specs.declared.checked.Checked.{Checked}

@@ -17,8 +17,8 @@ use Rattle.cg_lib_heap.specs.Library.{HasArray, library_heap}
 use Rattle.cg_lib_value.specs.Library.{library_value}
 use Rattle.cg_kinds.specs.Kinds.{is_word}
 use Rattle.cg_core.specs.Kernels.{Function}
-use Rattle.cg_typing.specs.Functions.{are_good_arguments, asked_by}
-use Rattle.cg_typing.specs.Instances.{as_arguments, takes_as_many}
+use Rattle.cg_typing.specs.Functions.{are_good_arguments, asked_by, takes_as_many}
+use Rattle.cg_typing.specs.Instances.{as_arguments}
 use Rattle.cg_typing.specs.Library.{given, library_type}
 use Rattle.cg_typing.specs.Parts.{taken_by, given_by}
 use Rattle.cg_value.specs.Values.{Val}

@@ -14,19 +14,19 @@ use Rattle.cg_core.specs.Kernels.{Body, Function}
 use Rattle.cg_core.specs.Terms.{Note, Tree, term, fun, erased}
 use Rattle.cg_inst.specs.Judged.{core_in, functions_in}
 use Rattle.cg_inst.specs.Lists.{Cores, core_of, mentioned_by, mentioned_maybe}
-use Rattle.cg_core_def.specs.Lawful.{IsLawfulBody, IsLawfulFunction, Takes, body_mentions, user_of}
+use Rattle.cg_core_def.specs.Lawful.{IsLawfulFunction, body_mentions, user_of}
 use Rattle.cg_typing.specs.Accepted.{kinds_of_vars}
 use Rattle.cg_typing.specs.declared.checked.Checked.{Checked}
-use Rattle.cg_typing.specs.Functions.{are_good_arguments, asked_by_user}
+use Rattle.cg_typing.specs.Functions.{are_good_arguments, asked_by_user, has_vars}
 use Rattle.cg_typing.specs.Holds.{cores_in, kept_at, trees_in}
-use Rattle.cg_typing.specs.Instances.{Instance, IsGood, as_arguments, has_vars, is_closed, mentioned, mentioned_at, mentioned_in, nodes_of, takes_as_many}
+use Rattle.cg_typing.specs.Instances.{Instance, IsGood, as_arguments, is_closed, mentioned, mentioned_at, mentioned_in, nodes_of}
 use Rattle.cg_typing.specs.Kept.{AreKept, IsKept, IsKeptMaybe, maybe_core, maybe_tree}
 use Rattle.cg_typing_laws.specs.Laws.{AreInstance}
 use Rattle.cg_typing.specs.Subst.{subst_core}
 use Rattle.cg_typing_laws.proofs.Instances.{checked_arguments}
-use Rattle.cg_inst_laws.proofs.Each.{Each, each_both, each_join, each_then}
+use Rattle.cg_inst_laws.proofs.Each.{Each, each_both, each_then}
 use Rattle.cg_inst_laws.proofs.Mentions.{given_twice, mention_is_good}
-use Rattle.cg_inst_laws.proofs.Nodes.{IsDerivedNode, IsLawfulNode, nodes_derived, nodes_given, nodes_lawful, nodes_users, users_at}
+use Rattle.cg_inst_laws.proofs.Nodes.{IsDerivedNode, nodes_derived, nodes_given, nodes_users, users_at}
 use Rattle.cg_base.proofs.Counts.{no_steps as never}
 use Rattle.cg_typing.proofs.Lists.{types_back}
 
@@ -56,16 +56,6 @@ mentioned_given given closed c = ap (mentioned_in []) (nodes_given given c) ∙ 
 -- how many type arguments each function takes
 abbrev pub arities : List Function → List ℕ
 arities functions = map (λ f. length f.vars) functions
-
--- as many type arguments as are lawful are what a function takes
-as_many : (functions : List Function) (i n : ℕ) → slice_get (arities functions) i ≡ Some n → IsTrue (has_vars (slice_get functions i) n)
-as_many [] i n e = absurd (cc)
-as_many (f ∷ fs) zero n e = let q : length f.vars ≡ n = cc in eq-eqb (length f.vars) n q
-as_many (f ∷ fs) (suc i) n e = as_many fs i n e
-
-taken_as_many : (functions : List Function) (f : Fun) (n : ℕ) → Takes (arities functions) f n → IsTrue (takes_as_many functions f n)
-taken_as_many functions (User i) n e = as_many functions i n e
-taken_as_many functions (OfLib l) n e = eq-eqb _ n e
 
 -- ---- functions that are typed
 
@@ -120,24 +110,22 @@ module _ (functions : List Function) (cores : Cores) (trees : ℕ → Option Der
       (checked_arguments [] f (as_arguments types) (at (λ o. IsTrue (are_good_arguments [] (asked_by_user o) (as_arguments types))) e h.good))
 
   module _ (i : ℕ) (f : Function) (types : List Tau) (there : slice_get functions i ≡ Some f) (good : IsGood functions (record { fun = User i; types = types })) where
-    -- a node that is derived and lawful mentions good instances
-    node_good : (t : Tree Note) → IsDerivedNode functions (kinds_of_vars f) t → IsLawfulNode (arities functions) (length f.vars) t → Each (IsGood functions) (mentioned_at types t)
-    unfolding erased
-    node_good (term note (fun g args)) d l =
-        (mention_is_good functions (kinds_of_vars f) types (are_instance i f types there good) good.closed g args (taken_as_many functions g (length args) l.lawful.0) d.derives.arguments, tt)
-    node_good _ d l = tt
+    -- a node that is derived mentions good instances
+    node_good : (t : Tree Note) → IsDerivedNode functions (kinds_of_vars f) t → Each (IsGood functions) (mentioned_at types t)
+    node_good (term note (fun g args)) d =
+        (mention_is_good functions (kinds_of_vars f) types (are_instance i f types there good) good.closed g args d.derives.many d.derives.arguments, tt)
+    node_good _ d = tt
 
     -- and so does a body that is kept
     body_good : (a b : Tau) (body : Option Body) (core : Option (Tree Note)) (tree : Option Derivation)
-        → IsKeptMaybe functions (kinds_of_vars f) a b body core tree → IsLawfulBody (arities functions) (length f.vars) body → Each (IsGood functions) (mentioned_maybe types core)
-    body_good a b body None tree k l = tt
-    body_good a b None (Some c) tree k l = absurd k
-    body_good a b (Some body) (Some c) None k l = absurd k
-    body_good a b (Some body) (Some c) (Some d) k l =
+        → IsKeptMaybe functions (kinds_of_vars f) a b body core tree → Each (IsGood functions) (mentioned_maybe types core)
+    body_good a b body None tree k = tt
+    body_good a b None (Some c) tree k = absurd k
+    body_good a b (Some body) (Some c) None k = absurd k
+    body_good a b (Some body) (Some c) (Some d) k =
         each_mentioned types (IsGood functions) (nodes_of c)
-        (each_join (IsDerivedNode functions (kinds_of_vars f)) (IsLawfulNode (arities functions) (length f.vars)) (λ t. Each (IsGood functions) (mentioned_at types t)) (nodes_of c) node_good
-        (nodes_derived functions (kinds_of_vars f) c _ d _ k.derives)
-        (nodes_lawful (arities functions) (length f.vars) c 1 (at (λ t. IsLawfulBody (arities functions) (length f.vars) (Some (record { param = body.param; term = t }))) (sym k.erases) l)))
+        (each_then (IsDerivedNode functions (kinds_of_vars f)) (λ t. Each (IsGood functions) (mentioned_at types t)) (nodes_of c) node_good
+        (nodes_derived functions (kinds_of_vars f) c _ d _ k.derives))
 
     -- what holds of the functions that a node mentions holds of those of the instances that it mentions
     node_named : (P : ℕ → Type 0) (t : Tree Note) → Each P (users_at t) → Each (λ (x : Instance). Each P (user_of x.fun)) (mentioned_at types t)
@@ -163,7 +151,7 @@ module _ (functions : List Function) (cores : Cores) (trees : ℕ → Option Der
       go (OfLib l) types h = tt
       go (User i) types h =
           let u = user_there functions i (length types) h.many in let k = typed.kept i u.function u.there in
-          body_good i u.function types u.there h k.argument k.result u.function.body (cores i) (trees i) k.kept (typed.lawful i u.function u.there).body
+          body_good i u.function types u.there h k.argument k.result u.function.body (cores i) (trees i) k.kept
 
   -- and what holds of each function that its function's body mentions holds of their functions
   pub mentions_named : (P : ℕ → Type 0) (i : ℕ) (f : Function) (types : List Tau) → slice_get functions i ≡ Some f → IsGood functions (record { fun = User i; types = types })

@@ -16,8 +16,8 @@ use Rattle.cg_core.specs.Terms.{Note, Tree}
 use Rattle.cg_inst.specs.Lists.{Cores, IsList, core_of, front_from, mentioned_maybe}
 use Rattle.cg_kinds.specs.Kinds.{or_unit, subst}
 use Rattle.cg_typing.specs.Accepted.{kinds_of_vars}
-use Rattle.cg_typing.specs.Functions.{arg_types, fun_type}
-use Rattle.cg_typing.specs.Instances.{AreInstances, Entry, Instance, IsDerivedMaybe, IsEntry, IsGood, IsIn, MentionsOnly, as_arguments, has_vars, is_closed, mentioned}
+use Rattle.cg_typing.specs.Functions.{arg_types, fun_type, has_vars}
+use Rattle.cg_typing.specs.Instances.{AreInstances, Entry, Instance, IsDerivedMaybe, IsEntry, IsGood, IsIn, MentionsOnly, as_arguments, is_closed, mentioned}
 use Rattle.cg_typing.specs.Kept.{IsKeptMaybe}
 use Rattle.cg_typing.specs.Library.{library_type}
 use Rattle.cg_typing_laws.specs.Laws.{AreInstance}

@@ -8,8 +8,8 @@ use Rattle.cg_base.specs.Types.{Tau}
 use Rattle.cg_core.specs.Kernels.{Function}
 use Rattle.cg_core.specs.Terms.{Arg}
 use Rattle.cg_kinds.specs.Kinds.{subst}
-use Rattle.cg_typing.specs.Functions.{Asked, are_good_arguments, arg_types, asked_by, later_asked, meets_asked, next_asked}
-use Rattle.cg_typing.specs.Instances.{IsGood, as_arguments, is_closed, takes_as_many}
+use Rattle.cg_typing.specs.Functions.{Asked, are_good_arguments, arg_types, asked_by, later_asked, meets_asked, next_asked, takes_as_many}
+use Rattle.cg_typing.specs.Instances.{IsGood, as_arguments, is_closed}
 use Rattle.cg_typing.specs.Parts.{has_word_arrays}
 use Rattle.cg_typing_laws.specs.Laws.{AreInstance}
 use Rattle.cg_typing.specs.Subst.{subst_arg}

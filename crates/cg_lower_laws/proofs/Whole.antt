@@ -33,8 +33,8 @@ use Rattle.cg_core_def.specs.Lawful.{library_arity}
 use Rattle.cg_eval_def.specs.Foreigns.{is_known}
 use Rattle.cg_eval_operations.specs.Iterators.{is_iterator}
 use Rattle.cg_typing.specs.Contexts.{look}
-use Rattle.cg_typing.specs.Functions.{are_good_arguments, arg_types, asked_by, asked_by_library, fun_type}
-use Rattle.cg_typing.specs.Instances.{as_arguments, Entry, Instance, IsDerivedBody, IsDerivedMaybe, IsEntry, takes_as_many}
+use Rattle.cg_typing.specs.Functions.{are_good_arguments, arg_types, asked_by, asked_by_library, fun_type, takes_as_many}
+use Rattle.cg_typing.specs.Instances.{as_arguments, Entry, Instance, IsDerivedBody, IsDerivedMaybe, IsEntry}
 use Rattle.cg_typing.specs.Library.{library_type}
 use Rattle.cg_typing.specs.Parts.{given_by, taken_by}
 use Rattle.cg_typing.specs.Rules.{type_at}

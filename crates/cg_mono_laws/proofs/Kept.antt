@@ -20,7 +20,8 @@ use Rattle.cg_inst_laws.proofs.Sources.{instances_are_good}
 use Rattle.cg_typing.specs.Accepted.{kinds_of_vars}
 use Rattle.cg_typing.specs.declared.checked.Checked.{Checked}
 use Rattle.cg_typing.specs.Holds.{cores_in, kept_at, trees_in}
-use Rattle.cg_typing.specs.Instances.{Instance, MentionsOnly, has_vars}
+use Rattle.cg_typing.specs.Functions.{has_vars}
+use Rattle.cg_typing.specs.Instances.{Instance, MentionsOnly}
 use Rattle.cg_typing.specs.Kept.{AreKept, IsKeptMaybe, maybe_core, maybe_tree}
 use Rattle.cg_typing.specs.Subst.{subst_core}
 use Rattle.cg_value.specs.Foreign.{Foreign, IsLawful}

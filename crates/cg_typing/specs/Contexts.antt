@@ -1,5 +1,6 @@
 -- Contexts, marks and splits (the paper's splitting and weakening, section 3).
 use Rattle.std.specs.Prelude.{◌≡◌, ◌≢◌, ℕ, zero, suc, ◌<◌, Bool, true, false, ◌||◌, IsTrue, Option, Some, None, List, [], ◌∷◌, length, nat_eq}
+use Rattle.std.specs.List.{All}
 use Rattle.cg_base.specs.declared.kind.Kinds.{Kinds}
 use Rattle.cg_base.specs.Types.{Tau}
 use Rattle.cg_core.specs.declared.derivation.Mark.{Mark}
@@ -81,10 +82,11 @@ module _ (vars : List Kinds) where
   Fits observed Seen None = ⊥
   Fits observed Seen (Some t) = observed ≡ true
 
-  -- the marks split the context, and mark exactly the observers as seen
+  -- the marks split the context, and mark exactly the observers as seen, each of which is an entry
   pub record Splits (observers : List Observer) (marks : List Mark) (g : Context) : Type 0 where
     pub long : length marks ≡ length g
     pub fits : (i : ℕ) → i < length g → Fits (among i observers) (mark_at marks i) (look g i)
+    pub observed : All (λ o. o.var < length g) observers
 
   -- every present entry may be dropped
   abbrev pub Drops : Context → Type 0

@@ -1,5 +1,5 @@
--- Functions that a term mentions: their types at their type arguments, and what is asked of each type argument.
-use Rattle.std.specs.Prelude.{Bool, true, ◌&&◌, ◌||◌, not, List, [], ◌∷◌, map, Option, Some, None, slice_get}
+-- Functions that a term mentions: their types at their type arguments, how many of these they take, and what is asked of each.
+use Rattle.std.specs.Prelude.{ℕ, nat_eq, Bool, true, false, ◌&&◌, ◌||◌, not, List, [], ◌∷◌, length, map, Option, Some, None, slice_get}
 use Rattle.std.specs.Option.{option_map}
 use Rattle.cg_base.specs.declared.fun.Fun.{Fun}
 use Rattle.cg_base.specs.declared.fun.Fun.TheVariants.{User, Lib as OfLib}
@@ -9,6 +9,7 @@ use Rattle.cg_base.specs.declared.kind.Kinds.{Kinds}
 use Rattle.cg_base.specs.Types.{Tau}
 use Rattle.cg_core.specs.Kernels.{Function}
 use Rattle.cg_core.specs.Terms.{Arg}
+use Rattle.cg_core_def.specs.Lawful.{library_arity}
 use Rattle.cg_kinds.specs.Kinds.{kinds, subst, is_word}
 use Rattle.cg_typing.specs.Library.{library_type}
 use Rattle.cg_typing.specs.Parts.{is_cell, has_word_arrays}
@@ -20,6 +21,16 @@ arg_types args = map (λ a. a.ty) args
 abbrev pub fun_type : List Function → Fun → List Arg → Option Tau
 fun_type functions (User f) args = option_map (λ g. subst (arg_types args) g.ty.ty) (slice_get functions f)
 fun_type functions (OfLib l) args = Some (library_type l (arg_types args))
+
+-- a function has so many type variables; none has, where there is no such function
+abbrev pub has_vars : Option Function → ℕ → Bool
+has_vars None n = false
+has_vars (Some f) n = nat_eq (length f.vars) n
+
+-- so many type arguments are what a function takes
+abbrev pub takes_as_many : List Function → Fun → ℕ → Bool
+takes_as_many functions (User i) n = has_vars (slice_get functions i) n
+takes_as_many functions (OfLib lib) n = nat_eq (library_arity lib) n
 
 -- what is asked of a type argument: the kinds of its variable, to be a record to write of which no field is taken,
 -- to be a word, or nothing

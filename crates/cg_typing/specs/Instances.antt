@@ -1,17 +1,15 @@
 -- Instances: functions at the types that stand for their type variables, what bodies mention at them, and lists of instances whose
 -- bodies are derived (docs/LANGUAGE.md, "Instances"). A list may come of a source or be made otherwise.
-use Rattle.std.specs.Prelude.{◌≡◌, ℕ, Bool, false, IsTrue, nat_eq, List, [], ◌∷◌, ◌++◌, map, length, slice_get, Option, Some, None, ⊤}
+use Rattle.std.specs.Prelude.{◌≡◌, ℕ, Bool, IsTrue, nat_eq, List, [], ◌∷◌, ◌++◌, map, length, slice_get, Option, Some, None, ⊤}
 use Rattle.std.specs.List.{All, list_all}
 use Rattle.cg_base.specs.declared.fun.Fun.{Fun}
-use Rattle.cg_base.specs.declared.fun.Fun.TheVariants.{User, Lib as OfLib}
 use Rattle.cg_base.specs.Places.{first_place}
 use Rattle.cg_base.specs.Types.{Tau, arrow}
 use Rattle.cg_core.specs.Derivations.{Derivation}
 use Rattle.cg_core.specs.Kernels.{Function}
 use Rattle.cg_core.specs.Terms.{Arg, Note, Tree, term, Shape, fun, op, app, lets, let_bang, if_else, con, case_of, esac, struct, member, take_field, put, cast, annot, Trees, none, more, Named, end, field}
-use Rattle.cg_core_def.specs.Lawful.{library_arity}
 use Rattle.cg_kinds.specs.Kinds.{subst, width}
-use Rattle.cg_typing.specs.Functions.{are_good_arguments, arg_types, asked_by, fun_type}
+use Rattle.cg_typing.specs.Functions.{are_good_arguments, arg_types, asked_by, fun_type, takes_as_many}
 use Rattle.cg_typing.specs.Rules.{Derives}
 
 -- a function, and the types that stand for its type variables
@@ -26,16 +24,6 @@ as_arguments types = map (λ t. record { place = first_place; ty = t }) types
 -- a type without type variables
 abbrev pub is_closed : Tau → Bool
 is_closed t = nat_eq (width t) 0
-
--- a function has so many type variables; none has, where there is no such function
-abbrev pub has_vars : Option Function → ℕ → Bool
-has_vars None n = false
-has_vars (Some f) n = nat_eq (length f.vars) n
-
--- so many type arguments are what a function takes
-abbrev pub takes_as_many : List Function → Fun → ℕ → Bool
-takes_as_many functions (User i) n = has_vars (slice_get functions i) n
-takes_as_many functions (OfLib lib) n = nat_eq (library_arity lib) n
 
 -- an instance is one of its function: there are as many types as this takes, they have no type variables, and they are what it asks
 pub record IsGood (functions : List Function) (x : Instance) : Type 0 where

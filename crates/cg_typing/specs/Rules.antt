@@ -1,6 +1,6 @@
 -- The typing rules: which derivations type which cores, with free splits (docs/LANGUAGE.md, "Typing"). Each of the nineteen
 -- forms has one row, a record whose fields are the row's premises.
-use Rattle.std.specs.Prelude.{◌≡◌, ℕ, ◌<◌, ◌^◌, Bool, true, false, not, IsTrue, Option, Some, None, List, [], ◌∷◌}
+use Rattle.std.specs.Prelude.{◌≡◌, ℕ, ◌<◌, ◌^◌, Bool, true, false, not, IsTrue, Option, Some, None, List, [], ◌∷◌, length}
 use Rattle.cg_base.specs.declared.fun.Fun.{Fun}
 use Rattle.cg_base.specs.declared.kind.Kinds.{Kinds}
 use Rattle.cg_base.specs.declared.kind.Sigil.TheVariants.{U}
@@ -15,9 +15,10 @@ use Rattle.cg_core.specs.Derivations as trees
 use Rattle.cg_core.specs.Derivations.{Derivation, Derivations}
 use Rattle.cg_core.specs.Kernels.{Function}
 use Rattle.cg_core.specs.Terms.{Tree, term, Shape, var, unit, bool, lit, fun, op, app, lets, let_bang, if_else, con, case_of, esac, struct, member, take_field, put, cast, annot, none, more, Named, end, field, Note, Arg}
+use Rattle.cg_core_def.specs.Lawful.{operands}
 use Rattle.cg_kinds.specs.Kinds.{kinds, is_word}
 use Rattle.cg_typing.specs.Contexts.{Context, look, push, first, second, Splits, Drops, DropsBut, shares}
-use Rattle.cg_typing.specs.Functions.{fun_type, asked_by, are_good_arguments}
+use Rattle.cg_typing.specs.Functions.{fun_type, takes_as_many, asked_by, are_good_arguments}
 use Rattle.cg_typing.specs.Operators.{sort_of, takes, gives, along, operand}
 use Rattle.cg_typing.specs.Parts.{is_read_only, widens, field_in, alternative_in, held, is_left, is_there, may_be_put_over, with_part, is_last, has_word_arrays}
 use Rattle.cg_typing.specs.Trees.{nth, later_parts, sub, the_parts, strings_of, first_marks, later_marks, marks_of, leaf, IsOne, IsTwo, IsThree, IsAny}
@@ -91,9 +92,10 @@ module _ (functions : List Function) (vars : List Kinds) where
     pub in_range : InRange value t
     pub others : Drops vars g
 
-  -- a function with type arguments, each of which is what the function asks of it
+  -- a function with as many type arguments as it takes, each of which is what the function asks of it
   pub record FunRow (g : Context) (d : Derivation) (direction : Option Tau) (f : Fun) (args : List Arg) (t : Tau) : Type 0 where
     pub tree : d ≡ leaf nodes.Fun
+    pub many : IsTrue (takes_as_many functions f (length args))
     pub arguments : IsTrue (are_good_arguments vars (asked_by functions f) args)
     pub is : fun_type functions f args ≡ Some t
     pub others : Drops vars g
@@ -104,6 +106,7 @@ module _ (functions : List Function) (vars : List Kinds) where
   -- `not` and `complement`
   pub record UnaryRow (Operand : Type 0) (d : Derivation) (direction : Option Tau) (o : Op) (x : Tree Note) (t : Tau) : Type 0 where
     pub tree : IsOne nodes.Op d
+    pub counted : operands o ≡ 1
     pub operand : Operand
     pub takes : IsTrue (takes (sort_of o) (type_at x))
     pub is : t ≡ gives (sort_of o) (type_at x)
@@ -112,6 +115,7 @@ module _ (functions : List Function) (vars : List Kinds) where
   -- all other operators: both operands have one type
   pub record BinaryRow (Left Right : Type 0) (g : Context) (d : Derivation) (direction : Option Tau) (o : Op) (l r : Tree Note) (t : Tau) : Type 0 where
     pub tree : IsTwo nodes.Op d
+    pub counted : operands o ≡ 2
     pub splits : Splits vars [] (marks_of d) g
     pub left : Left
     pub right : Right

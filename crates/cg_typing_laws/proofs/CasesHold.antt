@@ -19,9 +19,9 @@ substituted = record {
 pub weakened_case : Weakened
 unfolding kinds both bang subst
 weakened_case = record {
-  gone = record { tree = refl; splits = splits [] _ _ _ refl; left = var_row refl refl refl; right = var_row refl refl refl; alike = refl; takes = refl; is = refl; meets = refl };
-  present = record { tree = refl; splits = splits [] _ _ _ refl; left = var_row refl refl refl; right = var_row refl refl refl; alike = refl; takes = refl; is = refl; meets = refl };
+  gone = record { tree = refl; counted = refl; splits = splits [] _ _ _ refl; left = var_row refl refl refl; right = var_row refl refl refl; alike = refl; takes = refl; is = refl; meets = refl };
+  present = record { tree = refl; counted = refl; splits = splits [] _ _ _ refl; left = var_row refl refl refl; right = var_row refl refl refl; alike = refl; takes = refl; is = refl; meets = refl };
   same_marks = λ h. h.splits.fits 1 (omega arith);
   renumbered = refl;
-  behind = record { tree = refl; splits = splits [] _ _ _ refl; left = var_row refl refl refl; right = var_row refl refl refl; alike = refl; takes = refl; is = refl; meets = refl };
+  behind = record { tree = refl; counted = refl; splits = splits [] _ _ _ refl; left = var_row refl refl refl; right = var_row refl refl refl; alike = refl; takes = refl; is = refl; meets = refl };
 }

@@ -1,5 +1,6 @@
 -- Contexts with type arguments in the place of type variables: entries, splits, and what may be dropped.
 use Rattle.std.proofs.Common.{◌≡◌, ℕ, zero, suc, ◌<◌, Bool, IsTrue, Option, Some, None, List, [], ◌∷◌, length, refl, sym, ap, ◌∙◌, subst as at}
+use Rattle.std.specs.List.{All}
 use Rattle.cg_base.specs.declared.kind.Kinds.{Kinds}
 use Rattle.cg_base.specs.Types.{Tau}
 use Rattle.cg_core.specs.declared.derivation.Mark.{Mark}
@@ -68,6 +69,7 @@ module _ (vars vars' : List Kinds) (given : List Tau) (instance' : AreInstance v
     long = s.long ∙ sym (length_subst given g);
     fits = λ i lt. at (λ o. Fits vars' (among i os) (mark_at m i) o) (sym (look_subst given g i))
         (fits_kept (among i os) (mark_at m i) (look g i) (s.fits i (at (λ n. i < n) (length_subst given g) lt)));
+    observed = at (λ n. All (λ o. o.var < n) os) (sym (length_subst given g)) s.observed;
   }
 
   entry_drops : (o : Option Tau) (t : Tau) → ((u : Tau) → o ≡ Some u → IsTrue (drops vars u)) → subst_direction given o ≡ Some t → IsTrue (drops vars' t)

@@ -1,5 +1,6 @@
 -- One entry more, which is gone, within contexts and marks: entries, splits, and what may be dropped.
 use Rattle.std.proofs.Common.{◌≡◌, ℕ, zero, suc, ◌<◌, ◌≤◌, Bool, true, false, ◌||◌, Option, None, List, [], ◌∷◌, map, length, ◌⊎◌, inl, inr, ⊎_elim, refl, sym, ap, ◌∙◌, subst, arith, nat_eq, eqb-true, eq-eqb}
+use Rattle.std.proofs.lemmas.List.Elements.{All-map}
 use Rattle.cg_base.specs.declared.kind.Kinds.{Kinds}
 use Rattle.cg_base.specs.Types.{Tau}
 use Rattle.cg_core.specs.declared.derivation.Mark.{Mark}
@@ -25,6 +26,12 @@ below zero j n b lt = omega arith
 below (suc k) zero n b lt = omega arith
 below (suc k) (suc j) zero b lt = absurd (omega arith)
 below (suc k) (suc j) (suc n) b lt = let q = below k j n (omega arith) (omega arith) in omega arith
+
+raised_within : (k j n : ℕ) → j < n → raised k j < suc n
+raised_within zero j n lt = omega arith
+raised_within (suc k) zero n lt = omega arith
+raised_within (suc k) (suc j) zero lt = absurd (omega arith)
+raised_within (suc k) (suc j) (suc n) lt = let l = raised_within k j n (omega arith) in omega arith
 
 raised_apart : (k i j : ℕ) → raised k i ≡ raised k j → i ≡ j
 raised_apart zero i j e = omega arith
@@ -108,6 +115,9 @@ module _ (vars : List Kinds) (k : ℕ) where
   fits_same : (b c : Bool) (m n : Mark) (o p : Option Tau) → b ≡ c → m ≡ n → o ≡ p → Fits vars c n p → Fits vars b m o
   fits_same b c m n o p x y z f = subst (λ b. Fits vars b m o) (sym x) (subst (λ m. Fits vars c m o) (sym y) (subst (Fits vars c n) (sym z) f))
 
+  observer_inserted : (g : Context) (j : ℕ) → j < length g → raised k j < length (inserted k None g)
+  observer_inserted g j lt = subst (λ n. raised k j < n) (sym (length_inserted k None g)) (raised_within k j (length g) lt)
+
   pub splits_inserted : (os : List Observer) (ms : List Mark) (g : Context) → k ≤ length g → Splits vars os ms g
       → Splits vars (map (raise_observer k) os) (inserted k Gone ms) (inserted k None g)
   splits_inserted os ms g b s =
@@ -120,6 +130,7 @@ module _ (vars : List Kinds) (k : ℕ) where
             (fits_same _ (among p.0 os) _ (mark_at ms p.0) _ (look g p.0) (among_raised k p.0 os) (mark_old k Gone ms p.0 b') (look_old k None g p.0 b)
             (s.fits p.0 (below k p.0 (length g) b (subst (λ i. i < suc (length g)) p.1 (subst (λ n. i < n) (length_inserted k None g) lt))))))
             (where_is k i);
+        observed = All-map (λ (o : Observer). o.var < length (inserted k None g)) (raise_observer k) os (λ j o lt. observer_inserted g _ (s.observed j o lt));
       }
 
   pub first_part : (os : List Observer) (ms : List Mark) (g : Context) → k ≤ length g → Splits vars os ms g → first (inserted k Gone ms) (inserted k None g) ≡ inserted k None (first ms g)

@@ -89,13 +89,14 @@ module _ (functions : List Function) (vars : List Kinds) (k : ℕ) where
     renumbered_shape (lit v) g d direction t b h =
         (leaf nodes.Lit, record { tree = refl; checked = h.checked; is_a_word = h.is_a_word; in_range = h.in_range; others = drops_inserted vars k g b h.others })
     renumbered_shape (fun f args) g d direction t b h =
-        (leaf nodes.Fun, record { tree = refl; arguments = h.arguments; is = h.is; others = drops_inserted vars k g b h.others; meets = h.meets })
+        (leaf nodes.Fun, record { tree = refl; many = h.many; arguments = h.arguments; is = h.is; others = drops_inserted vars k g b h.others; meets = h.meets })
     renumbered_shape (op o none) g d direction t b h = absurd h
     renumbered_shape (op o (more x none)) g d direction t b h =
         let p = moved (raise k x) _ _ _ _ refl (ap (operand (sort_of o) direction true) (type_raised k x)) (renumbered x g _ _ b h.operand) in (
           one nodes.Op p.tree,
           record {
             tree = refl;
+            counted = h.counted;
             operand = p.derives;
             takes = tested (λ u. IsTrue (takes (sort_of o) u)) x h.takes;
             is = tested (λ u. t ≡ gives (sort_of o) u) x h.is;
@@ -113,6 +114,7 @@ module _ (functions : List Function) (vars : List Kinds) (k : ℕ) where
           two nodes.Op (inserted k Gone ms) p.tree q.tree,
           record {
             tree = refl;
+            counted = h.counted;
             splits = splits_inserted vars k [] ms g b s;
             left = p.derives;
             right = q.derives;

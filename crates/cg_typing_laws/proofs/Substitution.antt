@@ -1,6 +1,7 @@
 -- What is derived with type variables is derived with type arguments in their place, at each form.
 use Rattle.std.proofs.Common.{◌≡◌, ℕ, Bool, true, false, not, IsTrue, Option, Some, None, List, [], refl, sym, ap, ◌∙◌, subst as at}
 use Rattle.std.specs.Option.{option_map}
+use Rattle.std.proofs.lemmas.List.{length-map}
 use Rattle.cg_base.specs.declared.kind.Kinds.{Kinds}
 use Rattle.cg_base.specs.declared.kind.Sigil.TheVariants.{U}
 use Rattle.cg_base.specs.Types as types
@@ -11,13 +12,13 @@ use Rattle.cg_core.specs.Kernels.{Function}
 use Rattle.cg_core.specs.Terms.{Tree, term, Shape, var, unit, bool, lit, fun, op, app, lets, let_bang, if_else, con, case_of, esac, struct, member, take_field, put, cast, annot, none, more, Named, end, field, Note}
 use Rattle.cg_kinds.specs.Kinds.{kinds, subst, subst_parts, is_word, subst_piece}
 use Rattle.cg_typing.specs.Contexts.{Context, push, second, drops, shares}
-use Rattle.cg_typing.specs.Functions.{asked_by}
+use Rattle.cg_typing.specs.Functions.{asked_by, takes_as_many}
 use Rattle.cg_typing.specs.Operators.{Sort, arithmetic, equality, order, logic, sort_of, takes, gives, along, operand}
 use Rattle.cg_typing.specs.Parts.{widens, field_in, alternative_in, held, is_there, is_left, is_last, is_read_only, may_be_put_over, is_bool, with_part}
 use Rattle.cg_typing.specs.Rules.{Meets, InRange, second_branch, type_at, is_literal, is_literal_shape, parts_made, record_made, Derives, DerivesShape, DerivesFields}
 use Rattle.cg_typing.specs.Trees.{later_parts, first_marks, later_marks, marks_of}
 use Rattle.cg_typing_laws.specs.Laws.{AreInstance, SubstitutionKeepsDerivations}
-use Rattle.cg_typing.specs.Subst.{subst_direction, subst_context, subst_core, subst_shape, subst_fields}
+use Rattle.cg_typing.specs.Subst.{subst_arg, subst_direction, subst_context, subst_core, subst_shape, subst_fields}
 use Rattle.cg_typing_laws.proofs.Contexts.{look_subst, first_subst, second_subst, push_subst, splits_kept, drops_kept, drops_but_kept}
 use Rattle.cg_typing_laws.proofs.Functions.{arguments_kept, fun_type_subst}
 use Rattle.cg_typing_laws.proofs.Named.{field_kept, alternative_kept, with_field, with_alternative, written_kept, last_kept, held_kept, left_kept, there_kept, left_is_there}
@@ -213,6 +214,7 @@ module _ (functions : List Function) (vars vars' : List Kinds) (given : List Tau
     }
     kept_shape (fun f args) g d direction t h = record {
       tree = h.tree;
+      many = at (λ n. IsTrue (takes_as_many functions f n)) (sym (length-map args (subst_arg given))) h.many;
       arguments = arguments_kept vars vars' given instance' (asked_by functions f) args h.arguments;
       is = fun_type_subst given functions vars f args t h.arguments h.is;
       others = drops_kept vars vars' given instance' g h.others;
@@ -221,6 +223,7 @@ module _ (functions : List Function) (vars vars' : List Kinds) (given : List Tau
     kept_shape (op o none) g d direction t h = absurd h
     kept_shape (op o (more x none)) g d direction t h = record {
       tree = h.tree;
+      counted = h.counted;
       operand = part_after x _ g _ _ _ refl (operand_after (sort_of o) direction true true x refl) (kept x _ _ _ h.operand);
       takes = tested (λ u. IsTrue (takes (sort_of o) u)) x (takes_kept given (sort_of o) (type_at x) h.takes);
       is = ap (subst given) h.is ∙ tested (λ u. subst given (gives (sort_of o) (type_at x)) ≡ gives (sort_of o) u) x (gives_kept given (sort_of o) (type_at x));
@@ -228,6 +231,7 @@ module _ (functions : List Function) (vars vars' : List Kinds) (given : List Tau
     }
     kept_shape (op o (more l (more r none))) g d direction t h = record {
       tree = h.tree;
+      counted = h.counted;
       splits = splits_kept vars vars' given instance' [] (marks_of d) g h.splits;
       left = part_after l _ _ _ _ _ (first_subst given (marks_of d) g) (operand_after (sort_of o) direction (not (is_literal l)) _ l (ap not (literal_kept given l))) (kept l _ _ _ h.left);
       right = part_after r _ _ _ _ _ (second_subst given (marks_of d) g) (operand_after (sort_of o) direction (is_literal l) _ r (literal_kept given l)) (kept r _ _ _ h.right);

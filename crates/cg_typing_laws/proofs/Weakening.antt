@@ -1,5 +1,6 @@
 -- What is derived in a context is derived in a wider one: new entries go to the second side of each split, down to a leaf.
 use Rattle.std.proofs.Common.{◌≡◌, ℕ, zero, suc, ◌<◌, Bool, IsTrue, Option, Some, None, List, [], ◌∷◌, length, refl, sym, ap, ◌∙◌, subst, arith}
+use Rattle.std.specs.List.{All}
 use Rattle.cg_base.specs.declared.kind.Kinds.{Kinds}
 use Rattle.cg_base.specs.Types.{Tau}
 use Rattle.cg_core.specs.declared.derivation.Mark.{Mark}
@@ -99,6 +100,7 @@ module _ (vars : List Kinds) where
         long = length_marks m g h w ∙ s.long ∙ sym (length_wider g h w);
         fits = λ i lt. subst (λ m. Fits vars (among i os) m (look h i)) (sym (mark_wider m g h i w (omega arith)))
             (fits_wider (among i os) (mark_at m i) (look g i) (look h i) (look_wider g h w i) (s.fits i (omega arith)));
+        observed = subst (λ n. All (λ o. o.var < n) os) (sym l) s.observed;
       }
 
   firsts_wider : (m : List Mark) (g h : Context) → IsWider vars g h → IsWider vars (first m g) (first (wider_marks m g h) h)
@@ -161,17 +163,18 @@ module _ (functions : List Function) (vars : List Kinds) where
     weakened_shape (lit v) g h d direction t w k =
         (leaf nodes.Lit, record { tree = refl; checked = k.checked; is_a_word = k.is_a_word; in_range = k.in_range; others = drops_wider vars g h w k.others })
     weakened_shape (fun f args) g h d direction t w k =
-        (leaf nodes.Fun, record { tree = refl; arguments = k.arguments; is = k.is; others = drops_wider vars g h w k.others; meets = k.meets })
+        (leaf nodes.Fun, record { tree = refl; many = k.many; arguments = k.arguments; is = k.is; others = drops_wider vars g h w k.others; meets = k.meets })
     weakened_shape (op o none) g h d direction t w k = absurd k
     weakened_shape (op o (more x none)) g h d direction t w k =
         let p = weakened x g h _ _ w k.operand in
-        (one nodes.Op p.tree, record { tree = refl; operand = p.derives; takes = k.takes; is = k.is; meets = k.meets })
+        (one nodes.Op p.tree, record { tree = refl; counted = k.counted; operand = p.derives; takes = k.takes; is = k.is; meets = k.meets })
     weakened_shape (op o (more l (more r none))) g h d direction t w k =
         let p = weakened l _ _ _ _ (firsts_wider vars (marks_of d) g h w) k.left in
         let q = weakened r _ _ _ _ (seconds_wider vars (marks_of d) g h w) k.right in (
           two nodes.Op (wider_marks (marks_of d) g h) p.tree q.tree,
           record {
             tree = refl;
+            counted = k.counted;
             splits = splits_wider vars [] (marks_of d) g h w k.splits;
             left = p.derives;
             right = q.derives;
