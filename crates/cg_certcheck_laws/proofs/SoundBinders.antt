@@ -1,5 +1,5 @@
 -- Where no event fails, a derivation is spelled: calls, puts and binders.
-use Rattle.std.proofs.Common.{ℕ, suc, ◌+◌, true, false, not, Option, Some, None, List, [], length, drop, refl, sym, ap, ◌∙◌, subst}
+use Rattle.std.proofs.Common.{ℕ, suc, ◌+◌, ◌<◌, true, false, not, Option, Some, None, List, length, drop, refl, sym, ap, ◌∙◌, subst}
 use Rattle.std.specs.List.{All}
 use Rattle.cg_base.specs.declared.kind.Kinds.{Kinds}
 use Rattle.cg_base.specs.declared.place.Place.{Place}

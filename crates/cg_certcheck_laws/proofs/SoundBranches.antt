@@ -1,5 +1,5 @@
 -- Where no event fails, a derivation is spelled: branches.
-use Rattle.std.proofs.Common.{ℕ, suc, ◌+◌, true, Option, Some, None, List, [], length, drop, refl, subst}
+use Rattle.std.proofs.Common.{ℕ, suc, ◌+◌, true, Option, Some, None, List, length, drop, refl, subst}
 use Rattle.cg_base.specs.declared.kind.Kinds.{Kinds}
 use Rattle.cg_base.specs.declared.place.Place.{Place}
 use Rattle.cg_base.specs.Types as types

@@ -1,5 +1,5 @@
 -- Where no event fails, a derivation is spelled: operators, and nodes with one part.
-use Rattle.std.proofs.Common.{◌≡◌, ℕ, suc, ◌+◌, true, ◌&&◌, not, Option, Some, None, List, [], drop, refl, sym, ap, ◌∙◌, subst}
+use Rattle.std.proofs.Common.{◌≡◌, ℕ, suc, ◌+◌, true, ◌&&◌, not, Option, Some, None, List, drop, refl, sym, ap, ◌∙◌, subst}
 use Rattle.cg_base.specs.declared.kind.Kinds.{Kinds}
 use Rattle.cg_base.specs.declared.place.Place.{Place}
 use Rattle.cg_base.specs.Types.{Tau}
