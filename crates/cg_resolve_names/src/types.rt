@@ -89,7 +89,7 @@ fn check_type_name(
 {
     if is_variable(name) {
         return if vars.holds(name) {
-            Ok(())
+            check_count(place, 0, given)
         } else {
             Err(NamingFault::N1(place))
         };
