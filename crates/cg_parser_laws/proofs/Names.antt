@@ -35,8 +35,8 @@ scoped_stands scope p n = stands_either (is_among scope n) [] (unknown p ∷ [])
 
 pub name_stands : (entries : List Entry) (vars : List (List ℕ)) (p : Place) (n : List ℕ) (given : ℕ) → StandAt fault_key p (name_faults entries vars p n given)
 name_stands entries vars p n given =
-    stands_either (is_variable n) (if is_among vars n then [] else unknown p ∷ []) (type_name_faults p given (type_arity entries n)) (scoped_stands vars p n)
-    (type_name_stands p given (type_arity entries n))
+    stands_either (is_variable n) (if is_among vars n then counted p 0 given else unknown p ∷ []) (type_name_faults p given (type_arity entries n))
+    (stands_either (is_among vars n) (counted p 0 given) (unknown p ∷ []) (counted_stands p 0 given) (stands_one (unknown p))) (type_name_stands p given (type_arity entries n))
 
 -- what is told of a mention is nothing, an unknown name, or a wrong number of arguments
 module _ (P : List NameFault → Type 0) (p : Place) (nothing : P []) (no_name : P (unknown p ∷ [])) (no_count : P (arguments p ∷ [])) where

@@ -1,7 +1,7 @@
 // What is declared beforehand.
-ghost use Rattle.std.specs.Prelude.{◌≡◌, Some};
+ghost use Rattle.std.specs.Prelude.{◌≡◌, Some, []};
 ghost use Rattle.std.specs.Option.{option_map};
-ghost use Rattle.cg_resolve_def.specs.Declared.{is_variable, looked_up, plain_types, library};
+ghost use Rattle.cg_resolve_def.specs.Declared.{is_variable, looked_up, plain_types, type_arity, library};
 ghost use Rattle.cg_resolve_declared.specs.Views.{plain_of, library_of};
 
 use cg_base::{Lib, Word};
@@ -37,6 +37,19 @@ pub fn plain_type(name: &[u8]) -> Option<Plain>
         Some(Plain::Bool)
     } else if name == b"SysState".as_slice() {
         Some(Plain::SysState)
+    } else {
+        None
+    }
+}
+
+/// How many arguments the type has that is declared beforehand under this name, where there is one. It takes no memory.
+pub fn arity_beforehand(name: &[u8]) -> Option<usize>
+    ensures { result ≡ type_arity [] name.now }
+{
+    if plain_type(name).is_some() {
+        Some(0)
+    } else if name == b"WordArray".as_slice() {
+        Some(1)
     } else {
         None
     }

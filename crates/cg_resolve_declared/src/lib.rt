@@ -11,7 +11,9 @@ mod functions;
 mod keep;
 mod types;
 
-pub use beforehand::{LibraryFunction, Plain, is_variable, library_function, plain_type};
+pub use beforehand::{
+    LibraryFunction, Plain, arity_beforehand, is_variable, library_function, plain_type,
+};
 pub use declarations::{Declarations, Definition};
 pub use functions::DeclaredFunction;
 pub use keep::{Names, add, keep_first};

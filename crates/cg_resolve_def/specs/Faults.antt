@@ -145,9 +145,9 @@ unsigned p (Some f) = []
 -- ---- types, expressions and items of a program
 
 module _ (entries : List Entry) where
-  -- of a name, among the type variables of these names
+  -- of a name, among the type variables of these names: a type variable has no arguments
   abbrev pub name_faults : List (List ℕ) → Place → List ℕ → ℕ → List NameFault
-  name_faults vars p n given = if is_variable n then (if is_among vars n then [] else unknown p ∷ []) else type_name_faults p given (type_arity entries n)
+  name_faults vars p n given = if is_variable n then (if is_among vars n then counted p 0 given else unknown p ∷ []) else type_name_faults p given (type_arity entries n)
 
   module _ (vars : List (List ℕ)) where
     abbrev mutual

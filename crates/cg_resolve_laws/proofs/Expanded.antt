@@ -17,7 +17,7 @@ use Rattle.cg_surface.specs.Programs.{Entry}
 use Rattle.cg_resolve_def.specs.Declared.{arity_beside, is_among, is_variable, looked_up, plain_types, type_arity}
 use Rattle.cg_resolve_def.specs.Desugar.{parts_limit}
 use Rattle.cg_resolve_def.specs.Expand.{Bodies, applied_as, component, components, expanded, expanded_all, expanded_alts, expanded_fields, in_order, position_of, types_length}
-use Rattle.cg_resolve_def.specs.Faults.{again, alt_names, alts_faults, arguments, counted, field_names, fields_faults, name_faults, type_faults, type_name_faults, types_faults, unknown}
+use Rattle.cg_resolve_def.specs.Faults.{NameFault, again, alt_names, alts_faults, arguments, counted, field_names, fields_faults, name_faults, type_faults, type_name_faults, types_faults, unknown}
 use Rattle.cg_resolve_def.specs.Mentions.{alts_mentions, fields_mentions, type_mentions, types_mentions}
 use Rattle.cg_resolve_def.specs.Takes.{alts_length, fields_length, widest, widest_alt, widest_field, widest_of}
 use Rattle.cg_resolve_def.proofs.Faultless.{none_left, none_right, not_again}
@@ -81,9 +81,9 @@ component_apart i j lt within = pick (bytes_eq (component i) (component j)) refl
 
 -- ---- type variables
 
-pub unknown_not : (b : Bool) (p : Place) → cond b [] (unknown p ∷ []) ≡ [] → b ≡ true
-unknown_not true p h = refl
-unknown_not false p h = absurd (cc)
+pub unknown_not : (b : Bool) (p : Place) (others : List NameFault) → cond b others (unknown p ∷ []) ≡ [] → b ≡ true
+unknown_not true p others h = refl
+unknown_not false p others h = absurd (cc)
 
 position_within : (names : List (List ℕ)) (n : List ℕ) → is_among names n ≡ true → position_of names n < length names
 position_within [] n h = absurd (cc)
@@ -134,9 +134,9 @@ module _ (entries : List Entry) (known : Bodies) where
         → IsLawfulType (length names) (cond (is_variable n) (var (position_of names n)) (applied_as n args (looked_up plain_types n) (known n)))
     named_lawful p n args sound none lawful = pick (is_variable n) none
       where
-        pick : (b : Bool) → cond b (cond (is_among names n) [] (unknown p ∷ [])) (type_name_faults p (length args) (type_arity entries n)) ≡ []
+        pick : (b : Bool) → cond b (cond (is_among names n) (counted p 0 (length args)) (unknown p ∷ [])) (type_name_faults p (length args) (type_arity entries n)) ≡ []
             → IsLawfulType (length names) (cond b (var (position_of names n)) (applied_as n args (looked_up plain_types n) (known n)))
-        pick true h = position_within names n (unknown_not (is_among names n) p h)
+        pick true h = position_within names n (unknown_not (is_among names n) p (counted p 0 (length args)) h)
         pick false h = applied_lawful (length names) n args sound (arity_same p (length args) (type_arity entries n) h) lawful (looked_up plain_types n) (known n) refl refl
 
     -- as many as are written

@@ -60,7 +60,7 @@ seen_within : (inside : List (List ℕ)) (scope : Scope) (ats : List At) → Cov
 seen_within inside scope [] covers none = All-nil (λ (s : Seen). s.var < length scope)
 seen_within inside scope (at ∷ ats) covers none =
     let first = none_left (cond (is_among inside at.name) [] (unknown at.place ∷ [])) (seen_faults inside ats) none in
-    let v = variable_there scope at.name (covers.at at.name (unknown_not (is_among inside at.name) at.place first)) in
+    let v = variable_there scope at.name (covers.at at.name (unknown_not (is_among inside at.name) at.place [] first)) in
     All-cons (λ (s : Seen). s.var < length scope) (record { var = or_zero (variable scope at.name); place = at.place }) (positions scope ats)
     (carry (λ o. or_zero o < length scope) (sym v.1) (variable_within scope at.name v.0 v.1))
     (seen_within inside scope ats covers (none_right (cond (is_among inside at.name) [] (unknown at.place ∷ [])) (seen_faults inside ats) none))

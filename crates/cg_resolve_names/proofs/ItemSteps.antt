@@ -1,5 +1,5 @@
 -- Steps over the items of a program.
-use Rattle.std.proofs.Common.{◌≡◌, ℕ, zero, suc, ◌+◌, ◌<◌, ◌≤◌, Bool, ◌||◌, not, Result, List, [], ◌∷◌, ◌++◌, length, get_or, take, drop, drop-cons, sym, ap, ◌∙◌, subst, refl, arith, add-one, append-nil, if◌then◌else◌}
+use Rattle.std.proofs.Common.{◌≡◌, ℕ, zero, suc, ◌+◌, ◌<◌, ◌≤◌, Bool, ◌||◌, not, Result, List, [], ◌∷◌, ◌++◌, length, get_or, take, drop, drop-cons, sym, ap, ◌∙◌, subst, refl, arith, add-one, append-nil, append_assoc, if◌then◌else◌}
 use Rattle.std.proofs.lemmas.List.{map-append, take_more, take-append-drop}
 use Rattle.std.specs.Str.{bytes_eq}
 use Rattle.cg_base.specs.declared.kind.Bound.{Bound}
@@ -149,6 +149,13 @@ pub signature_says : (entries : List Entry) (vars others : List (List ℕ)) (fro
     → Says (type_faults entries vars t) result → Says (front ++ type_faults entries others t) result
 signature_says entries vars others front t result none same says =
     says_second front (type_faults entries others t) result none (subst (λ l. Says l result) (type_same entries vars others same t) says)
+
+-- ---- what is declared behind
+
+-- one name more, behind others
+pub behind_more : (front names new others : List (List ℕ)) (m : List ℕ) → new ≡ names ++ m ∷ [] → SameNames (front ++ names) others → SameNames (front ++ new) (m ∷ others)
+behind_more front names new others m new_is same =
+    subst (λ l. SameNames l (m ∷ others)) (append_assoc front names (m ∷ []) ∙ ap (λ l. front ++ l) (sym new_is)) (same_more (front ++ names) others m same)
 
 -- ---- the loop over items
 

@@ -30,7 +30,7 @@ module _ (entries : List Entry) (names others : List (List ℕ)) (same : SameNam
     pub type_same : (t : Written) → type_faults entries names t ≡ type_faults entries others t
     type_same (types.named p n args) =
         both (name_faults entries names p n (types_length args)) (name_faults entries others p n (types_length args)) _ _
-        (ap (λ b. if is_variable n then (if b then [] else unknown p ∷ []) else type_name_faults p (types_length args) (type_arity entries n)) (same n)) (types_same args)
+        (ap (λ b. if is_variable n then (if b then counted p 0 (types_length args) else unknown p ∷ []) else type_name_faults p (types_length args) (type_arity entries n)) (same n)) (types_same args)
     type_same (types.nothing p) = refl
     type_same (types.tuple p ts) = types_same ts
     type_same (types.paren p t) = type_same t

@@ -5,14 +5,14 @@ use Rattle.cg_surface.specs.Exprs.{Expr}
 use Rattle.cg_surface.specs.Patterns.{Pattern}
 use Rattle.cg_surface.specs.Programs.{Entry}
 use Rattle.cg_resolve_def.specs.Declared.{function_named}
-use Rattle.cg_resolve_def.specs.Faults.{NameFault, Before, declared_with, bound, pattern_faults, vars_named, expr_faults}
+use Rattle.cg_resolve_def.specs.Faults.{NameFault, Before, beforehand, declared_with, bound, pattern_faults, vars_named, expr_faults}
 use Rattle.cg_resolve_names.specs.declared.items.Behind.{Behind}
 use Rattle.cg_resolve_names.specs.Scopes.{SameNames}
 
--- the scopes have these names
+-- these are the names that are declared beforehand and those of the scopes
 pub record IsBehind (before : Before) (behind : Behind) : Type 0 where
-  pub types : SameNames behind.types before.types
-  pub signatures : SameNames behind.signatures before.signatures
+  pub types : SameNames (beforehand.types ++ behind.types) before.types
+  pub signatures : SameNames (beforehand.signatures ++ behind.signatures) before.signatures
   pub definitions : SameNames behind.definitions before.definitions
 
 -- what is declared before an item behind these

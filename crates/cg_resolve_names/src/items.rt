@@ -20,11 +20,11 @@ use crate::scope::Scope;
 use crate::types::check_type;
 use cg_base::{Bound, Memory, Place};
 use cg_core::At;
-use cg_resolve_declared::Declarations;
+use cg_resolve_declared::{Declarations, arity_beforehand, library_function};
 use cg_surface::{Item, Pat, SExpr, STy};
 use std::alloc::Global;
 
-// The names that are declared behind: types, signatures and definitions.
+// The names that the program declares behind: types, signatures and definitions.
 #[derive(Drop)]
 struct Behind<'a> {
     types: Scope<'a>,
@@ -37,47 +37,44 @@ pub fn check_names(alloc: Global, declared: &Declarations<'_>) -> Result<(), Nam
     requires { IsIndexed declared.now }
     ensures { Says (program_faults (entries_of declared.now)) result }
 {
-    let mut behind = beforehand(alloc)?;
+    let mut behind = no_names(alloc);
     for item in declared.items {
         check_item(alloc, declared, &mut behind, item)?;
     }
     Ok(())
 }
 
-// What is declared beforehand.
-fn beforehand<'a>(alloc: Global) -> Result<Behind<'a>, Memory>
-    ensures { IfOk result (IsBehind beforehand) }
+// No names of the program.
+fn no_names<'a>(alloc: Global) -> Behind<'a>
+    ensures { IsBehind beforehand result }
 {
-    let mut types = Scope::new(alloc);
-    types.enter_all(&[
-        b"WordArray".as_slice(),
-        b"U8".as_slice(),
-        b"U16".as_slice(),
-        b"U32".as_slice(),
-        b"U64".as_slice(),
-        b"Bool".as_slice(),
-        b"SysState".as_slice(),
-    ])?;
-    let mut signatures = Scope::new(alloc);
-    signatures.enter_all(&[
-        b"new".as_slice(),
-        b"free".as_slice(),
-        b"wordarray_create".as_slice(),
-        b"wordarray_free".as_slice(),
-        b"wordarray_length".as_slice(),
-        b"wordarray_get".as_slice(),
-        b"wordarray_put".as_slice(),
-        b"wordarray_map".as_slice(),
-        b"wordarray_fold".as_slice(),
-        b"seq32".as_slice(),
-        b"seq64".as_slice(),
-        b"seq32_break".as_slice(),
-    ])?;
-    Ok(Behind {
-        types,
-        signatures,
+    Behind {
+        types: Scope::new(alloc),
+        signatures: Scope::new(alloc),
         definitions: Scope::new(alloc),
-    })
+    }
+}
+
+// Brings the name of a type into scope, which has to be new there, and none that is declared beforehand.
+fn enter_type<'a>(scope: &mut Scope<'a>, at: &'a At) -> Result<(), NamingFault>
+    ensures says { Says (again (beforehand.types ++ scope.old) at.now.place at.now.name) result }
+    ensures names { OnOk result (scope.new ≡ scope.old ++ at.now.name ∷ []) }
+{
+    if arity_beforehand(at.name.bytes()).is_some() {
+        return Err(NamingFault::N2(at.place));
+    }
+    enter_new(scope, at.place, at.name.bytes())
+}
+
+// The same of the name of a signature.
+fn enter_signature<'a>(scope: &mut Scope<'a>, at: &'a At) -> Result<(), NamingFault>
+    ensures says { Says (again (beforehand.signatures ++ scope.old) at.now.place at.now.name) result }
+    ensures names { OnOk result (scope.new ≡ scope.old ++ at.now.name ∷ []) }
+{
+    if library_function(at.name.bytes()).is_some() {
+        return Err(NamingFault::N2(at.place));
+    }
+    enter_new(scope, at.place, at.name.bytes())
 }
 
 // The first fault of an item, behind those before it.
@@ -93,11 +90,11 @@ fn check_item<'a>(
 {
     match item {
         Item::Synonym { at, params, body } => {
-            enter_new(&mut behind.types, at.place, at.name.bytes())?;
+            enter_type(&mut behind.types, at)?;
             check_synonym(alloc, declared, params.as_slice(), body)
         }
         Item::Abstract { at, params } => {
-            enter_new(&mut behind.types, at.place, at.name.bytes())?;
+            enter_type(&mut behind.types, at)?;
             params_scope(alloc, params.as_slice())?;
             Ok(())
         }
@@ -107,7 +104,7 @@ fn check_item<'a>(
             places,
             ty,
         } => {
-            enter_new(&mut behind.signatures, at.place, at.name.bytes())?;
+            enter_signature(&mut behind.signatures, at)?;
             check_signature(alloc, declared, vars.as_slice(), places.as_slice(), ty)
         }
         Item::Define { at, param, body } => {

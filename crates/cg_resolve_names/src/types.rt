@@ -13,7 +13,7 @@ use crate::fault::NamingFault;
 use crate::patterns::enter_new;
 use crate::scope::Scope;
 use cg_base::Place;
-use cg_resolve_declared::{Declarations, is_variable, plain_type};
+use cg_resolve_declared::{Declarations, arity_beforehand, is_variable};
 use cg_surface::{SAlt, SPart, STy, STyForm};
 use std::alloc::Global;
 
@@ -89,7 +89,7 @@ fn check_type_name(
 {
     if is_variable(name) {
         return if vars.holds(name) {
-            Ok(())
+            check_count(place, 0, given)
         } else {
             Err(NamingFault::N1(place))
         };
@@ -105,11 +105,8 @@ fn arity(declared: &Declarations<'_>, name: &[u8]) -> Option<usize>
     requires { IsIndexed declared.now }
     ensures { result ≡ type_arity (entries_of declared.now) name.now }
 {
-    if plain_type(name).is_some() {
-        return Some(0);
-    }
-    if name == b"WordArray".as_slice() {
-        return Some(1);
+    if let Some(arity) = arity_beforehand(name) {
+        return Some(arity);
     }
     match declared.type_named(name) {
         None => None,
