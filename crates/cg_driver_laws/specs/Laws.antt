@@ -23,7 +23,7 @@ use Rattle.cg_typing.specs.declared.checked.Checked.{Checked}
 use Rattle.cg_typing.specs.Instances.{Instance, IsIn}
 use Rattle.cg_update.specs.Calls.{Program}
 use Rattle.cg_value.specs.Fits.{fits}
-use Rattle.cg_value.specs.Foreign.{first_order}
+use Rattle.cg_value.specs.Foreign.{Foreign, IsLawful, first_order}
 use Rattle.cg_value.specs.NoForeign.{no_foreign}
 use Rattle.cg_value.specs.Values.{Val, function, number}
 use Rattle.cg_driver_cells.specs.WithoutCells.{IsWithoutCells}
@@ -78,13 +78,13 @@ UnboxedRun =
 abbrev pub CopiesReachCells : List Copy → ℕ → Type 0
 CopiesReachCells copies at = ReachesCells (list_of copies) (map (λ (c : Copy). c.1.body) copies) at
 
--- Evaluation of a function without type variables that reaches no abstract function is never stuck, on a value that fits what it takes and
--- has in it neither functions nor users' abstract values.
+-- Over any lawful table, evaluation of a function without type variables that reaches no abstract function is never stuck, on a value that fits
+-- what it takes and has in it no functions but what the table's abstract types hold.
 abbrev pub EntriesAreSound : Type 0
 EntriesAreSound =
-    (checked : Checked) (i n : ℕ) (f : Function) (a b : Tau) (v : Val) → slice_get (functions_in checked) i ≡ Some f → f.vars ≡ [] → f.ty.ty ≡ arrow a b
-    → (ReachesAbstract (functions_in checked) i → ⊥) → IsTrue (fits (first_order no_foreign) a v)
-    → outcome (table_of no_foreign checked) n (function (User i) []) v ≡ stuck → ⊥
+    (x : Foreign) → IsLawful x → (checked : Checked) (i n : ℕ) (f : Function) (a b : Tau) (v : Val) → slice_get (functions_in checked) i ≡ Some f → f.vars ≡ [] → f.ty.ty ≡ arrow a b
+    → (ReachesAbstract (functions_in checked) i → ⊥) → IsTrue (fits (first_order x) a v)
+    → outcome (table_of x checked) n (function (User i) []) v ≡ stuck → ⊥
 
 -- Where evaluation of a function from words to words that reaches no abstract function gives a value on a word, and its instance reaches no
 -- body that needs cells, the C function of this instance gives the same.
