@@ -87,7 +87,7 @@ pub never_stuck : EntriesAreSound → (checked : Checked) (list : List Instance)
     → outcome (table_of no_foreign checked) steps (function (User at) []) (number arg) ≢ stuck
 never_stuck law checked list at place arg steps ready small =
     let f = function_there (slice_get (functions_in checked) at) ready.on_words.words in
-    law no_foreign none_is_lawful checked at steps f.0 (word U32) (word U32) (number arg) f.1 (entry_bare _ f.0 f.1 ready.allowed.typed) f.2 ready.allowed.concrete (word_fits arg small)
+    law no_foreign none_is_lawful checked at steps f.0 (word U32) (word U32) (number arg) f.1 (entry_bare _ f.0 f.1 ready.allowed.typed) f.2 (λ r. ready.allowed.concrete r.abstract) (word_fits arg small)
 
 -- ---- places
 

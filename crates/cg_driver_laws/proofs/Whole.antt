@@ -1,5 +1,5 @@
 -- The laws of the C of sources.
-use Rattle.std.proofs.Common.{◌≡◌, ℕ, ◌<◌, ◌^◌, Bool, true, false, IsTrue, Option, None, Some, List, [], ◌∷◌, map, slice_get, refl, ap, ◌∙◌, lt-ltb}
+use Rattle.std.proofs.Common.{◌≡◌, ℕ, ◌<◌, ◌^◌, Bool, true, false, IsTrue, Option, None, Some, List, [], ◌∷◌, map, slice_get, ap, ◌∙◌, lt-ltb}
 use Rattle.std.proofs.lemmas.Grind.{not_there}
 use Rattle.std.proofs.lemmas.Option.{slice_get-map}
 use Rattle.std.proofs.Math.Logic.{∥∥₁_elim, ∥∥₁_map}
