@@ -38,7 +38,7 @@ use Rattle.cg_typing.specs.Instances.{Entry, Instance, IsIn}
 use Rattle.cg_update.specs.Updates.{place_of}
 use Rattle.cg_value.specs.Fits.{fits}
 use Rattle.cg_value.specs.Foreign.{first_order}
-use Rattle.cg_value.specs.NoForeign.{no_foreign}
+use Rattle.cg_value.specs.NoForeign.{no_foreign, none_is_lawful}
 use Rattle.cg_value.specs.Values.{number, function}
 use Rattle.cg_driver.specs.Built.{CanRun, IsListed, KeepsCopies, RefusesPlace}
 use Rattle.cg_driver.specs.Commands.{Judges, on_words}
@@ -87,7 +87,7 @@ pub never_stuck : EntriesAreSound → (checked : Checked) (list : List Instance)
     → outcome (table_of no_foreign checked) steps (function (User at) []) (number arg) ≢ stuck
 never_stuck law checked list at place arg steps ready small =
     let f = function_there (slice_get (functions_in checked) at) ready.on_words.words in
-    law checked at steps f.0 (word U32) (word U32) (number arg) f.1 (entry_bare _ f.0 f.1 ready.allowed.typed) f.2 ready.allowed.concrete (word_fits arg small)
+    law no_foreign none_is_lawful checked at steps f.0 (word U32) (word U32) (number arg) f.1 (entry_bare _ f.0 f.1 ready.allowed.typed) f.2 (λ r. ready.allowed.concrete r.abstract) (word_fits arg small)
 
 -- ---- places
 

@@ -1,12 +1,11 @@
 -- What a search from a function marks is closed under mentions.
-use Rattle.std.proofs.Common.{◌≡◌, inl, inr, ℕ, zero, suc, ◌<◌, Bool, true, false, IsTrue, List, [], ◌∷◌, length, get_or, None, Some, refl, ap, subst, arith}
+use Rattle.std.proofs.Common.{◌≡◌, inl, inr, ℕ, zero, suc, ◌<◌, Bool, true, false, IsTrue, List, [], ◌∷◌, length, get_or, Some, refl, ap, subst, arith}
 use Rattle.std.proofs.lemmas.Bool.{and_from}
 use Rattle.std.specs.List.{Contains, list_all}
 use Rattle.std.specs.Prelude.{slice_get}
 use Rattle.cg_graphs.specs.Circles.{Mentions, mentioned, onward}
 use Rattle.cg_graphs.proofs.Places.{place}
 use Rattle.cg_core.specs.Kernels.{Function}
-use Rattle.cg_driver_entry.specs.Entries.{ReachesAbstract}
 use Rattle.cg_driver_entry.specs.Laws.{EntriesAreClosed}
 use Rattle.cg_core_def.specs.Lawful.{body_mentions, kernel_mentions}
 use Rattle.cg_graphs.specs.Reach.{AreReached, IsReached}
@@ -33,7 +32,7 @@ next : (edges : List (List ℕ)) (at i j : ℕ) → IsReached edges at i → Men
 next edges at i j (inl e) m = inr (mentioned j (subst (λ k. Mentions edges k j) e m))
 next edges at i j (inr r) m = inr (onward i j r m)
 
-module _ (functions : List Function) (at : ℕ) (not : ReachesAbstract functions at → ⊥) (marks : List Bool) (are : AreReached (kernel_mentions functions) at marks) where
+module _ (functions : List Function) (at : ℕ) (marks : List Bool) (are : AreReached (kernel_mentions functions) at marks) where
   abbrev edges : List (List ℕ)
   edges = kernel_mentions functions
 
@@ -53,14 +52,27 @@ module _ (functions : List Function) (at : ℕ) (not : ReachesAbstract functions
       each_true among (body_mentions f.body)
       (λ j c. among_of j (next edges at i j (reached_of i f e h) (record { targets = body_mentions f.body; at = mentions_at functions i f e; among = c })))
 
-  has_body : (i : ℕ) (f : Function) → slice_get functions i ≡ Some f → IsTrue (among i) → f.body ≡ None → ⊥
-  has_body i f e h absent = not (record { place = i; function = f; stands = e; abstract = absent; reached = reached_of i f e h })
+-- the functions that are reached from one, this one among them: what a body of one of them mentions is one of them
+pub record AreFrom (functions : List Function) (at : ℕ) : Type 0 where
+  pub among : ℕ → Bool
+  pub here : IsTrue (among at)
+  pub mentions : (i : ℕ) (f : Function) → slice_get functions i ≡ Some f → IsTrue (among i) → IsTrue (list_all among (body_mentions f.body))
+  pub reached : (i : ℕ) (f : Function) → slice_get functions i ≡ Some f → IsTrue (among i) → IsReached (kernel_mentions functions) at i
+
+pub functions_from : (functions : List Function) (at : ℕ) → AreFrom functions at
+functions_from functions at =
+    let d = marks_are_there (kernel_mentions functions) at in record {
+      among = among functions at d.0 d.1;
+      here = among_of functions at d.0 d.1 at (inl refl);
+      mentions = mentioned_among functions at d.0 d.1;
+      reached = reached_of functions at d.0 d.1;
+    }
 
 pub entries_are_closed : EntriesAreClosed
 entries_are_closed functions at not =
-    let d = marks_are_there (kernel_mentions functions) at in record {
-      among = among functions at not d.0 d.1;
-      here = among_of functions at not d.0 d.1 at (inl refl);
-      mentions = mentioned_among functions at not d.0 d.1;
-      bodies = has_body functions at not d.0 d.1;
+    let r = functions_from functions at in record {
+      among = r.among;
+      here = r.here;
+      mentions = r.mentions;
+      bodies = λ i f e h absent. not (record { place = i; function = f; stands = e; abstract = absent; reached = r.reached i f e h });
     }

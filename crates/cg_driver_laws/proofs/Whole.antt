@@ -1,12 +1,12 @@
 -- The laws of the C of sources.
-use Rattle.std.proofs.Common.{◌≡◌, ℕ, ◌<◌, ◌^◌, Bool, true, false, Some, List, [], ◌∷◌, map, slice_get, refl, ap, ◌∙◌}
+use Rattle.std.proofs.Common.{◌≡◌, ℕ, ◌<◌, ◌^◌, Bool, true, false, IsTrue, Option, None, Some, List, [], ◌∷◌, map, slice_get, ap, ◌∙◌, lt-ltb}
 use Rattle.std.proofs.lemmas.Grind.{not_there}
 use Rattle.std.proofs.lemmas.Option.{slice_get-map}
 use Rattle.std.proofs.Math.Logic.{∥∥₁_elim, ∥∥₁_map}
 use Rattle.std.specs.Option.{option_map}
 use Rattle.cg_base.specs.declared.fun.Fun.TheVariants.{User}
 use Rattle.cg_base.specs.declared.kind.Word.TheVariants.{U32}
-use Rattle.cg_base.specs.Types.{arrow, word}
+use Rattle.cg_base.specs.Types.{Tau, arrow, word}
 use Rattle.cg_lower.specs.Collected.{Copy}
 use Rattle.cg_core.specs.Terms.{Note, Tree}
 use Rattle.cg_ctree.specs.Trees.{Program as CText}
@@ -23,16 +23,20 @@ use Rattle.cg_lower_def.specs.Lowered.{function_name}
 use Rattle.cg_lower.specs.Promises.{IsProgramOf, IsSimulated}
 use Rattle.cg_eval_def.specs.Evaluation.{cost_of, evaluation}
 use Rattle.cg_eval_def.specs.Foreigns.{table_of}
+use Rattle.cg_kinds.specs.Kinds.{or_unit}
+use Rattle.cg_mono_laws.proofs.Calls.{listed_fits}
 use Rattle.cg_mono_laws.proofs.Kept.{evaluation_is_kept}
 use Rattle.cg_mono_laws.proofs.Listed.{is_found}
-use Rattle.cg_mono_laws.specs.Laws.{HoldsOver, copies_table, is_over}
+use Rattle.cg_mono_laws.specs.Laws.{copies_table, world_over}
 use Rattle.cg_typing.specs.declared.checked.Checked.{Checked}
+use Rattle.cg_typing.specs.Functions.{fun_type}
 use Rattle.cg_typing.specs.Holds.{cores_in, trees_in}
 use Rattle.cg_typing.specs.Instances.{AreInstances, Instance}
 use Rattle.cg_typing.specs.Kept.{AreKept, maybe_core, maybe_tree}
 use Rattle.cg_typing.specs.Subst.{subst_core}
 use Rattle.cg_update_laws.proofs.Whole.{words_are_updated}
 use Rattle.cg_update_laws.specs.Laws.{GivesWord}
+use Rattle.cg_value.specs.Fits.{fits}
 use Rattle.cg_value.specs.NoForeign.{no_foreign, none_is_lawful}
 use Rattle.cg_value.specs.Values.{Val, function, number}
 use Rattle.cg_driver_cells.specs.WithoutCells.{IsWithoutCells}
@@ -47,9 +51,10 @@ use Rattle.cg_driver_laws.proofs.Stable.{alike_stable}
 use Rattle.cg_driver_laws.proofs.Structs.{have_fields}
 use Rattle.cg_driver_laws.proofs.Without.{among_free, are_unboxed, body_there, stands_free}
 
--- a table that has no abstract types holds no functions
-holds_none : (list : List Instance) → HoldsOver no_foreign list
-holds_none list name v owned held = absurd (cc)
+-- what is an arrow, where unit stands for none, is there
+arrow_known : (o : Option Tau) (a b : Tau) → or_unit o ≡ arrow a b → o ≡ Some (arrow a b)
+arrow_known (Some t) a b e = ap Some e
+arrow_known None a b e = absurd (cc)
 
 module _ (checked : Checked) (list : List Instance) (is : IsList (functions_in checked) (core_in checked) list) where
   -- what is kept of the source
@@ -96,12 +101,22 @@ module _ (checked : Checked) (list : List Instance) (is : IsList (functions_in c
       entered : slice_get (map (entry_of (functions_in checked) (core_in checked)) list) at ≡ Some (entry_of (functions_in checked) (core_in checked) one)
       entered = slice_get-map (entry_of (functions_in checked) (core_in checked)) list at ∙ ap (option_map (entry_of (functions_in checked) (core_in checked))) here
 
+      -- the instance fits its type over the list
+      fitting : IsTrue (fits (world_over no_foreign (functions_in checked) list) (arrow (word U32) (word U32)) (function (User i) []))
+      fitting =
+          listed_fits no_foreign (functions_in checked) (core_in checked) list (User i) [] (word U32) (word U32) (instances_are_good checked list is at one here) (is_found list at one here)
+          (arrow_known (fun_type (functions_in checked) (User i) []) (word U32) (word U32) ty)
+
+      word_fitting : IsTrue (fits (world_over no_foreign (functions_in checked) list) (word U32) (number x))
+      unfolding fits
+      word_fitting = lt-ltb x (2 ^ 32) small
+
       -- evaluation over the copies
       moved : evaluation (copies_table no_foreign (functions_in checked) list (map (entry_of (functions_in checked) (core_in checked)) list)) n (function (User i) []) (number x) ≡ Some (v, k)
-      unfolding evaluation is_over
+      unfolding evaluation
       moved =
           ap (cost_of (copies_table no_foreign (functions_in checked) list (map (entry_of (functions_in checked) (core_in checked)) list)) n)
-          (evaluation_is_kept no_foreign none_is_lawful checked list is (holds_none list) n (function (User i) []) (number x) (is_found list at one here) refl).same
+          (evaluation_is_kept no_foreign none_is_lawful checked list is (word U32) (word U32) (function (User i) []) (number x) n fitting word_fitting).same
           ∙ gives
 
       -- the update semantics

@@ -1,6 +1,6 @@
 -- The C of the instances of a source (docs/LANGUAGE.md, "The C of instances"): it can be printed, and without cells it runs to what represents what
 -- evaluation gives, from any store. And what is known of an entry (docs/LANGUAGE.md, "Entries").
-use Rattle.std.specs.Prelude.{◌≡◌, ℕ, ◌+◌, ◌*◌, ◌^◌, ◌<◌, ◌≤◌, Bool, true, IsTrue, List, [], map, slice_get, Some}
+use Rattle.std.specs.Prelude.{◌≡◌, ℕ, ◌+◌, ◌*◌, ◌^◌, ◌<◌, ◌≤◌, Bool, true, false, IsTrue, List, [], map, slice_get, Some}
 use Rattle.cg_base.specs.declared.fun.Fun.TheVariants.{User}
 use Rattle.cg_base.specs.declared.kind.Word.TheVariants.{U32}
 use Rattle.cg_base.specs.Types.{Tau, arrow, word}
@@ -23,7 +23,7 @@ use Rattle.cg_inst_laws.specs.Laws.{entry_of}
 use Rattle.cg_lower_def.specs.Lowered.{function_name}
 use Rattle.cg_lower.specs.Promises.{CanBePrinted, IsProgramOf, IsSimulated}
 use Rattle.cg_eval_def.specs.Evaluation.{evaluation, outcome, stuck}
-use Rattle.cg_eval_def.specs.Foreigns.{table_of}
+use Rattle.cg_eval_def.specs.Foreigns.{is_known, table_of}
 use Rattle.cg_typing.specs.declared.checked.Checked.{Checked}
 use Rattle.cg_typing.specs.Holds.{cores_in, trees_in}
 use Rattle.cg_typing.specs.Instances.{Entry, Instance, IsIn}
@@ -33,7 +33,7 @@ use Rattle.cg_update.specs.Calls.{Program}
 use Rattle.cg_update.specs.Unboxed.{is_unboxed_entry}
 use Rattle.cg_update_laws.specs.Laws.{world_among}
 use Rattle.cg_value.specs.Fits.{fits}
-use Rattle.cg_value.specs.Foreign.{first_order}
+use Rattle.cg_value.specs.Foreign.{Foreign, IsLawful, first_order}
 use Rattle.cg_value.specs.NoForeign.{no_foreign}
 use Rattle.cg_value.specs.Values.{Val, function, number}
 use Rattle.cg_driver_cells.specs.WithoutCells.{IsWithoutCells}
@@ -118,13 +118,18 @@ UnboxedIsRepresented =
 abbrev pub CopiesReachCells : List Copy → ℕ → Type 0
 CopiesReachCells copies at = ReachesCells (list_of copies) (map (λ (c : Copy). c.1.body) copies) at
 
--- Evaluation of a function without type variables that reaches no abstract function is never stuck, on a value that fits what it takes and
--- has in it neither functions nor users' abstract values.
+-- an abstract function that a table doesn't know is this one, or is reached from it by mentions in bodies
+pub record ReachesUnknown (x : Foreign) (functions : List Function) (at : ℕ) : Type 0 where
+  pub abstract : ReachesAbstract functions at
+  pub unknown : is_known x abstract.function ≡ false
+
+-- Over any lawful table, evaluation of a function without type variables that reaches only such abstract functions as the table knows is never
+-- stuck, on a value that fits what it takes and has in it no functions but what the table's abstract types hold.
 abbrev pub EntriesAreSound : Type 0
 EntriesAreSound =
-    (checked : Checked) (i n : ℕ) (f : Function) (a b : Tau) (v : Val) → slice_get (functions_in checked) i ≡ Some f → f.vars ≡ [] → f.ty.ty ≡ arrow a b
-    → (ReachesAbstract (functions_in checked) i → ⊥) → IsTrue (fits (first_order no_foreign) a v)
-    → outcome (table_of no_foreign checked) n (function (User i) []) v ≡ stuck → ⊥
+    (x : Foreign) → IsLawful x → (checked : Checked) (i n : ℕ) (f : Function) (a b : Tau) (v : Val) → slice_get (functions_in checked) i ≡ Some f → f.vars ≡ [] → f.ty.ty ≡ arrow a b
+    → (ReachesUnknown x (functions_in checked) i → ⊥) → IsTrue (fits (first_order x) a v)
+    → outcome (table_of x checked) n (function (User i) []) v ≡ stuck → ⊥
 
 -- Where evaluation of a function from words to words that reaches no abstract function gives a value on a word, and its instance reaches no
 -- body that needs cells, the C function of this instance gives the same.

@@ -22,8 +22,8 @@ pub fn unboxed_run()
     ensures { UnboxedRun }
 {}
 
-/// Evaluation of a function without type variables that reaches no abstract function is never stuck, on an argument that fits and has in it
-/// neither functions nor users' abstract values.
+/// Over any lawful table, evaluation of a function without type variables that reaches only such abstract functions as the table knows is never
+/// stuck, on an argument that fits and has in it no functions but what the table's abstract types hold.
 pub fn entries_are_sound()
     ensures { EntriesAreSound }
 {}

@@ -69,18 +69,37 @@ library_arrow Seq32 types = refl
 library_arrow Seq64 types = refl
 library_arrow Seq32Break types = refl
 
-some_is : (t u : Tau) → Some t ≡ Some u → t ≡ u
+pub some_is : (t u : Tau) → Some t ≡ Some u → t ≡ u
 some_is t u e = cc
 
-arrows_from : (a b c d : Tau) → arrow a b ≡ arrow c d → a ≡ c
+pub arrows_from : (a b c d : Tau) → arrow a b ≡ arrow c d → a ≡ c
 arrows_from a b c d e = ap taken_by e
 
-arrows_to : (a b c d : Tau) → arrow a b ≡ arrow c d → b ≡ d
+pub arrows_to : (a b c d : Tau) → arrow a b ≡ arrow c d → b ≡ d
 arrows_to a b c d e = ap given_by e
 
-subst_arrow : (given : List Tau) (a b : Tau) → subst given (arrow a b) ≡ arrow (subst given a) (subst given b)
+pub subst_arrow : (given : List Tau) (a b : Tau) → subst given (arrow a b) ≡ arrow (subst given a) (subst given b)
 unfolding subst
 subst_arrow given a b = refl
+
+-- the type of a function that is typed is an arrow
+module _ (functions : List Function) (core : ℕ → Option (Tree Note)) (tree : ℕ → Option Derivation) (typed : AreTyped functions core tree) where
+  user_arrow : (ts : List Tau) (t : Tau) (i : ℕ) (o : Option Function) → slice_get functions i ≡ o → option_map (λ (g : Function). subst ts g.ty.ty) o ≡ Some t → IsArrow t
+  user_arrow ts t i None e h = absurd (cc)
+  user_arrow ts t i (Some f) e h =
+      let k = typed.kept i f e in record {
+        from = subst ts k.argument;
+        to = subst ts k.result;
+        is = sym (some_is (subst ts f.ty.ty) t h) ∙ ap (subst ts) k.is_arrow ∙ subst_arrow ts k.argument k.result;
+      }
+
+  pub value_arrow : (f : Fun) (types : List Tau) (t : Tau) → fun_type functions f (as_arguments types) ≡ Some t → IsArrow t
+  value_arrow (User i) types t h = user_arrow (arg_types (as_arguments types)) t i (slice_get functions i) refl h
+  value_arrow (OfLib lib) types t h = record {
+    from = taken_by (library_type lib (arg_types (as_arguments types)));
+    to = given_by (library_type lib (arg_types (as_arguments types)));
+    is = sym (some_is _ t h) ∙ library_arrow lib (arg_types (as_arguments types));
+  }
 
 module _ (x : Foreign) (functions : List Function) (among : ℕ → Bool) (core : ℕ → Option (Tree Note)) (tree : ℕ → Option Derivation) (typed : AreTyped functions core tree) where
   abbrev W : World
@@ -94,28 +113,11 @@ module _ (x : Foreign) (functions : List Function) (among : ℕ → Bool) (core 
 
   -- ---- functions as values
 
-  user_arrow : (ts : List Tau) (t : Tau) (i : ℕ) (o : Option Function) → slice_get functions i ≡ o → option_map (λ (g : Function). subst ts g.ty.ty) o ≡ Some t → IsArrow t
-  user_arrow ts t i None e h = absurd (cc)
-  user_arrow ts t i (Some f) e h =
-      let k = typed.kept i f e in record {
-        from = subst ts k.argument;
-        to = subst ts k.result;
-        is = sym (some_is (subst ts f.ty.ty) t h) ∙ ap (subst ts) k.is_arrow ∙ subst_arrow ts k.argument k.result;
-      }
-
-  value_arrow : (f : Fun) (types : List Tau) (t : Tau) → fun_type functions f (as_arguments types) ≡ Some t → IsArrow t
-  value_arrow (User i) types t h = user_arrow (arg_types (as_arguments types)) t i (slice_get functions i) refl h
-  value_arrow (OfLib lib) types t h = record {
-    from = taken_by (library_type lib (arg_types (as_arguments types)));
-    to = given_by (library_type lib (arg_types (as_arguments types)));
-    is = sym (some_is _ t h) ∙ library_arrow lib (arg_types (as_arguments types));
-  }
-
   -- a function at type arguments fits its type
   pub mentions_fit : MentionsFit functions among W
   unfolding fits
   mentions_fit f types t v m =
-      let a = value_arrow f types t v.is in
+      let a = value_arrow functions core tree typed f types t v.is in
       at (λ t. F t (function f types)) (sym a.is)
       (and_from (is_instance functions f types (arrow a.from a.to)) _ (at (λ t. IsTrue (is_instance functions f types t)) a.is (value_made functions f types t v)) m)
 

@@ -63,6 +63,13 @@ type_by functions (OfLib l) args types e = ap (λ ts. Some (library_type l ts)) 
 
 -- ---- a function that is mentioned
 
+-- its type at closed types for the type variables
+pub mention_type : (functions : List Function) (vars : List Kinds) (given : List Tau)
+    → (f : Fun) (args : List Arg) (t : Tau) → IsTrue (are_good_arguments vars (asked_by functions f) args) → fun_type functions f args ≡ Some t
+    → fun_type functions f (as_arguments (map (subst given) (arg_types args))) ≡ Some (subst given t)
+mention_type functions vars given f args t good e =
+    sym (type_by functions f (map (subst_arg given) args) (map (subst given) (arg_types args)) (arguments_given given args)) ∙ fun_type_subst given functions vars f args t good e
+
 pub mention_is_value : (functions : List Function) (vars : List Kinds) (given : List Tau) → AreInstance [] given vars → IsTrue (list_all is_closed given)
     → (f : Fun) (args : List Arg) (t : Tau) → IsTrue (takes_as_many functions f (length args)) → IsTrue (are_good_arguments vars (asked_by functions f) args) → fun_type functions f args ≡ Some t
     → IsValueOf functions f (map (subst given) (arg_types args)) (subst given t)
@@ -71,5 +78,5 @@ mention_is_value functions vars given fine closed f args t many good e =
       many = g.many;
       closed = g.closed;
       good = g.good;
-      is = sym (type_by functions f (map (subst_arg given) args) (map (subst given) (arg_types args)) (arguments_given given args)) ∙ fun_type_subst given functions vars f args t good e;
+      is = mention_type functions vars given f args t good e;
     }

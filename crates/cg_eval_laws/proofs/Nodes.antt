@@ -48,26 +48,45 @@ module _ (world : World) (given : List Tau) where
   abbrev F : Tau → Val → Type 0
   F t v = IsTrue (fits world (subst given t) v)
 
-  literal_fits : (value : Option ℕ) (t : Tau) → IsTrue (is_word t) → InRange value t → F t (literal value)
+  pub literal_fits : (value : Option ℕ) (t : Tau) → IsTrue (is_word t) → InRange value t → F t (literal value)
   unfolding fits subst
   literal_fits (Some n) (word w) k h = lt-ltb n _ h
   literal_fits None (word w) k h = absurd h
   literal_fits value _ k h = never k
 
-  nothing_fits : F types.unit values.nothing
+  pub nothing_fits : F types.unit values.nothing
   unfolding fits subst
   nothing_fits = refl
 
-  truth_fits : (b : Bool) → F types.bool (number (truth b))
+  pub truth_fits : (b : Bool) → F types.bool (number (truth b))
   unfolding fits subst
   truth_fits true = refl
   truth_fits false = refl
 
-  cast_fits : (t u : Tau) (v : Val) → IsTrue (widens t u) → F t v → F u v
+  pub cast_fits : (t u : Tau) (v : Val) → IsTrue (widens t u) → F t v → F u v
   unfolding fits subst
   cast_fits (word v) (word w) (number n) k f = let wide = pow_mono (leb-true _ _ k) in let low = ltb-true n _ f in lt-ltb n _ (omega arith)
   cast_fits (word v) (word w) _ k f = never f
   cast_fits _ _ v k f = never k
+
+  -- ---- records
+
+  -- the fields of a record that is made
+  abbrev pub fields_made : Named Note → Parts
+  fields_made fs = subst_parts given (parts_made fs)
+
+  -- the values up to here, with any that fit the fields that are left, are a record
+  abbrev pub Begins : Parts → List Val → Named Note → Type 0
+  Begins whole vs fs = (us : List Val) → IsTrue (fits_fields world (fields_made fs) (to_vals us)) → IsTrue (fits_fields world whole (to_vals (vs ++ us)))
+
+  pub one_more : (whole : Parts) (vs : List Val) (name : List ℕ) (e : Tree Note) (fs : Named Note) (v : Val) → Begins whole vs (field name e fs) → F (type_at e) v → Begins whole (vs ++ v ∷ []) fs
+  unfolding fits subst to_vals
+  one_more whole vs name e fs v so f us h =
+      at (λ l. IsTrue (fits_fields world whole (to_vals l))) (sym (append_assoc vs (v ∷ []) us)) (so (v ∷ us) (and_from (fits world (subst given (type_at e)) v) _ f h))
+
+  pub all_made : (whole : Parts) (vs : List Val) → Begins whole vs end → IsTrue (fits world (fields whole U) (parts (to_vals vs)))
+  unfolding fits subst to_vals
+  all_made whole vs so = at (λ l. IsTrue (fits_fields world whole (to_vals l))) (append-nil vs) (so [] refl)
 
 -- ---- nodes
 
@@ -152,43 +171,27 @@ module _ (functions : List Function) (among : ℕ → Bool) (world : World) wher
 
     -- ---- records
 
-    abbrev P : Named Note → Parts
-    P fs = subst_parts given (parts_made fs)
-
-    -- the values up to here, with any that fit the fields that are left, are a record
-    abbrev So : Parts → List Val → Named Note → Type 0
-    So whole vs fs = (us : List Val) → IsTrue (fits_fields world (P fs) (to_vals us)) → IsTrue (fits_fields world whole (to_vals (vs ++ us)))
-
-    one_more : (whole : Parts) (vs : List Val) (name : List ℕ) (e : Tree Note) (fs : Named Note) (v : Val) → So whole vs (field name e fs) → V (type_at e) v → So whole (vs ++ v ∷ []) fs
-    unfolding fits subst to_vals
-    one_more whole vs name e fs v so f us h =
-        at (λ l. IsTrue (fits_fields world whole (to_vals l))) (sym (append_assoc vs (v ∷ []) us)) (so (v ∷ us) (and_from (fits world (subst given (type_at e)) v) _ f h))
-
-    all_made : (whole : Parts) (vs : List Val) → So whole vs end → IsTrue (fits world (fields whole U) (parts (to_vals vs)))
-    unfolding fits subst to_vals
-    all_made whole vs so = at (λ l. IsTrue (fits_fields world whole (to_vals l))) (append-nil vs) (so [] refl)
-
     fields_sound : (whole : Parts) (fs : Named Note) (g : Entries) (vs : List Val) (fit : Fit g vs) (strings : List (List Mark)) (ds : Derivations) (direction : Option Tau)
-        → DerivesFields functions vars g strings ds direction fs → ReachesFields functions among fs → (so_far : List Val) → So whole so_far fs → (left : ℕ)
+        → DerivesFields functions vars g strings ds direction fs → ReachesFields functions among fs → (so_far : List Val) → Begins world given whole so_far fs → (left : ℕ)
         → IsSound world (fields whole U) (all_of run fs (C vs) so_far left)
     unfolding all_of
     fields_sound whole end g vs fit strings ds direction h r so_far so left = absurd h
     fields_sound whole (field name e end) g vs fit strings ds direction h r so_far so left =
         pay_sound world (fields whole U) left _ (λ paid.
         bind_sound world (subst given (type_at e)) (fields whole U) (run e (C vs) paid) _ (sound vars given fine closed g vs fit (nth 0 ds) (along direction (type_at e)) e h.value r.0 paid)
-        (λ v rest f. all_made whole (so_far ++ v ∷ []) (one_more whole so_far name e end v so f)))
+        (λ v rest f. all_made world given whole (so_far ++ v ∷ []) (one_more world given whole so_far name e end v so f)))
     fields_sound whole (field name e (field later x fs)) g vs fit strings ds direction h r so_far so left =
         pay_sound world (fields whole U) left _ (λ paid.
         bind_sound world (subst given (type_at e)) (fields whole U) (run e (C vs) paid) _
         (sound vars given fine closed (first (first_marks strings) g) vs (left_side [] (first_marks strings) g vs h.splits fit) (nth 0 ds) (along direction (type_at e)) e h.value r.0 paid)
         (λ v rest f. fields_sound whole (field later x fs) (second (first_marks strings) g) vs (right_side [] (first_marks strings) g vs h.splits fit) (later_marks strings) (later_parts ds) direction
-        h.later r.1 (so_far ++ v ∷ []) (one_more whole so_far name e (field later x fs) v so f) rest))
+        h.later r.1 (so_far ++ v ∷ []) (one_more world given whole so_far name e (field later x fs) v so f) rest))
 
     struct_sound : (fs : Named Note) (g : Entries) (vs : List Val) (fit : Fit g vs) (d : Derivation) (direction : Option Tau) (t : Tau)
         → DerivesShape functions vars g d direction t (struct fs) → ReachesFields functions among fs → (left : ℕ) → S t (all_of run fs (C vs) [] left)
     unfolding subst
     struct_sound fs g vs fit d direction t h r left =
-        at (λ u. S u (all_of run fs (C vs) [] left)) (sym h.is) (fields_sound (P fs) fs g vs fit (strings_of d) (the_parts d) direction h.fields r [] (λ us k. k) left)
+        at (λ u. S u (all_of run fs (C vs) [] left)) (sym h.is) (fields_sound (fields_made world given fs) fs g vs fit (strings_of d) (the_parts d) direction h.fields r [] (λ us k. k) left)
 
     -- ---- each form
 

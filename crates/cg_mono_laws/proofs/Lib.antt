@@ -1,10 +1,8 @@
 pub mod Calls
-pub mod FitOver
 pub mod Heard
 pub mod Kept
 pub mod Listed
 pub mod Nodes
 pub mod Outcomes
-pub mod Over
-pub mod Placed
+pub mod Same
 pub mod Types

@@ -1,20 +1,39 @@
 -- What evaluation asks of noted types is the same with type arguments in the place of type variables.
-use Rattle.std.proofs.Common.{◌≡◌, ℕ, zero, suc, IsTrue, List, [], ◌∷◌, map, refl, ap, ◌∙◌}
+use Rattle.std.proofs.Common.{◌≡◌, ℕ, zero, suc, Bool, true, false, ◌||◌, IsTrue, List, [], ◌∷◌, map, refl, ap, ◌∙◌}
 use Rattle.std.specs.Prelude.{if◌then◌else◌}
 use Rattle.std.specs.Str.{bytes_eq}
 use Rattle.cg_base.specs.Types.{Tau, word, bool, fields, Parts, end, part}
 use Rattle.cg_core.specs.Terms.{Arg, Note, Tree, term}
-use Rattle.cg_kinds.specs.Kinds.{subst, subst_parts}
+use Rattle.cg_kinds.specs.Kinds.{is_word, subst, subst_parts}
 use Rattle.cg_eval_operations.specs.Positions.{position, position_among}
 use Rattle.cg_typing.specs.Functions.{arg_types}
 use Rattle.cg_typing.specs.Instances.{is_closed}
-use Rattle.cg_typing.specs.Parts.{field_in, is_there}
+use Rattle.cg_typing.specs.Operators.{Sort, arithmetic, equality, order, logic, takes}
+use Rattle.cg_typing.specs.Parts.{field_in, is_bool, is_there}
 use Rattle.cg_typing.specs.Rules.{type_at}
 use Rattle.cg_typing.specs.Subst.{subst_arg, subst_core}
 use Rattle.std.specs.List.{list_all}
 use Rattle.cg_inst_laws.proofs.Closed.{given_stay}
-use Rattle.cg_mono_laws.proofs.Placed.{has_field, is_scalar}
 use Rattle.cg_base.proofs.Counts.{no_steps as never}
+
+or_left : (a b : Bool) → IsTrue a → IsTrue (a || b)
+or_left true b h = refl
+or_left false b h = never h
+
+or_right : (a b : Bool) → IsTrue b → IsTrue (a || b)
+or_right true b h = refl
+or_right false b h = h
+
+-- a word or a truth value
+abbrev is_scalar : Tau → Bool
+is_scalar t = is_word t || is_bool t
+
+-- what an operator takes is one
+operand_scalar : (s : Sort) (t : Tau) → IsTrue (takes s t) → IsTrue (is_scalar t)
+operand_scalar arithmetic t h = or_left (is_word t) (is_bool t) h
+operand_scalar equality t h = h
+operand_scalar order t h = or_left (is_word t) (is_bool t) h
+operand_scalar logic t h = or_right (is_word t) (is_bool t) h
 
 module _ (given : List Tau) where
   -- the type that a copy notes
@@ -31,8 +50,8 @@ module _ (given : List Tau) where
   scalar_stays _ h = never h
 
   -- so an operand keeps its type
-  pub operand_stays : (c : Tree Note) → IsTrue (is_scalar (type_at c)) → type_at (subst_core given c) ≡ type_at c
-  operand_stays c h = type_given c ∙ scalar_stays (type_at c) h
+  pub operand_stays : (s : Sort) (c : Tree Note) → IsTrue (takes s (type_at c)) → type_at (subst_core given c) ≡ type_at c
+  operand_stays s c h = type_given c ∙ scalar_stays (type_at c) (operand_scalar s (type_at c) h)
 
   -- ---- fields
 
@@ -48,7 +67,7 @@ module _ (given : List Tau) where
   position_stays n _ h = never h
 
   -- so it is the same in the copy
-  pub field_stays : (n : List ℕ) (c : Tree Note) → IsTrue (has_field n c) → position n (type_at (subst_core given c)) ≡ position n (type_at c)
+  pub field_stays : (n : List ℕ) (c : Tree Note) → IsTrue (is_there (field_in n (type_at c))) → position n (type_at (subst_core given c)) ≡ position n (type_at c)
   field_stays n c h = ap (position n) (type_given c) ∙ position_stays n (type_at c) h
 
   -- ---- type arguments

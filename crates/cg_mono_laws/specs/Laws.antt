@@ -1,21 +1,22 @@
 -- Evaluation over the copies of a list of instances gives what evaluation over the source gives.
-use Rattle.std.specs.Prelude.{◌≡◌, ℕ, Bool, true, ◌&&◌, IsTrue, List, [], map, slice_get, Option, Some, None}
+use Rattle.std.specs.Prelude.{◌≡◌, ℕ, Bool, ◌&&◌, IsTrue, List, [], map, slice_get, Option, Some, None}
 use Rattle.std.specs.List.{list_any}
 use Rattle.std.specs.Option.{option_map}
 use Rattle.cg_base.specs.declared.fun.Fun.{Fun}
 use Rattle.cg_base.specs.declared.fun.Fun.TheVariants.{User}
-use Rattle.cg_base.specs.Types.{Tau}
+use Rattle.cg_base.specs.Types.{Tau, arrow}
 use Rattle.cg_core.specs.Kernels.{Function}
 use Rattle.cg_core.specs.Terms.{Note, Tree}
 use Rattle.cg_eval_def.specs.Evaluation.{Outcome, gives, Table, outcome}
-use Rattle.cg_eval_def.specs.Foreigns.{cost_at, is_taken, table_of, value_at}
+use Rattle.cg_eval_def.specs.Foreigns.{cost_at, is_instance, is_taken, table_of, value_at}
 use Rattle.cg_inst.specs.Judged.{core_in, functions_in}
 use Rattle.cg_inst.specs.Lists.{IsList, same_instance}
 use Rattle.cg_inst_laws.specs.Laws.{entry_of, place_in}
 use Rattle.cg_typing.specs.declared.checked.Checked.{Checked}
 use Rattle.cg_typing.specs.Instances.{Entry, Instance}
-use Rattle.cg_value.specs.Foreign.{Foreign, IsLawful}
-use Rattle.cg_value.specs.Values.{Val, Vals, function, chosen, parts, none, more}
+use Rattle.cg_value.specs.Fits.{World, fits}
+use Rattle.cg_value.specs.Foreign.{Foreign, IsLawful, first_order}
+use Rattle.cg_value.specs.Values.{Val}
 
 -- ---- evaluation over copies
 
@@ -39,34 +40,24 @@ copies_table x functions list entries = record {
 abbrev pub is_listed : List Instance → Fun → List Tau → Bool
 is_listed list f types = list_any (same_instance (record { fun = f; types = types })) list
 
--- all functions in a value are instances of a list
-unfoldable mutual
-  pub is_over : List Instance → Val → Bool
-  is_over list (function f types) = is_listed list f types
-  is_over list (chosen x v) = is_over list v
-  is_over list (parts vs) = are_over list vs
-  is_over list _ = true
+-- What functions and abstract types are, where functions are the instances of a list. What an abstract type holds is what the table says, also
+-- where there are functions in it: no program looks into it.
+abbrev pub world_over : Foreign → List Function → List Instance → World
+world_over x functions list = record { is_of = λ f types t. is_instance functions f types t && is_listed list f types; holds = (first_order x).holds }
 
-  pub are_over : List Instance → Vals → Bool
-  are_over list none = true
-  are_over list (more v vs) = is_over list v && are_over list vs
+-- a value that is given fits a type
+abbrev pub IsFitting : World → Tau → Outcome → Type 0
+IsFitting world t (gives v left) = IsTrue (fits world t v)
+IsFitting world t o = Unit {0}
 
-abbrev pub IsOver : List Instance → Outcome → Type 0
-IsOver list (gives v left) = IsTrue (is_over list v)
-IsOver list o = Unit {0}
-
--- What a table's abstract types hold has no functions in it but instances of a list, as where it has none at all. Without this an abstract
--- function might hand out, in a value of an abstract type, a function that is in no list.
-abbrev pub HoldsOver : Foreign → List Instance → Type 0
-HoldsOver x list = (name : List ℕ) (v : Val) → IsTrue (x.owns name) → IsTrue (x.holds name v) → IsTrue (is_over list v)
-
--- For a checked source and its list of instances: a call of an instance of the list, on a value all of whose functions are such, gives over
--- the copies what it gives over the source, at the same cost with any budget, and the functions in its result are such too.
-pub record IsKept (x : Foreign) (checked : Checked) (list : List Instance) (n : ℕ) (f v : Val) : Type 0 where
+-- For a checked source and its list of instances: a call of an instance of the list, on a value that fits what it takes, gives over the copies
+-- what it gives over the source, at the same cost with any budget, and its result fits what the instance gives.
+pub record IsKept (x : Foreign) (checked : Checked) (list : List Instance) (t : Tau) (n : ℕ) (f v : Val) : Type 0 where
   pub same : outcome (copies_table x (functions_in checked) list (map (entry_of (functions_in checked) (core_in checked)) list)) n f v ≡ outcome (table_of x checked) n f v
-  pub over : IsOver list (outcome (table_of x checked) n f v)
+  pub fits : IsFitting (world_over x (functions_in checked) list) t (outcome (table_of x checked) n f v)
 
 abbrev pub EvaluationIsKept : Type 0
 EvaluationIsKept =
     (x : Foreign) → IsLawful x → (checked : Checked) (list : List Instance) → IsList (functions_in checked) (core_in checked) list
-    → HoldsOver x list → (n : ℕ) (f v : Val) → IsTrue (is_over list f) → IsTrue (is_over list v) → IsKept x checked list n f v
+    → (a b : Tau) (f v : Val) (n : ℕ) → IsTrue (fits (world_over x (functions_in checked) list) (arrow a b) f) → IsTrue (fits (world_over x (functions_in checked) list) a v)
+    → IsKept x checked list b n f v
