@@ -6,5 +6,6 @@ mod ReadSteps
 mod Readers
 mod Shorter
 mod Sounds
+pub mod Tables
 pub mod TopSteps
 mod Widths

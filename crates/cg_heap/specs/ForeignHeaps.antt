@@ -7,7 +7,7 @@ use Rattle.cg_base.specs.Types.{Tau, arrow, abs, variant, fields, none, Parts, e
 use Rattle.cg_base.specs.declared.kind.Sigil.TheVariants.{R, W}
 use Rattle.cg_heap.specs.Calls.{Answer, Out, Does, heap_of}
 use Rattle.cg_heap.specs.declared.cell.Scalar.{Scalar}
-use Rattle.cg_heap.specs.Reps.{AreApart, Heap, HeapWorld, Holds, foot}
+use Rattle.cg_heap.specs.Reps.{AreApart, HeapWorld, Holds, foot}
 use Rattle.cg_heap.specs.Stored.{Stored}
 use Rattle.cg_value.specs.Foreign.{Foreign}
 use Rattle.cg_value.specs.Values as values
@@ -23,11 +23,13 @@ pub record ForeignHeap : Type 0 where
 abbrev pub world_over : Foreign → ForeignHeap → (ℕ → Option (Val × Tau)) → HeapWorld
 world_over x y instances = record { instance_at = instances; stands = λ name ns v. x.owns name && x.holds name v && y.stands name ns v }
 
--- A call of a function that the table knows: the scalars represent a value of what it takes, apart.
-pub record IsCall (x : Foreign) (y : ForeignHeap) (instances : ℕ → Option (Val × Tau)) (name : List ℕ) (h : Heap) (us : List Scalar) (from to : Tau) (v : Val) : Type 0 where
+-- A call of a function that the table knows, in a store that holds no cell above its top: the scalars represent a value of what it
+-- takes, apart.
+pub record IsCall (x : Foreign) (y : ForeignHeap) (instances : ℕ → Option (Val × Tau)) (name : List ℕ) (s : Stored) (us : List Scalar) (from to : Tau) (v : Val) : Type 0 where
   pub known : IsTrue (x.knows name (arrow from to))
-  pub holds : Holds (world_over x y instances) h from us v
-  pub apart : AreApart (foot h W from us) (foot h R from us)
+  pub holds : Holds (world_over x y instances) (heap_of s) from us v
+  pub apart : AreApart (foot (heap_of s) W from us) (foot (heap_of s) R from us)
+  pub low : (q : ℕ) → s.top < q → heap_of s q ≡ None
 
 -- how many answers all allocators in a value still have
 unfoldable mutual
@@ -63,12 +65,13 @@ abbrev pub Answers : HeapWorld → Stored → (from to : Tau) → List Scalar �
 Answers world s from to us v v' cost None = ⊥
 Answers world s from to us v v' cost (Some a) = (a.cost ≡ cost) × IsAnswered world s from to us v v' a.out
 
--- The laws of a table on heaps. An array's elements stand for one value of a type at most, and each call of a function that is known,
--- on scalars that represent a value that it takes, is answered at that value's cost with what represents its result, in any store that
--- holds no cell above its top. No call that is answered raises the top by more than the cells that one may make.
+-- The laws of a table on heaps. An array's elements stand for one value of a type at most. Each call of a function that is known, on
+-- scalars that represent a value that it takes, is answered at that value's cost with what represents its result, and nothing else is
+-- answered.
 pub record IsLawfulOnHeaps (x : Foreign) (y : ForeignHeap) : Type 0 where
   pub stands_once : (name ns : List ℕ) (v v' : Val) → IsTrue (y.stands name ns v) → IsTrue (y.stands name ns v') → v ≡ v'
   pub is_answered : (instances : ℕ → Option (Val × Tau)) (name : List ℕ) (s : Stored) (us : List Scalar) (from to : Tau) (v : Val)
-      → IsCall x y instances name (heap_of s) us from to v → ((q : ℕ) → s.top < q → heap_of s q ≡ None)
+      → IsCall x y instances name s us from to v
       → Answers (world_over x y instances) s from to us v (x.value name v) (x.cost name v) (y.asked name us s)
-  pub rises_little : (name : List ℕ) (us : List Scalar) (s : Stored) (a : Answer) → y.asked name us s ≡ Some a → a.out.store.top ≤ s.top + most_made
+  pub is_call : (name : List ℕ) (us : List Scalar) (s : Stored) (a : Answer) → y.asked name us s ≡ Some a
+      → (instances : ℕ → Option (Val × Tau)) × (from : Tau) × (to : Tau) × (v : Val) × IsCall x y instances name s us from to v

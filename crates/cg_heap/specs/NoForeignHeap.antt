@@ -10,6 +10,6 @@ no_foreign_heap = record { stands = λ name ns v. false; asked = λ name us s. N
 pub none_is_lawful_on_heaps : IsLawfulOnHeaps no_foreign no_foreign_heap
 none_is_lawful_on_heaps = record {
   stands_once = λ name ns v v' stands _. absurd (cc);
-  is_answered = λ instances name s us from to v call _. absurd (let f = call.known in cc);
-  rises_little = λ name us s a answered. absurd (cc);
+  is_answered = λ instances name s us from to v call. absurd (let f = call.known in cc);
+  is_call = λ name us s a answered. absurd (cc);
 }

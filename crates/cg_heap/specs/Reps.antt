@@ -69,12 +69,12 @@ first_number us = number_of (head us)
 abbrev pub first_address : List Scalar → ℕ
 first_address us = address_of (head us)
 
--- they are one number, and one address
+-- they are one number, and one address, which isn't the null address
 abbrev pub IsNumber : List Scalar → Type 0
 IsNumber us = us ≡ Word (first_number us) ∷ []
 
 abbrev pub IsAddress : List Scalar → Type 0
-IsAddress us = us ≡ Address (first_address us) ∷ []
+IsAddress us = (us ≡ Address (first_address us) ∷ []) × (1 ≤ first_address us)
 
 abbrev pub is_boxed : Sigil → Bool
 is_boxed U = false

@@ -33,7 +33,7 @@ pub trait ExternHeap: Extern {
     ghost on_heaps: { Self → ForeignHeap };
 
     /// What a call costs that the table answers, as it does every call of a known function on scalars that represent a value that it
-    /// takes; nothing is promised of others.
+    /// takes, and no other; nothing is promised of others.
     fn steps<S: Store>(&self, name: &Name, arg: &Items<Scalar>, store: &S) -> u64
         ensures { (answer : Answer) → (on_heaps self.now).asked name.now arg.now (S.stored store.now) ≡ Some answer → result ≡ answer.cost };
 

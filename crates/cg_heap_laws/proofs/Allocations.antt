@@ -1,5 +1,5 @@
 -- What an allocator gives.
-use Rattle.std.proofs.Common.{◌≡◌, ℕ, ◌+◌, Bool, true, false, cond, nat_eq, Some, List, [], ◌∷◌, ⊎_elim, codes, refl, sym, ap, ◌∙◌, subst, arith}
+use Rattle.std.proofs.Common.{◌≡◌, ℕ, ◌+◌, ◌≤◌, Bool, true, false, cond, nat_eq, Some, List, [], ◌∷◌, ⊎_elim, codes, refl, sym, ap, ◌∙◌, subst, arith}
 use Rattle.std.specs.FinMap as map
 use Rattle.std.specs.FinMap.{FinMap}
 use Rattle.std.specs.Ordering.{nat_cmp}
@@ -30,11 +30,11 @@ use Rattle.cg_base.proofs.Counts.{eqb_same as eq_self}
 
 -- a cell of this content, wherever it stands, represents a value that owns it alone
 abbrev pub IsMadeOf : HeapWorld → Tau → Cell → Val → Type 0
-IsMadeOf world e c x = (h : Heap) (a : ℕ) → h a ≡ Some c
+IsMadeOf world e c x = (h : Heap) (a : ℕ) → 1 ≤ a → h a ≡ Some c
     → Holds world h e (Address a ∷ []) x × ((q : ℕ) → (foot h W e (Address a ∷ []) q ≡ one_if (nat_eq a q)) × (foot h R e (Address a ∷ []) q ≡ 0))
 
 module _ (world : HeapWorld) (s : Stored) (t : Tau) (us : List Scalar) (f : Fine s t us) (e : Tau) (n : slots e ≡ 1)
-    (p : ℕ) (own : (q : ℕ) → Writes s t us q ≡ one_if (nat_eq p q) + 0) (bs : List Bool) (m : FinMap nat_cmp Cell)
+    (p : ℕ) (above : 1 ≤ p) (own : (q : ℕ) → Writes s t us q ≡ one_if (nat_eq p q) + 0) (bs : List Bool) (m : FinMap nat_cmp Cell)
     (is : IsWritten (heap_of s) p (Some (Answers bs)) (λ q. map.get m q)) where
   -- where nothing is made
   gives_none : (c : Fresh) → Does world s t us (granted p false c (record { cells = m; top = s.top })) (pair state (maybe e)) (forms.pair (answers bs) (chosen (codes "None") nothing))
@@ -46,7 +46,7 @@ module _ (world : HeapWorld) (s : Stored) (t : Tau) (us : List Scalar) (f : Fine
       let feet : (q : ℕ) → (foot h' W (pair state (maybe e)) (Address p ∷ us') q ≡ one_if (nat_eq p q) + 0) × (foot h' R (pair state (maybe e)) (Address p ∷ us') q ≡ 0) =
       λ q. none_feet h' q in
       record {
-        holds = is_pair world h' state (maybe e) (Address p) us' (answers bs) (chosen (codes "None") nothing) (is_state world h' p bs (written_here h h' p (Some (Answers bs)) is)) holds;
+        holds = is_pair world h' state (maybe e) (Address p) us' (answers bs) (chosen (codes "None") nothing) (is_state world h' p bs above (written_here h h' p (Some (Answers bs)) is)) holds;
         step = step_write h h' s.top p (Some (Answers bs)) (foot h W t us) (foot h R t us) (λ q. 0) f own is
             (foot h' W (pair state (maybe e)) (Address p ∷ us')) (foot h' R (pair state (maybe e)) (Address p ∷ us')) (λ q. (feet q).0 ∙ sym (own q)) (λ q. (feet q).1);
       }
@@ -71,7 +71,7 @@ module _ (world : HeapWorld) (s : Stored) (t : Tau) (us : List Scalar) (f : Fine
       let is' : IsWritten h1 a (Some (fresh_cell c)) h' = get_insert m a (fresh_cell c) in
       let here : h' a ≡ Some (fresh_cell c) = written_here h1 h' a (Some (fresh_cell c)) is' in
       let near : h' p ≡ h1 p = make_near h h1 h' s.top p (Some (Answers bs)) (Some (fresh_cell c)) (foot h W t us) (foot h R t us) f own is is' in
-      let d = some_does h' is' (near ∙ written_here h h1 p (Some (Answers bs)) is) (made h' a here).0 (made h' a here).1 in
+      let d = some_does h' is' (near ∙ written_here h h1 p (Some (Answers bs)) is) (made h' a (omega arith) here).0 (made h' a (omega arith) here).1 in
       record { holds = d.0; step = d.1 }
     where
       some_feet : (h' : Heap) (a : ℕ) → Holds world h' e (Address a ∷ []) x → ((q : ℕ) → (foot h' W e (Address a ∷ []) q ≡ one_if (nat_eq a q)) × (foot h' R e (Address a ∷ []) q ≡ 0))
@@ -90,7 +90,7 @@ module _ (world : HeapWorld) (s : Stored) (t : Tau) (us : List Scalar) (f : Fine
           → Holds world h' (pair state (maybe e)) (Address p ∷ AWord 1 ∷ Unset ∷ Address (s.top + 1) ∷ []) (forms.pair (answers bs) (chosen (codes "Some") x))
           × Step (side (heap_of s) s.top (foot (heap_of s) W t us) (foot (heap_of s) R t us)) ((s.top + 1) ∷ []) [] (side h' (s.top + 1) (foot h' W (pair state (maybe e)) (Address p ∷ AWord 1 ∷ Unset ∷ Address (s.top + 1) ∷ [])) (foot h' R (pair state (maybe e)) (Address p ∷ AWord 1 ∷ Unset ∷ Address (s.top + 1) ∷ [])))
       some_does h' is' k r feet = (
-        is_pair world h' state (maybe e) (Address p) (AWord 1 ∷ Unset ∷ Address (s.top + 1) ∷ []) (answers bs) (chosen (codes "Some") x) (is_state world h' p bs k) (is_some world h' e (s.top + 1) x r),
+        is_pair world h' state (maybe e) (Address p) (AWord 1 ∷ Unset ∷ Address (s.top + 1) ∷ []) (answers bs) (chosen (codes "Some") x) (is_state world h' p bs above k) (is_some world h' e (s.top + 1) x r),
         step_make (heap_of s) (λ q. map.get m q) h' s.top p (Some (Answers bs)) (Some (fresh_cell c)) (foot (heap_of s) W t us) (foot (heap_of s) R t us) f own is is'
             (foot h' W (pair state (maybe e)) (Address p ∷ AWord 1 ∷ Unset ∷ Address (s.top + 1) ∷ [])) (foot h' R (pair state (maybe e)) (Address p ∷ AWord 1 ∷ Unset ∷ Address (s.top + 1) ∷ []))
             (λ q. (some_feet h' (s.top + 1) r feet q).0) (λ q. (some_feet h' (s.top + 1) r feet q).1),
@@ -129,9 +129,9 @@ next_is p bs s e = ap (λ o. unwrap_or (in_cell (answer_of 0) o) false) e ∙ fi
 
 -- an answer is taken, and a cell is made if so
 pub allocates : (world : HeapWorld) (s : Stored) (t : Tau) (us : List Scalar) → Fine s t us → (e : Tau) → slots e ≡ 1
-    → (p : ℕ) → ((q : ℕ) → Writes s t us q ≡ one_if (nat_eq p q) + 0) → (bs : List Bool) → cell_at s p ≡ Some (Answers bs)
+    → (p : ℕ) → 1 ≤ p → ((q : ℕ) → Writes s t us q ≡ one_if (nat_eq p q) + 0) → (bs : List Bool) → cell_at s p ≡ Some (Answers bs)
     → (grant : Bool) (c : Fresh) (x : Val) → (grant ≡ true → IsMadeOf world e (fresh_cell c) x)
     → Does world s t us (granted p grant c (changed without_answer p s)) (pair state (maybe e)) (answered bs grant x)
-allocates world s t us f e n p own bs k grant c x made =
+allocates world s t us f e n p above own bs k grant c x made =
     subst (λ s'. Does world s t us (granted p grant c s') (pair state (maybe e)) (answered bs grant x)) (sym (ap (λ o. in_place p (in_cell without_answer o) s) k ∙ later_store p bs s))
-    (grants world s t us f e n p own (later_answers bs) (later_cells p bs s) (later_written p bs s k) grant c x made)
+    (grants world s t us f e n p above own (later_answers bs) (later_cells p bs s) (later_written p bs s k) grant c x made)

@@ -1,5 +1,5 @@
 -- What represents the library's types: allocators, words, arrays, taken records, and None or Some.
-use Rattle.std.proofs.Common.{◌≡◌, ℕ, ◌<◌, ◌^◌, Bool, nat_eq, IsTrue, Option, Some, None, List, [], ◌∷◌, codes, drop, refl, sym, ap, subst, arith}
+use Rattle.std.proofs.Common.{◌≡◌, ℕ, ◌<◌, ◌≤◌, ◌^◌, Bool, nat_eq, IsTrue, Option, Some, None, List, [], ◌∷◌, codes, drop, refl, sym, ap, subst, arith}
 use Rattle.cg_base.specs.declared.kind.Sigil.{Sigil}
 use Rattle.cg_base.specs.declared.kind.Sigil.TheVariants.{R, W}
 use Rattle.cg_base.specs.declared.kind.Word.{Word}
@@ -36,27 +36,27 @@ module _ (world : HeapWorld) where
 
   module _ (h : Heap) where
     -- an allocator
-    pub state_is : (u : Scalar) (v : Val) → Holds world h state (u ∷ []) v → (u ≡ Address (address_of u)) × ((bs : List Bool) × (h (address_of u) ≡ Some (Answers bs)) × (v ≡ answers bs))
+    pub state_is : (u : Scalar) (v : Val) → Holds world h state (u ∷ []) v → (u ≡ Address (address_of u)) × ((bs : List Bool) × (h (address_of u) ≡ Some (Answers bs)) × (v ≡ answers bs) × (1 ≤ address_of u))
     unfolding Holds
-    state_is (Address p) v r = (refl, state_cell (h p) v r.2)
-    state_is (AWord n) v r = absurd (let e = r.1 in cc)
-    state_is Unset v r = absurd (let e = r.1 in cc)
+    state_is (Address p) v r = let c = state_cell (h p) v r.2 in (refl, (c.0, c.1, c.2, r.1.1))
+    state_is (AWord n) v r = absurd (let e = r.1.0 in cc)
+    state_is Unset v r = absurd (let e = r.1.0 in cc)
 
-    pub is_state : (p : ℕ) (bs : List Bool) → h p ≡ Some (Answers bs) → Holds world h state (Address p ∷ []) (answers bs)
+    pub is_state : (p : ℕ) (bs : List Bool) → 1 ≤ p → h p ≡ Some (Answers bs) → Holds world h state (Address p ∷ []) (answers bs)
     unfolding Holds
-    is_state p bs e = (refl, refl, subst (λ o. StandsFor world (codes "SysState") types.none o (answers bs)) (sym e) (refl, refl))
+    is_state p bs i e = (refl, (refl, i), subst (λ o. StandsFor world (codes "SysState") types.none o (answers bs)) (sym e) (refl, refl))
 
     -- an array, at any sigil that is boxed
     pub array_is : (w : Word) (s : Sigil) (u : Scalar) (v : Val) → Holds world h (abs (codes "WordArray") (types.more (word w) types.none) s) (u ∷ []) v
-        → (u ≡ Address (address_of u)) × ((ns : List ℕ) × (h (address_of u) ≡ Some (Words ns)) × (v ≡ elements ns) × IsTrue (is_array w (elements ns)))
+        → (u ≡ Address (address_of u)) × ((ns : List ℕ) × (h (address_of u) ≡ Some (Words ns)) × (v ≡ elements ns) × IsTrue (is_array w (elements ns)) × (1 ≤ address_of u))
     unfolding Holds
-    array_is w s (Address p) v r = (refl, array_cell w (h p) v r.2)
-    array_is w s (AWord n) v r = absurd (let e = r.1 in cc)
-    array_is w s Unset v r = absurd (let e = r.1 in cc)
+    array_is w s (Address p) v r = let c = array_cell w (h p) v r.2 in (refl, (c.0, c.1, c.2, c.3, r.1.1))
+    array_is w s (AWord n) v r = absurd (let e = r.1.0 in cc)
+    array_is w s Unset v r = absurd (let e = r.1.0 in cc)
 
-    pub is_an_array : (w : Word) (p : ℕ) (ns : List ℕ) → h p ≡ Some (Words ns) → IsTrue (is_array w (elements ns)) → Holds world h (array (word w)) (Address p ∷ []) (elements ns)
+    pub is_an_array : (w : Word) (p : ℕ) (ns : List ℕ) → 1 ≤ p → h p ≡ Some (Words ns) → IsTrue (is_array w (elements ns)) → Holds world h (array (word w)) (Address p ∷ []) (elements ns)
     unfolding Holds
-    is_an_array w p ns e k = (refl, refl, subst (λ o. StandsFor world (codes "WordArray") (types.more (word w) types.none) o (elements ns)) (sym e) (k, refl))
+    is_an_array w p ns i e k = (refl, (refl, i), subst (λ o. StandsFor world (codes "WordArray") (types.more (word w) types.none) o (elements ns)) (sym e) (k, refl))
 
     -- a word
     pub word_is : (w : Word) (u : Scalar) (v : Val) → Holds world h (word w) (u ∷ []) v → (u ≡ AWord (number_of u)) × (number_of u < 2 ^ bits w) × (v ≡ number (number_of u))
@@ -73,8 +73,8 @@ module _ (world : HeapWorld) where
     pub record_is : (ps : Parts) (u : Scalar) (v : Val) → Holds world h (fields ps W) (u ∷ []) v → u ≡ Address (address_of u)
     unfolding Holds
     record_is ps (Address p) v r = refl
-    record_is ps (AWord n) v r = absurd (let e = r.1.0 in cc)
-    record_is ps Unset v r = absurd (let e = r.1.0 in cc)
+    record_is ps (AWord n) v r = absurd (let e = r.1.0.0 in cc)
+    record_is ps Unset v r = absurd (let e = r.1.0.0 in cc)
 
     -- some of what is there
     pub is_some : (t : Tau) (p : ℕ) (v : Val) → Holds world h t (Address p ∷ []) v → Holds world h (maybe t) (AWord 1 ∷ Unset ∷ Address p ∷ []) (chosen (codes "Some") v)

@@ -1,5 +1,5 @@
 -- The functions, at scalars and values that are taken apart.
-use Rattle.std.proofs.Common.{◌≡◌, ℕ, ◌+◌, ◌<◌, ◌^◌, Bool, true, false, cond, nat_eq, nat_lt, IsTrue, Some, None, List, [], ◌∷◌, length, ⊎_elim, if◌then◌else◌, refl, sym, ap, ◌∙◌, subst, arith}
+use Rattle.std.proofs.Common.{◌≡◌, ℕ, ◌+◌, ◌<◌, ◌≤◌, ◌^◌, Bool, true, false, cond, nat_eq, nat_lt, IsTrue, Some, None, List, [], ◌∷◌, length, ⊎_elim, if◌then◌else◌, refl, sym, ap, ◌∙◌, subst, arith}
 use Rattle.std.specs.Prelude.{slice_set}
 use Rattle.std.specs.FinMap as map
 use Rattle.std.specs.FinMap.{FinMap}
@@ -58,15 +58,15 @@ module _ (world : HeapWorld) (s : Stored) (t : Tau) (us : List Scalar) (f : Fine
   }
 
   -- the allocator is given back, and a cell is freed
-  pub gives_state : (p q : ℕ) (bs : List Bool) → ((x : ℕ) → Writes s t us x ≡ one_if (nat_eq q x) + one_if (nat_eq p x)) → cell_at s p ≡ Some (Answers bs)
+  pub gives_state : (p q : ℕ) (bs : List Bool) → ((x : ℕ) → Writes s t us x ≡ one_if (nat_eq q x) + one_if (nat_eq p x)) → 1 ≤ p → cell_at s p ≡ Some (Answers bs)
       → Does world s t us (freed_at p q s) state (answers bs)
-  gives_state p q bs own e =
+  gives_state p q bs own i e =
       let h = heap_of s in
       let h' = heap_of (without_cell q s) in
       let is : IsWritten h q None h' = get_remove s.cells q in
       let near = write_near h h' s.top q None (foot h W t us) (foot h R t us) (λ x. one_if (nat_eq p x)) f own is p (rw (eq_self p) (omega arith)) in
       record {
-        holds = is_state world h' p bs (near ∙ e);
+        holds = is_state world h' p bs i (near ∙ e);
         step = step_free h h' s.top q (foot h W t us) (foot h R t us) (λ x. one_if (nat_eq p x)) f own is
             (foot h' W state (Address p ∷ [])) (foot h' R state (Address p ∷ [])) (λ x. (state_foot h' p x).0) (λ x. (state_foot h' p x).1);
       }
@@ -95,9 +95,9 @@ array_foot h w p q = (refl, refl)
 
 -- an array is given back, with an element written
 pub gives_array : (world : HeapWorld) (s : Stored) (t : Tau) (us : List Scalar) (f : Fine s t us) (w : Word) (p i n : ℕ) (ns : List ℕ)
-    → ((q : ℕ) → Writes s t us q ≡ one_if (nat_eq p q) + 0) → cell_at s p ≡ Some (Words ns) → IsTrue (is_array w (elements ns)) → n < 2 ^ bits w
+    → ((q : ℕ) → Writes s t us q ≡ one_if (nat_eq p q) + 0) → 1 ≤ p → cell_at s p ≡ Some (Words ns) → IsTrue (is_array w (elements ns)) → n < 2 ^ bits w
     → Does world s t us (kept (Address p ∷ []) (changed (with_element i n) p s)) (array (word w)) (elements (slice_set ns i n))
-gives_array world s t us f w p i n ns own e a k =
+gives_array world s t us f w p i n ns own above e a k =
     subst (λ s'. Does world s t us (kept (Address p ∷ []) s') (array (word w)) (elements (slice_set ns i n)))
     (sym (ap (λ o. in_place p (in_cell (with_element i n) o) s) e ∙ set_store (nat_lt i (length ns)) p (Words (slice_set ns i n)) s))
     (set_does (set_cells (nat_lt i (length ns)) p (Words (slice_set ns i n)) s) (set_written (nat_lt i (length ns)) p i n ns s refl e))
@@ -107,7 +107,7 @@ gives_array world s t us f w p i n ns own e a k =
     set_does m is =
         let h' : Heap = λ q. map.get m q in
         record {
-          holds = is_an_array world h' w p (slice_set ns i n) (written_here (heap_of s) h' p (Some (Words (slice_set ns i n))) is) (set_is_array w ns i n a k);
+          holds = is_an_array world h' w p (slice_set ns i n) above (written_here (heap_of s) h' p (Some (Words (slice_set ns i n))) is) (set_is_array w ns i n a k);
           step = step_write (heap_of s) h' s.top p (Some (Words (slice_set ns i n))) (foot (heap_of s) W t us) (foot (heap_of s) R t us) (λ q. 0) f own is
               (foot h' W (array (word w)) (Address p ∷ [])) (foot h' R (array (word w)) (Address p ∷ []))
               (λ q. let x = array_foot h' w p q in let y = own q in array_writes (foot h' W (array (word w)) (Address p ∷ []) q) (one_if (nat_eq p q)) (Writes s t us q) x.0 y) (λ q. (array_foot h' w p q).1);

@@ -1,5 +1,5 @@
 -- The functions on an array that is there: Length, Get and Put.
-use Rattle.std.proofs.Common.{◌≡◌, ℕ, ◌+◌, ◌<◌, ◌^◌, IsTrue, Some, List, [], ◌∷◌, codes, length, get_or, refl, sym, ap, ◌∙◌, subst, arith}
+use Rattle.std.proofs.Common.{◌≡◌, ℕ, ◌+◌, ◌<◌, ◌≤◌, ◌^◌, IsTrue, Some, List, [], ◌∷◌, codes, length, get_or, refl, sym, ap, ◌∙◌, subst, arith}
 use Rattle.std.specs.Prelude.{slice_set}
 use Rattle.cg_base.specs.declared.fun.Lib.TheVariants.{Length, Get, Put}
 use Rattle.cg_base.specs.declared.kind.Sigil.TheVariants.{R, W}
@@ -94,14 +94,14 @@ module _ (world : HeapWorld) (s : Stored) where
       (get_at w (address_of x.one) (number_of x.two) a.1.0 a.1.1 a.1.3)
 
   -- Put, at an array's address and two numbers
-  put_at : (w : Word) (p i n : ℕ) (ns : List ℕ) → cell_at s p ≡ Some (Words ns) → IsTrue (is_array w (elements ns)) → n < 2 ^ bits w
+  put_at : (w : Word) (p i n : ℕ) (ns : List ℕ) → 1 ≤ p → cell_at s p ≡ Some (Words ns) → IsTrue (is_array w (elements ns)) → n < 2 ^ bits w
       → Fine s (triple (array (word w)) (word U32) (word w)) (Address p ∷ AWord i ∷ AWord n ∷ [])
       → Does world s (triple (array (word w)) (word U32) (word w)) (Address p ∷ AWord i ∷ AWord n ∷ []) (kept (Address p ∷ []) (changed (with_element i n) p s)) (array (word w)) (elements (slice_set ns i n))
-  put_at w p i n ns e a k f =
+  put_at w p i n ns above e a k f =
       gives_array world s (triple (array (word w)) (word U32) (word w)) (Address p ∷ AWord i ∷ AWord n ∷ []) f w p i n ns
       (λ q. let x = triple_foot (heap_of s) (array (word w)) (word U32) (word w) (Address p) (AWord i) (AWord n) (sym (array_slot w)) (sym (word_slot U32)) (sym (word_slot w)) q in
       let b = (array_foot (heap_of s) w p q).0 in let c = (word_foot (heap_of s) U32 (AWord i ∷ []) q).0 in let d = (word_foot (heap_of s) w (AWord n ∷ []) q).0 in sums _ _ _ _ _ x b c d)
-      e a k
+      above e a k
     where
       sums : (a b c d x : ℕ) → a ≡ b + c + d → b ≡ x → c ≡ 0 → d ≡ 0 → a ≡ x + 0
       sums a b c d x e f g i = omega arith
@@ -119,4 +119,4 @@ module _ (world : HeapWorld) (s : Stored) where
       us (Address (address_of x.one) ∷ AWord (number_of x.two) ∷ AWord (number_of x.three) ∷ []) v
       (parts (values.more (elements a.1.0) (values.more (number (number_of x.two)) (values.more (number (number_of x.three)) values.none))))
       (x.are_scalars ∙ three_scalars _ _ _ _ _ _ a.0 b.0 c.0) (x.is_value ∙ three_values _ _ _ _ _ _ a.1.2 b.2 c.2)
-      (put_at w (address_of x.one) (number_of x.two) (number_of x.three) a.1.0 a.1.1 a.1.3 c.1)
+      (put_at w (address_of x.one) (number_of x.two) (number_of x.three) a.1.0 a.1.4 a.1.1 a.1.3 c.1)

@@ -1,5 +1,5 @@
 -- The functions that take an allocator: New, Free, Create and FreeArray.
-use Rattle.std.proofs.Common.{◌≡◌, ℕ, zero, suc, ◌+◌, Bool, ◌&&◌, nat_eq, nat_le, Some, List, [], ◌∷◌, length, drop, replicate, refl, sym, ap, ◌∙◌, subst, arith}
+use Rattle.std.proofs.Common.{◌≡◌, ℕ, zero, suc, ◌+◌, ◌≤◌, Bool, ◌&&◌, nat_eq, nat_le, Some, List, [], ◌∷◌, length, drop, replicate, refl, sym, ap, ◌∙◌, subst, arith}
 use Rattle.std.proofs.lemmas.Bool.{and_parts}
 use Rattle.std.proofs.lemmas.List.{length-replicate}
 use Rattle.cg_base.specs.declared.fun.Lib.TheVariants.{New, Free, Create, FreeArray}
@@ -62,11 +62,11 @@ module _ (world : HeapWorld) (h : Heap) where
   )
 
   -- a cell of unset slots represents a record of which all fields are gone
-  new_holds : (ps : Parts) (a : ℕ) → h a ≡ Some (Slots (replicate (slots_of_parts ps) Unset)) → Holds world h (fields (all_parts_taken ps) W) (Address a ∷ []) (new_record (fields ps W))
+  new_holds : (ps : Parts) (a : ℕ) → 1 ≤ a → h a ≡ Some (Slots (replicate (slots_of_parts ps) Unset)) → Holds world h (fields (all_parts_taken ps) W) (Address a ∷ []) (new_record (fields ps W))
   unfolding Holds new_record
-  new_holds ps a e = (
+  new_holds ps a i e = (
     to_vals (replicate (length (piece_list ps)) gone),
-    (refl, e ∙ ap (λ o. Some (Slots (slots_in o))) (sym e)),
+    ((refl, i), e ∙ ap (λ o. Some (Slots (slots_in o))) (sym e)),
     subst (λ o. HoldsAll world h (all_parts_taken ps) (slots_in o) (to_vals (replicate (length (piece_list ps)) gone))) (sym e) (new_fields ps),
     refl,
   )
@@ -95,21 +95,21 @@ plus_zero x y e = omega arith
 module _ (world : HeapWorld) (s : Stored) where
   -- an address, where an allocator is represented
   pub one_address : (us : List Scalar) (v : Val) → Holds world (heap_of s) state us v
-      → (p : ℕ) × (bs : List Bool) × (us ≡ Address p ∷ []) × (v ≡ answers bs) × (cell_at s p ≡ Some (Answers bs))
+      → (p : ℕ) × (bs : List Bool) × (us ≡ Address p ∷ []) × (v ≡ answers bs) × (cell_at s p ≡ Some (Answers bs)) × (1 ≤ p)
   one_address us v r =
       let e = one_scalar us (holds_slots world (heap_of s) state us v r ∙ sym state_slots) in
       let x = state_is world (heap_of s) (head us) v (subst (λ us. Holds world (heap_of s) state us v) e r) in
-      (address_of (head us), x.1.0, e ∙ ap (λ u. u ∷ []) x.0, x.1.2, x.1.1)
+      (address_of (head us), x.1.0, e ∙ ap (λ u. u ∷ []) x.0, x.1.2, x.1.1, x.1.3)
 
   -- New, at an allocator's address
-  new_at : (ps : Parts) (p : ℕ) (bs : List Bool) → cell_at s p ≡ Some (Answers bs) → Fine s state (Address p ∷ [])
+  new_at : (ps : Parts) (p : ℕ) (bs : List Bool) → 1 ≤ p → cell_at s p ≡ Some (Answers bs) → Fine s state (Address p ∷ [])
       → Does world s state (Address p ∷ []) (granted p (next_at p s) (fresh.Slots (slots_of_parts ps)) (changed without_answer p s)) (pair state (maybe (fields (all_parts_taken ps) W)))
       (answered bs (next_answer bs) (new_record (fields ps W)))
-  new_at ps p bs e f =
+  new_at ps p bs above e f =
       subst (λ b. Does world s state (Address p ∷ []) (granted p b (fresh.Slots (slots_of_parts ps)) (changed without_answer p s)) (pair state (maybe (fields (all_parts_taken ps) W))) (answered bs (next_answer bs) (new_record (fields ps W))))
       (sym (next_is p bs s e))
-      (allocates world s state (Address p ∷ []) f (fields (all_parts_taken ps) W) (record_slot (all_parts_taken ps)) p (λ q. plus_zero _ _ (state_foot (heap_of s) p q).0) bs e (next_answer bs)
-      (fresh.Slots (slots_of_parts ps)) (new_record (fields ps W)) (λ k h a i. (new_holds world h ps a i, λ q. taken_foot h ps a q)))
+      (allocates world s state (Address p ∷ []) f (fields (all_parts_taken ps) W) (record_slot (all_parts_taken ps)) p above (λ q. plus_zero _ _ (state_foot (heap_of s) p q).0) bs e (next_answer bs)
+      (fresh.Slots (slots_of_parts ps)) (new_record (fields ps W)) (λ k h a j i. (new_holds world h ps a j i, λ q. taken_foot h ps a q)))
 
   -- New
   pub new_does : (ps : Parts) (args : List Tau) (us : List Scalar) (v : Val) → Holds world (heap_of s) state us v → Fine s state us
@@ -118,15 +118,15 @@ module _ (world : HeapWorld) (s : Stored) where
   new_does ps args us v r =
       let x = one_address us v r in
       at_both (λ us v. Fine s state us → Does world s state us (library_heap New (fields ps W ∷ args) us s) (pair state (maybe (fields (all_parts_taken ps) W))) (library_value New (fields ps W ∷ args) v))
-      us (Address x.0 ∷ []) v (answers x.1) x.2 x.3 (new_at ps x.0 x.1 x.4)
+      us (Address x.0 ∷ []) v (answers x.1) x.2 x.3 (new_at ps x.0 x.1 x.5 x.4)
 
   -- a pair of an allocator and what is owned
   -- Free and FreeArray, at two addresses
-  free_at : (t : Tau) → 1 ≡ slots t → (p q : ℕ) (bs : List Bool) → ((x : ℕ) → foot (heap_of s) W t (Address q ∷ []) x ≡ one_if (nat_eq q x)) → cell_at s p ≡ Some (Answers bs)
+  free_at : (t : Tau) → 1 ≡ slots t → (p q : ℕ) (bs : List Bool) → ((x : ℕ) → foot (heap_of s) W t (Address q ∷ []) x ≡ one_if (nat_eq q x)) → 1 ≤ p → cell_at s p ≡ Some (Answers bs)
       → Fine s (pair state t) (Address p ∷ Address q ∷ []) → Does world s (pair state t) (Address p ∷ Address q ∷ []) (library_heap Free [] (Address p ∷ Address q ∷ []) s) state (answers bs)
-  free_at t n p q bs own e f =
+  free_at t n p q bs own above e f =
       gives_state world s (pair state t) (Address p ∷ Address q ∷ []) f p q bs
-      (λ x. let a = (pair_foot (heap_of s) state t (Address p) (Address q ∷ []) state_slots n x).0 in let b = (state_foot (heap_of s) p x).0 in let c = own x in sums _ _ _ _ _ a b c) e
+      (λ x. let a = (pair_foot (heap_of s) state t (Address p) (Address q ∷ []) state_slots n x).0 in let b = (state_foot (heap_of s) p x).0 in let c = own x in sums _ _ _ _ _ a b c) above e
     where
       sums : (a b c x y : ℕ) → a ≡ b + c → b ≡ x → c ≡ y → a ≡ y + x
       sums a b c x y e f g = omega arith
@@ -142,7 +142,7 @@ module _ (world : HeapWorld) (s : Stored) where
       at_both (λ us v. Fine s (pair state (fields (all_parts_taken ps) W)) us → Does world s (pair state (fields (all_parts_taken ps) W)) us (library_heap Free args us s) state (library_value Free args v))
       us (Address (address_of x.one) ∷ Address (address_of x.two) ∷ []) v (forms.pair (answers a.1.0) x.value_two)
       (x.are_scalars ∙ two_are _ _ _ _ a.0 b) (x.is_value ∙ ap (λ v. forms.pair v x.value_two) a.1.2)
-      (free_at (fields (all_parts_taken ps) W) (sym (record_slot (all_parts_taken ps))) (address_of x.one) (address_of x.two) a.1.0 (λ q. (taken_foot (heap_of s) ps (address_of x.two) q).0) a.1.1)
+      (free_at (fields (all_parts_taken ps) W) (sym (record_slot (all_parts_taken ps))) (address_of x.one) (address_of x.two) a.1.0 (λ q. (taken_foot (heap_of s) ps (address_of x.two) q).0) a.1.3 a.1.1)
 
   -- FreeArray
   pub free_array_does : (w : Word) (args : List Tau) (us : List Scalar) (v : Val) → Holds world (heap_of s) (pair state (array (word w))) us v → Fine s (pair state (array (word w))) us
@@ -155,21 +155,21 @@ module _ (world : HeapWorld) (s : Stored) where
       at_both (λ us v. Fine s (pair state (array (word w))) us → Does world s (pair state (array (word w))) us (library_heap FreeArray args us s) state (library_value FreeArray args v))
       us (Address (address_of x.one) ∷ Address (address_of x.two) ∷ []) v (forms.pair (answers a.1.0) x.value_two)
       (x.are_scalars ∙ two_are _ _ _ _ a.0 b.0) (x.is_value ∙ ap (λ v. forms.pair v x.value_two) a.1.2)
-      (free_at (array (word w)) (sym (array_slot w)) (address_of x.one) (address_of x.two) a.1.0 (λ q. (array_foot (heap_of s) w (address_of x.two) q).0) a.1.1)
+      (free_at (array (word w)) (sym (array_slot w)) (address_of x.one) (address_of x.two) a.1.0 (λ q. (array_foot (heap_of s) w (address_of x.two) q).0) a.1.3 a.1.1)
 
   -- Create, at an allocator's address and a number
-  create_at : (w : Word) (p n : ℕ) (bs : List Bool) → cell_at s p ≡ Some (Answers bs) → Fine s (pair state (word U32)) (Address p ∷ AWord n ∷ [])
+  create_at : (w : Word) (p n : ℕ) (bs : List Bool) → 1 ≤ p → cell_at s p ≡ Some (Answers bs) → Fine s (pair state (word U32)) (Address p ∷ AWord n ∷ [])
       → Does world s (pair state (word U32)) (Address p ∷ AWord n ∷ []) (granted p (next_at p s && nat_le n most_elements) (fresh.Words n) (changed without_answer p s)) (pair state (maybe (array (word w))))
       (answered bs (makes_array bs n) (elements (replicate n 0)))
-  create_at w p n bs e f =
+  create_at w p n bs above e f =
       subst (λ b. Does world s (pair state (word U32)) (Address p ∷ AWord n ∷ []) (granted p (b && nat_le n most_elements) (fresh.Words n) (changed without_answer p s)) (pair state (maybe (array (word w))))
       (answered bs (makes_array bs n) (elements (replicate n 0))))
       (sym (next_is p bs s e))
-      (allocates world s (pair state (word U32)) (Address p ∷ AWord n ∷ []) f (array (word w)) (array_slot w) p
+      (allocates world s (pair state (word U32)) (Address p ∷ AWord n ∷ []) f (array (word w)) (array_slot w) p above
       (λ q. let a = (pair_foot (heap_of s) state (word U32) (Address p) (AWord n ∷ []) state_slots (sym (word_slot U32)) q).0 in
       let b = (state_foot (heap_of s) p q).0 in let c = (word_foot (heap_of s) U32 (AWord n ∷ []) q).0 in sums _ _ _ _ a b c)
       bs e (makes_array bs n) (fresh.Words n) (elements (replicate n 0))
-      (λ k h a i. (is_an_array world h w a (replicate n 0) i (new_is_array w n (and_parts (next_answer bs) (nat_le n most_elements) k).1), λ q. array_foot h w a q)))
+      (λ k h a j i. (is_an_array world h w a (replicate n 0) j i (new_is_array w n (and_parts (next_answer bs) (nat_le n most_elements) k).1), λ q. array_foot h w a q)))
     where
       sums : (a b c x : ℕ) → a ≡ b + c → b ≡ x → c ≡ 0 → a ≡ x + 0
       sums a b c x e f g = omega arith
@@ -185,4 +185,4 @@ module _ (world : HeapWorld) (s : Stored) where
       at_both (λ us v. Fine s (pair state (word U32)) us → Does world s (pair state (word U32)) us (library_heap Create args us s) (pair state (maybe (array (word w)))) (library_value Create args v))
       us (Address (address_of x.one) ∷ AWord (number_of x.two) ∷ []) v (forms.pair (answers a.1.0) (number (number_of x.two)))
       (x.are_scalars ∙ two_are _ _ _ _ a.0 b.0) (x.is_value ∙ ap (λ v. forms.pair v x.value_two) a.1.2 ∙ ap (λ w. forms.pair (answers a.1.0) w) b.2)
-      (create_at w (address_of x.one) (number_of x.two) a.1.0 a.1.1)
+      (create_at w (address_of x.one) (number_of x.two) a.1.0 a.1.3 a.1.1)

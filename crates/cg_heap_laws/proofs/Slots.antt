@@ -20,11 +20,11 @@ module _ (world : HeapWorld) (h : Heap) where
     holds_slots (word w) us v r = ap length r.0
     holds_slots bool us v r = ap length r.0
     holds_slots (arrow a b) us v r = ap length r.0
-    holds_slots (abs name args sigil) us v r = ap length r.1
+    holds_slots (abs name args sigil) us v r = ap length r.1.0
     holds_slots (variant ps) us v r = let e = ap length r.2 in let f = r.3 in omega arith
     holds_slots (fields ps U) us v r = holds_all_slots ps us r.0 r.2
-    holds_slots (fields ps R) us v r = ap length r.1.0
-    holds_slots (fields ps W) us v r = ap length r.1.0
+    holds_slots (fields ps R) us v r = ap length r.1.0.0
+    holds_slots (fields ps W) us v r = ap length r.1.0.0
 
     -- and what represents fields as many as these have
     pub holds_all_slots : (ps : Parts) (us : List Scalar) (vs : Vals) → HoldsAll world h ps us vs → length us ≡ slots_of_parts ps

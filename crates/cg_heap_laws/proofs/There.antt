@@ -1,4 +1,4 @@
--- What is reached is there.
+-- What is reached is there, and isn't the null address.
 use Rattle.std.proofs.Common.{◌≡◌, ℕ, zero, suc, ◌+◌, ◌≤◌, Bool, true, false, nat_eq, IsTrue, Option, Some, None, List, take, drop, ◌⊎◌, ⊎_elim, refl, subst, arith, eqb-true}
 use Rattle.std.specs.Option.{IsSome}
 use Rattle.cg_base.specs.declared.kind.Sigil.{Sigil}
@@ -44,16 +44,21 @@ module _ (world : HeapWorld) where
   stands_some name _ None v r = absurd r
 
   module _ (h : Heap) where
-    boxed_there : (s : Sigil) (us : List Scalar) → IsTrue (is_boxed s) → IsBoxed h s us → IsSome (h (first_address us))
+    -- an address other than the null address, with a cell
+    abbrev IsThere : ℕ → Type 0
+    IsThere q = (1 ≤ q) × IsSome (h q)
+
+    -- so is that of a boxed record
+    boxed_there : (s : Sigil) (us : List Scalar) → IsTrue (is_boxed s) → IsBoxed h s us → IsThere (first_address us)
     boxed_there U us b x = absurd (cc)
-    boxed_there R us b x = some_is _ _ x.1
-    boxed_there W us b x = some_is _ _ x.1
+    boxed_there R us b x = (x.0.1, some_is _ _ x.1)
+    boxed_there W us b x = (x.0.1, some_is _ _ x.1)
 
     mutual
       unfolding Holds foot
 
-      -- each address that a value reaches has a cell
-      pub foot_there : (t : Tau) (us : List Scalar) (v : Val) → Holds world h t us v → (m : Sigil) (q : ℕ) → 1 ≤ foot h m t us q → IsSome (h q)
+      -- so is each address that a value reaches
+      pub foot_there : (t : Tau) (us : List Scalar) (v : Val) → Holds world h t us v → (m : Sigil) (q : ℕ) → 1 ≤ foot h m t us q → IsThere q
       foot_there (var n) us v r m q k = absurd r
       foot_there (seen n) us v r m q k = absurd r
       foot_there unit us v r m q k = absurd (omega arith)
@@ -62,15 +67,15 @@ module _ (world : HeapWorld) where
       foot_there (arrow a b) us v r m q k = absurd (omega arith)
       foot_there (abs name args s) us v r m q k =
           let p = counted_is m s (first_address us) q k in
-          subst (λ q. IsSome (h q)) p.1 (stands_some name args (h (first_address us)) v r.2)
+          subst (λ q. IsThere q) p.1 (r.1.1, stands_some name args (h (first_address us)) v r.2)
       foot_there (variant ps) us v r m q k = foot_at_there ps (first_number us) (tail us) r.0 r.1 r.4 m q k
       foot_there (fields ps s) us v r m q k = ⊎_elim
-          (λ k. let p = counted_is m s (first_address us) q k in subst (λ q. IsSome (h q)) p.1 (boxed_there s us p.0 r.1))
+          (λ k. let p = counted_is m s (first_address us) q k in subst (λ q. IsThere q) p.1 (boxed_there s us p.0 r.1))
           (λ k. foot_all_there ps (inner h s us) r.0 r.2 m q k)
           (either (counted m s (first_address us) q) (foot_all h m ps (inner h s us) q) k)
 
       -- and each that fields reach
-      pub foot_all_there : (ps : Parts) (us : List Scalar) (vs : Vals) → HoldsAll world h ps us vs → (m : Sigil) (q : ℕ) → 1 ≤ foot_all h m ps us q → IsSome (h q)
+      pub foot_all_there : (ps : Parts) (us : List Scalar) (vs : Vals) → HoldsAll world h ps us vs → (m : Sigil) (q : ℕ) → 1 ≤ foot_all h m ps us q → IsThere q
       foot_all_there end us vs r m q k = absurd (omega arith)
       foot_all_there (part name t taken ps) us values.none r m q k = absurd r
       foot_all_there (part name t true ps) us (values.more v vs) r m q k = foot_all_there ps (drop (slots t) us) vs r.2 m q k
@@ -80,7 +85,7 @@ module _ (world : HeapWorld) where
           (either (foot h m t (take (slots t) us) q) (foot_all h m ps (drop (slots t) us) q) k)
 
       -- and each that an alternative reaches
-      pub foot_at_there : (ps : Parts) (i : ℕ) (us : List Scalar) (x : List ℕ) (v : Val) → HoldsAt world h ps i us x v → (m : Sigil) (q : ℕ) → 1 ≤ foot_at h m ps i us q → IsSome (h q)
+      pub foot_at_there : (ps : Parts) (i : ℕ) (us : List Scalar) (x : List ℕ) (v : Val) → HoldsAt world h ps i us x v → (m : Sigil) (q : ℕ) → 1 ≤ foot_at h m ps i us q → IsThere q
       foot_at_there end i us x v r m q k = absurd r
       foot_at_there (part name t true ps) zero us x v r m q k = absurd (omega arith)
       foot_at_there (part name t false ps) zero us x v r m q k = foot_there t (take (slots t) us) v r.2 m q k

@@ -35,11 +35,11 @@ FootprintsSuffice =
     → ((q : ℕ) → 1 ≤ foot h W t us q + foot h R t us q → h' q ≡ h q)
     → Holds world h' t us v × ((m : Sigil) (q : ℕ) → foot h' m t us q ≡ foot h m t us q)
 
--- each address that a value reaches has a cell
+-- each address that a value reaches has a cell, and isn't the null address
 abbrev pub FootprintsAreThere : Type 0
 FootprintsAreThere =
     (world : HeapWorld) (h : Heap) (t : Tau) (us : List Scalar) (v : Val) → Holds world h t us v
-    → (m : Sigil) (q : ℕ) → 1 ≤ foot h m t us q → IsSome (h q)
+    → (m : Sigil) (q : ℕ) → 1 ≤ foot h m t us q → (1 ≤ q) × IsSome (h q)
 
 -- a record of two boxed records, of which the first is written
 abbrev pub boxed_pair : List ℕ → Parts → List ℕ → Parts → Sigil → Tau

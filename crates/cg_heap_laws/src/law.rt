@@ -16,7 +16,7 @@ pub fn footprints_suffice()
     ensures { FootprintsSuffice }
 {}
 
-/// Each address that a value reaches has a cell.
+/// Each address that a value reaches has a cell, and isn't the null address.
 pub fn footprints_are_there()
     ensures { FootprintsAreThere }
 {}

@@ -61,11 +61,11 @@ module _ (world : HeapWorld) (h : Heap) where
     holds_slots (word w) us v k = ap length k.0
     holds_slots bool us v k = ap length k.0
     holds_slots (arrow a b) us v k = ap length k.0
-    holds_slots (abs name ts s) us v k = ap length k.1
+    holds_slots (abs name ts s) us v k = ap length k.1.0
     holds_slots (variant ps) us v k = one_more (length us) (length (tail us)) (slots_of_parts ps) (ap length k.2) k.3
     holds_slots (fields ps U) us v k = all_slots ps us k.0 k.2
-    holds_slots (fields ps R) us v k = ap length k.1.0
-    holds_slots (fields ps W) us v k = ap length k.1.0
+    holds_slots (fields ps R) us v k = ap length k.1.0.0
+    holds_slots (fields ps W) us v k = ap length k.1.0.0
 
     pub all_slots : (ps : Parts) (us : List Scalar) (vs : Vals) → HoldsAll world h ps us vs → length us ≡ slots_of_parts ps
     all_slots end us values.none k = ap length k
@@ -91,13 +91,13 @@ module _ (world : HeapWorld) (h : Heap) where
       holds_machine bool us v k = ap (is_number_below 2) k.0 ∙ lt-ltb _ _ k.1
       holds_machine (arrow a b) us v k =
           ap (is_place_of types (arrow a b)) k.0 ∙ ap (λ o. is_type o (arrow a b)) (known (first_number us) v (arrow a b) k.1) ∙ same_self (arrow a b)
-      holds_machine (abs name ts s) us v k = ap is_address k.1
+      holds_machine (abs name ts s) us v k = ap is_address k.1.0
       holds_machine (variant ps) us v k =
           and_from (is_tagged us) _ (ap is_tagged k.2)
           (and_from (nat_eq (length (tail us)) (slots_of_parts ps)) _ (eq-eqb _ _ k.3) (holds_alternative ps (first_number us) (tail us) k.0 k.1 k.4))
       holds_machine (fields ps U) us v k = holds_machines ps us k.0 k.2
-      holds_machine (fields ps R) us v k = ap is_address k.1.0
-      holds_machine (fields ps W) us v k = ap is_address k.1.0
+      holds_machine (fields ps R) us v k = ap is_address k.1.0.0
+      holds_machine (fields ps W) us v k = ap is_address k.1.0.0
 
       holds_machines : (ps : Parts) (us : List Scalar) (vs : Vals) → HoldsAll world h ps us vs → are_machine types ps us ≡ true
       holds_machines end us values.none k = eq-eqb _ _ (ap length k)

@@ -13,6 +13,7 @@ use Rattle.cg_cmachine.proofs.Entries.{value_whole}
 use Rattle.cg_cmachine.proofs.Steps as steps
 use Rattle.cg_cmachine.proofs.Tops.{under_done}
 use Rattle.cg_cmachine.proofs.abstracts.ask.Goals as goal
+use Rattle.cg_heap.proofs.Tables.{rises_little}
 
 pub returns-in_err-value-clause-gives : goal.returns-in_err-value-clause-gives
 returns-in_err-value-clause-gives g c =
@@ -41,7 +42,7 @@ land-requires-clause-low g c =
     let gave : call c.args.values.items ≡ done (value_of c.in_ok-value.value) (state_of (g.S.Store.stored c.call_abstract.new.store) c.call_abstract.new.changes) c.in_ok-value.left =
     subst (λ (vs : List CValue). IsCalm (call vs) → call vs ≡ done (value_of c.in_ok-value.value) (state_of (g.S.Store.stored c.call_abstract.new.store) c.call_abstract.new.changes) c.in_ok-value.left) c.as_slice.ensures.value c.in_ok-value.ensures calm in
     let under = asking.asked_under r asked n c.args.function c.args.name.now (map value_of c.args.values.items) (state_of store m.changes) m.left
-    (λ us a. (g.met.X.ExternHeap.lawful_on_heaps c.args.table.now).rises_little c.args.name.now us store a) in
+    (λ us a. rises_little (g.met.X.ExternHeap.lawful_on_heaps c.args.table.now) c.args.name.now us store a) in
     asking.lower_by (call c.args.values.items) (value_of c.in_ok-value.value) store (state_of (g.S.Store.stored c.call_abstract.new.store) c.call_abstract.new.changes) m.left c.in_ok-value.left under gave c.requires.low
 
 pub returns-clause-gives : goal.returns-clause-gives
@@ -69,7 +70,7 @@ returns-clause-falls g c =
     let gave : call c.args.values.items ≡ done (value_of c.in_ok-value.value) (state_of (g.S.Store.stored c.call_abstract.new.store) c.call_abstract.new.changes) c.in_ok-value.left =
     subst (λ (vs : List CValue). IsCalm (call vs) → call vs ≡ done (value_of c.in_ok-value.value) (state_of (g.S.Store.stored c.call_abstract.new.store) c.call_abstract.new.changes) c.in_ok-value.left) c.as_slice.ensures.value c.in_ok-value.ensures calm in
     let under = asking.asked_under r asked n c.args.function c.args.name.now (map value_of c.args.values.items) (state_of store m.changes) m.left
-    (λ us a. (g.met.X.ExternHeap.lawful_on_heaps c.args.table.now).rises_little c.args.name.now us store a) in
+    (λ us a. rises_little (g.met.X.ExternHeap.lawful_on_heaps c.args.table.now) c.args.name.now us store a) in
     let few = (under_done (store.top + 65536) m.left (call c.args.values.items) (value_of c.in_ok-value.value) (state_of (g.S.Store.stored c.call_abstract.new.store) c.call_abstract.new.changes) c.in_ok-value.left under gave).1 in
     asking.falls_less c.land.result c.land.new.m m.left c.in_ok-value.left (length m.stack.items) few c.land.ensures.falls
 
@@ -85,7 +86,7 @@ returns-clause-within g c =
     let gave : call c.args.values.items ≡ done (value_of c.in_ok-value.value) (state_of (g.S.Store.stored c.call_abstract.new.store) c.call_abstract.new.changes) c.in_ok-value.left =
     subst (λ (vs : List CValue). IsCalm (call vs) → call vs ≡ done (value_of c.in_ok-value.value) (state_of (g.S.Store.stored c.call_abstract.new.store) c.call_abstract.new.changes) c.in_ok-value.left) c.as_slice.ensures.value c.in_ok-value.ensures calm in
     let under = asking.asked_under r asked n c.args.function c.args.name.now (map value_of c.args.values.items) (state_of store m.changes) m.left
-    (λ us a. (g.met.X.ExternHeap.lawful_on_heaps c.args.table.now).rises_little c.args.name.now us store a) in
+    (λ us a. rises_little (g.met.X.ExternHeap.lawful_on_heaps c.args.table.now) c.args.name.now us store a) in
     let few = (under_done (store.top + 65536) m.left (call c.args.values.items) (value_of c.in_ok-value.value) (state_of (g.S.Store.stored c.call_abstract.new.store) c.call_abstract.new.changes) c.in_ok-value.left under gave).1 in
     let same = c.land.ensures.within in
     omega (arith, few, same)
