@@ -1,5 +1,5 @@
 -- What the C of a list of instances promises (docs/LANGUAGE.md, "The C of instances").
-use Rattle.std.specs.Prelude.{◌≡◌, ℕ, ◌+◌, ◌*◌, ◌^◌, ◌<◌, ◌≤◌, true, List, length, slice_get, Some, None, Contains}
+use Rattle.std.specs.Prelude.{◌≡◌, ℕ, ◌+◌, ◌*◌, ◌^◌, ◌<◌, ◌≤◌, true, List, length, slice_get, Some, None, ◌∷◌, Contains}
 use Rattle.std.specs.List.{AllByRecursion, list_any}
 use Rattle.cg_base.specs.declared.fun.Fun.TheVariants.{User, Lib as OfLib}
 use Rattle.cg_base.specs.declared.fun.Lib.{Lib}
@@ -12,6 +12,7 @@ use Rattle.cg_cmachine_def.specs.Outcomes.{done}
 use Rattle.cg_cmachine_def.specs.Runs.{Linked, crun, linked_to}
 use Rattle.cg_ctree.specs.declared.tree.CStruct.{CStruct}
 use Rattle.cg_heap.specs.declared.cell.Scalar.{Scalar}
+use Rattle.cg_heap.specs.declared.cell.Scalar.TheVariants.{Word}
 use Rattle.cg_heap.specs.declared.foreign.Link.{Link}
 use Rattle.cg_heap.specs.Stored.{Stored}
 use Rattle.cg_eval_def.specs.Foreigns.{is_known}
@@ -20,12 +21,13 @@ use Rattle.cg_typing.specs.Instances.{AreInstances, Entry, Instance, IsGood, nod
 use Rattle.cg_typing.specs.Parts.{given_by, taken_by}
 use Rattle.cg_typing.specs.Rules.{type_at}
 use Rattle.cg_update.specs.Calls.{Program}
+use Rattle.cg_update.specs.Machines.{is_machine}
 use Rattle.cg_update.specs.Outcomes.{State}
 use Rattle.cg_update.specs.Updates.{Result, updated}
 use Rattle.cg_lower_def.specs.CTypes.{IsDeclared}
 use Rattle.cg_lower_def.specs.Functions.{Item, of_arrow, of_instance, linked_in, low_instance}
 use Rattle.cg_lower_def.specs.IteratorCode.{function_type}
-use Rattle.cg_lower_def.specs.Lowered.{Low, Whole, function_name}
+use Rattle.cg_lower_def.specs.Lowered.{Low, Whole, arrow_number, dispatch_name, function_name}
 
 -- a state of the update semantics as one of runs
 abbrev pub as_run : State → runs.State
@@ -87,8 +89,34 @@ Simulates p linked =
     → slice_get p.list k ≡ Some x → slice_get p.entries k ≡ Some e → e.body ≡ Some core → updated p n k us m ≡ Some r
     → (left : ℕ) × (crun linked (32 * r.cost + 32) (function_name k) us m ≡ done r.value (as_run r.state) left)
 
+-- So does the C of an instance of the library, of an iterator with all its turns.
+abbrev pub SimulatesLibrary : Program → Linked → Type 0
+SimulatesLibrary p linked =
+    (n k : ℕ) (x : Instance) (e : Entry) (lib : Lib) (us : List Scalar) (m : Stored) (r : Result)
+    → slice_get p.list k ≡ Some x → slice_get p.entries k ≡ Some e → x.fun ≡ OfLib lib → e.body ≡ None → updated p n k us m ≡ Some r
+    → (left : ℕ) × (crun linked (32 * r.cost + 32) (function_name k) us m ≡ done r.value (as_run r.state) left)
+
+-- And so does the function of an arrow type of calls, on the number of an instance of just that type and its argument: it gives what the
+-- function of this instance gives, where that is a machine value of its type.
+abbrev pub SimulatesDispatch : Program → Whole → Linked → Type 0
+SimulatesDispatch p whole linked =
+    (n k : ℕ) (e : Entry) (us : List Scalar) (m : Stored) (r : Result)
+    → list_any (λ t. same_type t e.ty) whole.arrows ≡ true → slice_get p.entries k ≡ Some e → updated p n k us m ≡ Some r → is_machine (types_of p) (given_by e.ty) r.value ≡ true
+    → (left : ℕ) × (crun linked (32 * r.cost + 32) (dispatch_name (arrow_number whole.arrows e.ty)) (Word k ∷ us) m ≡ done r.value (as_run r.state) left)
+
 -- the C of every list of instances does what the update semantics does
 abbrev pub LoweringSimulates : Type 0
 LoweringSimulates =
     (p : Program) (whole : Whole) (ss : List CStruct) (links : List Link) (order : List Item) → IsProgramOf p whole ss links order
     → Simulates p (linked_in whole ss p links order)
+
+-- and so do the C of the library's instances, and the functions of arrow types
+abbrev pub LibraryIsSimulated : Type 0
+LibraryIsSimulated =
+    (p : Program) (whole : Whole) (ss : List CStruct) (links : List Link) (order : List Item) → IsProgramOf p whole ss links order
+    → SimulatesLibrary p (linked_in whole ss p links order)
+
+abbrev pub DispatchIsSimulated : Type 0
+DispatchIsSimulated =
+    (p : Program) (whole : Whole) (ss : List CStruct) (links : List Link) (order : List Item) → IsProgramOf p whole ss links order
+    → SimulatesDispatch p whole (linked_in whole ss p links order)

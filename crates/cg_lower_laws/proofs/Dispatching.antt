@@ -1,6 +1,7 @@
 -- Calls of the function of an arrow type: it calls the function of the number that it is given.
-use Rattle.std.proofs.Common.{◌≡◌, ℕ, zero, suc, ◌+◌, ◌^◌, ◌<◌, ◌≤◌, Bool, true, false, ◌||◌, cond, nat_eq, Some, List, [], ◌∷◌, length, replicate, slice_get, refl, sym, ap, ◌∙◌, subst, arith}
-use Rattle.std.proofs.lemmas.Bool.{eqb-false, eqb-true}
+use Rattle.std.proofs.Common.{◌≡◌, ℕ, zero, suc, ◌+◌, ◌^◌, ◌<◌, ◌≤◌, Bool, true, false, ◌||◌, cond, nat_eq, Some, List, [], ◌∷◌, length, replicate, slice_get, take_all, refl, sym, ap, ◌∙◌, subst, arith}
+use Rattle.std.proofs.lemmas.Bool.{eqb-false, eqb-true, le-leb}
+use Rattle.std.proofs.lemmas.List.{drop_all}
 use Rattle.std.specs.List.{Contains, list_any}
 use Rattle.cg_base.specs.declared.kind.Word.TheVariants.{U32}
 use Rattle.cg_base.specs.Same.{same_type}
@@ -10,8 +11,9 @@ use Rattle.cg_cgen.proofs.Paths.{number_read}
 use Rattle.cg_cmachine_def.specs.Layouts.{Layout, cell, size}
 use Rattle.cg_cmachine_def.specs.Operands.{Value, typed as of_layout, Frame, give, judge, look, read}
 use Rattle.cg_cmachine_def.specs.Outcomes.{State, Outcome, ok, on, done, stuck, needs, astray, bind, lift}
-use Rattle.cg_cmachine_def.specs.Runs.{Linked, Flow, goes, back, Calls, calls_in, enter, find, judged_word, onward, returned, run_block, run_body, run_cases, run_frame, run_function, run_stmt, unset}
+use Rattle.cg_cmachine_def.specs.Runs.{Linked, Flow, goes, back, Calls, calls_in, enter, filled, find, judged_word, onward, returned, run_block, run_body, run_cases, run_frame, run_function, run_stmt, start, unset}
 use Rattle.cg_cmachine_def.specs.Targets.{with_scalars}
+use Rattle.cg_ctree.specs.declared.tree.CDecl.{CDecl}
 use Rattle.cg_ctree.specs.declared.tree.COpnd.{COpnd}
 use Rattle.cg_ctree.specs.declared.tree.COpnd.TheVariants.{Path}
 use Rattle.cg_ctree.specs.declared.tree.CRhs.TheVariants.{Call}
@@ -171,22 +173,27 @@ module _ (q : Linked) (whole : Whole) (entries : List Entry) (j k : ℕ) (t : Ta
     readable = readable_ws;
   }
 
-  -- a body with these cases
-  body_called : (ks : List ℕ) (m b b' : ℕ) → Contains ks k → b ≡ suc (suc (suc steps)) + b' → b ≤ m
-      → run_body q (calls_in q m) m (dispatch_of whole entries j t) (tag ∷ v ∷ []) s b (Some (dispatch_body whole t ks)) ≡ done (of_layout (lay_c q result) ws) s' b'
-  body_called [] m b b' h e le = absurd (omega (arith, h.1))
-  body_called (i ∷ ks) m b b' h e le =
-      ap (λ z. bind (run_frame q (calls_in q m) m (dispatch_of whole entries j t) (dispatch_body whole t (i ∷ ks)) z s b) (λ us after rest. done (of_layout (lay_c q result) us) after rest)) entered
-      ∙ ap (λ z. bind z (λ us after rest. done (of_layout (lay_c q result) us) after rest))
-      (subst (λ z. returned q (run_block q (calls_in q m) m (lay_c q result) (to_block (switch (Path (path argument [])) (dispatch_cases (i ∷ ks)) ∷ [])) begins s z) ≡ done ws s' b') first
+  -- a body with these cases, in the frame that a call or a run begins with
+  body_runs : (ks : List ℕ) (m b b' : ℕ) → Contains ks k → b ≡ suc (suc (suc steps)) + b' → b ≤ m
+      → run_frame q (calls_in q m) m (dispatch_of whole entries j t) (dispatch_body whole t ks) (ok begins) s b ≡ done ws s' b'
+  body_runs [] m b b' h e le = absurd (omega (arith, h.1))
+  body_runs (i ∷ ks) m b b' h e le =
+      subst (λ z. returned q (run_block q (calls_in q m) m (lay_c q result) (to_block (switch (Path (path argument [])) (dispatch_cases (i ∷ ks)) ∷ [])) begins s z) ≡ done ws s' b') first
       (ap (returned q) (switched q (calls_in q m) m (lay_c q result) (Path (path argument [])) k (i ∷ ks) begins s left number_judged h)
-      ∙ body_returns q whole.numbered (lay_c q result) case_low begins s s' ws (suc steps) case_ran m left b' refl (omega (arith, e, le))))
+      ∙ body_returns q whole.numbered (lay_c q result) case_low begins s s' ws (suc steps) case_ran m left b' refl (omega (arith, e, le)))
     where
       left : ℕ
       left = suc (suc steps) + b'
 
       first : suc left ≡ b
       first = omega (arith, e)
+
+  body_called : (ks : List ℕ) (m b b' : ℕ) → Contains ks k → b ≡ suc (suc (suc steps)) + b' → b ≤ m
+      → run_body q (calls_in q m) m (dispatch_of whole entries j t) (tag ∷ v ∷ []) s b (Some (dispatch_body whole t ks)) ≡ done (of_layout (lay_c q result) ws) s' b'
+  body_called [] m b b' h e le = absurd (omega (arith, h.1))
+  body_called (i ∷ ks) m b b' h e le =
+      ap (λ z. bind (run_frame q (calls_in q m) m (dispatch_of whole entries j t) (dispatch_body whole t (i ∷ ks)) z s b) (λ us after rest. done (of_layout (lay_c q result) us) after rest)) entered
+      ∙ ap (λ z. bind z (λ us after rest. done (of_layout (lay_c q result) us) after rest)) (body_runs (i ∷ ks) m b b' h e le)
 
   -- the function is called, where it is found and has a case of the number
   dispatch_called : find (dispatch_name j) q.program.functions ≡ Some (dispatch_of whole entries j t) → Contains (tags_from 0 t entries) k
@@ -204,3 +211,21 @@ module _ (q : Linked) (whole : Whole) (entries : List Entry) (j k : ℕ) (t : Ta
         by = λ m b b' e le.
             rw (own_dispatch q j (dispatch_of whole entries j t) (dispatch_body whole t (tags_from 0 t entries)) found refl) (dispatch_called found among m b b' e le);
       }
+
+  -- a whole run of the function, on the number and the argument
+  filled_by : (locals : List CDecl) → locals ≡ declared result (local_name 0) ∷ []
+      → filled q (declared (ty.Word U32) argument_name ∷ declared taken second_name ∷ []) locals (NumberScalar k ∷ us) ≡ ok begins
+  filled_by locals is =
+      rw (is, le-leb (size (lay_c q taken)) (length us) (omega (arith, sized_us)), drop_all (size (lay_c q taken)) us (omega (arith, sized_us)), take_all (size (lay_c q taken)) us (omega (arith, sized_us))) refl
+
+  runs_by : (ks : List ℕ) (n left : ℕ) → Contains ks k → n ≡ suc (suc (suc steps)) + left
+      → run_frame q (calls_in q n) n (dispatch_of whole entries j t) (dispatch_body whole t ks)
+      (filled q (declared (ty.Word U32) argument_name ∷ declared taken second_name ∷ []) (dispatch_body whole t ks).locals (NumberScalar k ∷ us)) s n ≡ done ws s' left
+  runs_by [] n left h e = absurd (omega (arith, h.1))
+  runs_by (i ∷ ks) n left h e =
+      ap (λ z. run_frame q (calls_in q n) n (dispatch_of whole entries j t) (dispatch_body whole t (i ∷ ks)) z s n) (filled_by (declared result (local_name 0) ∷ []) refl)
+      ∙ body_runs (i ∷ ks) n n left h e (omega arith)
+
+  pub dispatch_runs : find (dispatch_name j) q.program.functions ≡ Some (dispatch_of whole entries j t) → Contains (tags_from 0 t entries) k
+      → (n left : ℕ) → n ≡ suc (suc (suc steps)) + left → start q n (NumberScalar k ∷ us) s n (find (dispatch_name j) q.program.functions) ≡ done ws s' left
+  dispatch_runs found among n left e = ap (start q n (NumberScalar k ∷ us) s n) found ∙ runs_by (tags_from 0 t entries) n left among e

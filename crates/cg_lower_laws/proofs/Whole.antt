@@ -18,7 +18,7 @@ use Rattle.cg_cmachine_def.specs.Layouts.{Layout, cell, pointer, group, same_lay
 use Rattle.cg_cmachine_def.specs.Operands.{Frame, Value, literal, typed, give, scalars_of}
 use Rattle.cg_cmachine_def.specs.Outcomes as runs
 use Rattle.cg_cmachine_def.specs.Outcomes.{ok, no, done}
-use Rattle.cg_cmachine_def.specs.Runs.{Linked, call_abstract, find, state_behind}
+use Rattle.cg_cmachine_def.specs.Runs.{Linked, call_abstract, crun, find, state_behind}
 use Rattle.cg_ctree.specs.declared.tree.CStruct.{CStruct}
 use Rattle.cg_ctree.specs.declared.tree.CTy.{CTy}
 use Rattle.cg_ctree.specs.declared.why.Why.TheVariants.{KindsDiffer}
@@ -50,11 +50,11 @@ use Rattle.cg_lower_def.specs.IteratorCode.{function_type, low_iterator}
 use Rattle.cg_lower_def.specs.LibraryCode.{low_library, whole_argument}
 use Rattle.cg_lower_def.specs.Lowered.{Low, Whole, arrow_number, dispatch_name, function_name}
 use Rattle.cg_lower_def.specs.Places.{argument, argument_name}
-use Rattle.cg_lower_def.specs.Simulated.{as_run, IsCallable, IsProgramOf, IsReady, LoweringSimulates, Simulates}
+use Rattle.cg_lower_def.specs.Simulated.{as_run, DispatchIsSimulated, IsCallable, IsProgramOf, IsReady, LibraryIsSimulated, LoweringSimulates, Simulates, SimulatesDispatch, SimulatesLibrary}
 use Rattle.cg_lower_def.specs.Typed.{IsTyped}
 use Rattle.cg_lower_laws.proofs.Bodies.{begins, begins_fresh, begins_is, BodyRan, bodied, body_answers, body_runs}
 use Rattle.cg_lower_laws.proofs.Computing.{Called, CallsRun, ValuesRun}
-use Rattle.cg_lower_laws.proofs.Dispatching.{arrow_at, dispatch_answers, tagged}
+use Rattle.cg_lower_laws.proofs.Dispatching.{arrow_at, dispatch_answers, dispatch_runs, tagged}
 use Rattle.cg_lower_laws.proofs.Finding.{abstract_called, found_at, item_name, item_number, own_called}
 use Rattle.cg_lower_laws.proofs.Frames.{Is, is_kept, Keeps}
 use Rattle.cg_lower_laws.proofs.Inversions.{on_is, pay_for_is, same_rest, same_scalars, same_state, where_is}
@@ -439,6 +439,15 @@ module _ (p : Program) (whole : Whole) (ss : List CStruct) (links : List Link) (
 
   -- ---- calls of function values
 
+  -- the function of a listed type is found
+  dispatch_found : (t : Tau) → list_any (λ u. same_type u t) whole.arrows ≡ true
+      → find (dispatch_name (arrow_number whole.arrows t)) q.program.functions ≡ Some (dispatch_of whole p.entries (arrow_number whole.arrows t) t)
+  dispatch_found t listed =
+      let there_is = arrow_at t whole.arrows listed in
+      found_at (function_of_item whole p.entries) (named_item whole p.entries) order (of_arrow (arrow_number whole.arrows t)) (dispatch_of whole p.entries (arrow_number whole.arrows t) t) small
+      (is.arrows_placed (arrow_number whole.arrows t) (slice_get_within whole.arrows (arrow_number whole.arrows t) t there_is))
+      (ap (option_map (dispatch_of whole p.entries (arrow_number whole.arrows t))) there_is)
+
   -- a call of a listed type's function, by what the function of the instance does: it takes three steps more
   dispatched : (k : ℕ) (a b : Tau) (us ws : List Scalar) (s s' : State) (more left rest : ℕ) (tag v : Value) → list_any (λ u. same_type u (arrow a b)) whole.arrows ≡ true → types k ≡ Some (arrow a b)
       → is_machine types a us ≡ true → is_machine types b ws ≡ true → give (cell U32) tag ≡ ok (NumberScalar k ∷ []) → give (lay_of a) v ≡ ok us
@@ -456,13 +465,8 @@ module _ (p : Program) (whole : Whole) (ss : List CStruct) (links : List Link) (
       j : ℕ
       j = arrow_number whole.arrows (arrow a b)
 
-      there_is : slice_get whole.arrows j ≡ Some (arrow a b)
-      there_is = arrow_at (arrow a b) whole.arrows listed
-
       found_so : find (dispatch_name j) q.program.functions ≡ Some (dispatch_of whole p.entries j (arrow a b))
-      found_so =
-          found_at (function_of_item whole p.entries) (named_item whole p.entries) order (of_arrow j) (dispatch_of whole p.entries j (arrow a b)) small
-          (is.arrows_placed j (slice_get_within whole.arrows j (arrow a b) there_is)) (ap (option_map (dispatch_of whole p.entries j)) there_is)
+      found_so = dispatch_found (arrow a b) listed
 
       e : (e : Entry) × (slice_get p.entries k ≡ Some e) × (e.ty ≡ arrow a b)
       e = entry_is (slice_get p.entries k) (arrow a b) t
@@ -572,35 +576,123 @@ module _ (p : Program) (whole : Whole) (ss : List CStruct) (links : List Link) (
       let same : record { value = us; state = s; cost = n - left } ≡ r = cc in
       subst (Ends n (gives us s left)) same (record { left = left; gave = refl; cost = refl })
 
-  -- a run of an instance with a body
+  -- what an instance that is run gives, within a depth that is enough
+  record Given (n k : ℕ) (us : List Scalar) (m : Stored) (r : Result) : Type 0 where
+    left : ℕ
+    cost : r.cost ≡ n - left
+    machine : is_machine types (argument_of (types_of p k)) us ≡ true
+    gave : calls_within p (suc n) k us (starting m) n ≡ gives r.value r.state left
+
+  is_given : (n k : ℕ) (us : List Scalar) (m : Stored) (r : Result) → updated p n k us m ≡ Some r → Given n k us m r
+  unfolding updated
+  is_given n k us m r h =
+      let ends = ends_is n (outcome p n k us m) r h in
+      let runs_so = where_is (is_machine types (argument_of (types_of p k)) us) (calls_within p (suc n) k us (starting m) n) r.value r.state ends.left ends.gave in
+      record { left = ends.left; cost = ends.cost; machine = runs_so.0; gave = runs_so.1 }
+
+  module _ (n k : ℕ) (x : Instance) (e : Entry) (us : List Scalar) (m : Stored) (r : Result) (listed : slice_get p.list k ≡ Some x) (entry : slice_get p.entries k ≡ Some e)
+      (h : updated p n k us m ≡ Some r) where
+    given_here : Given n k us m r
+    given_here = is_given n k us m r h
+
+    machine_here : is_machine types (taken_by e.ty) us ≡ true
+    machine_here = subst (λ z. is_machine types (argument_of (option_map (λ (e : Entry). e.ty) z)) us ≡ true) entry given_here.machine
+
+    entered_here : entered_by p (calls_within p n) x e.ty e.body us (starting m) n ≡ gives r.value r.state given_here.left
+    unfolding calls_within
+    entered_here = entered_is (calls_within p n) k x e us r.value (starting m) r.state n given_here.left listed entry given_here.gave
+
+    all_here : AllRun (calls_within p n)
+    all_here = all_run n
+
+    -- a run of an instance whose statements end
+    ended_run : (more : ℕ) → more < 32 → Ended k x e listed entry us r.value (starting m) r.state more n given_here.left
+        → (left : ℕ) × (crun q (32 * r.cost + 32) (function_name k) us m ≡ done r.value (as_run r.state) left)
+    ended_run more few_more ran = (
+      32 * r.cost + 32 - suc ran.steps,
+      body_runs q whole.numbered (function_name k) (c_type whole.numbered (taken_by e.ty)) (c_type whole.numbered (given_by e.ty)) ran.low us r.value (as_run (starting m)) (as_run r.state) ran.steps
+          (found_bodied k x e listed entry ran.low ran.is_low) ran.ran (32 * r.cost + 32) (32 * r.cost + 32 - suc ran.steps)
+          (sized (taken_by e.ty) us (ready k x e listed entry).argument machine_here) (omega (arith, ran.within, given_here.cost, few_more)),
+    )
+
+    -- one with a body
+    body_simulated : (core : Tree Note) → e.body ≡ Some core → (left : ℕ) × (crun q (32 * r.cost + 32) (function_name k) us m ≡ done r.value (as_run r.state) left)
+    body_simulated core b =
+        ended_run 0 (omega arith)
+        (core_ended k x e listed entry (calls_within p n) all_here.callees (values_run (calls_within p n) all_here.callees) all_here.sources us r.value (starting m) r.state n given_here.left machine_here core b
+        (sym (ap (λ z. entered_by p (calls_within p n) x e.ty z us (starting m) n) b) ∙ entered_here))
+
+    -- one of the library
+    library_simulated : (lib : Lib) → x.fun ≡ OfLib lib → e.body ≡ None → (left : ℕ) × (crun q (32 * r.cost + 32) (function_name k) us m ≡ done r.value (as_run r.state) left)
+    library_simulated lib f b = ended_run 16 (omega arith) (by_kind (is_iterator lib) refl outside)
+      where
+        outside : given_outside p (calls_within p n) (OfLib lib) x.types e.ty us (starting m) n ≡ gives r.value r.state given_here.left
+        outside =
+            sym (ap (λ z. given_outside p (calls_within p n) z x.types e.ty us (starting m) n) f)
+            ∙ (sym (ap (λ z. entered_by p (calls_within p n) x e.ty z us (starting m) n) b) ∙ entered_here)
+
+        by_kind : (c : Bool) → is_iterator lib ≡ c
+            → cond c (updates.iterated p (calls_within p n) lib x.types (record { ty = taken_by e.ty; scalars = us }) (starting m) n) (library lib x.types us (starting m) n) ≡ gives r.value r.state given_here.left
+            → Ended k x e listed entry us r.value (starting m) r.state 16 n given_here.left
+        by_kind true i g =
+            iterator_ended k x e listed entry (calls_within p n) all_here.callees (values_run (calls_within p n) all_here.callees) all_here.sources us r.value (starting m) r.state n given_here.left machine_here lib f b i g
+        by_kind false i g =
+            library_ended k x e listed entry (calls_within p n) all_here.callees (values_run (calls_within p n) all_here.callees) all_here.sources us r.value (starting m) r.state n given_here.left machine_here lib f b i g
+
   simulates : Simulates p q
-  unfolding updated calls_within
-  simulates n k x e core us m r listed entry b h = (
-    32 * r.cost + 32 - suc ran.steps,
-    body_runs q whole.numbered (function_name k) (c_type whole.numbered (taken_by e.ty)) (c_type whole.numbered (given_by e.ty)) ran.low us r.value (as_run (starting m)) (as_run r.state) ran.steps
-        (found_bodied k x e listed entry ran.low ran.is_low) ran.ran (32 * r.cost + 32) (32 * r.cost + 32 - suc ran.steps)
-        (sized (taken_by e.ty) us (ready k x e listed entry).argument machine) (omega (arith, ran.within, ends.cost)),
+  simulates n k x e core us m r listed entry b h = body_simulated n k x e us m r listed entry h core b
+
+  pub simulates_library : SimulatesLibrary p q
+  simulates_library n k x e lib us m r listed entry f b h = library_simulated n k x e us m r listed entry h lib f b
+
+  -- the function of an arrow type, on the number of an instance
+  pub simulates_dispatch : SimulatesDispatch p whole q
+  simulates_dispatch n k e us m r listed entry h fine = (
+    32 * r.cost + 32 - suc (suc (suc call.steps)),
+    dispatch_runs q whole p.entries j k e.ty us r.value (as_run (starting m)) (as_run r.state) call.steps (typed (cell U32) (NumberScalar k ∷ [])) (typed (lay_of (taken_by e.ty)) us)
+        (few k e.ty typed_so) (sized (taken_by e.ty) us at.2.argument machine) (sized (given_by e.ty) r.value at.2.result fine)
+        (machine_readable whole.numbered ss types few (taken_by e.ty) us machine) (machine_readable whole.numbered ss types few (given_by e.ty) r.value fine)
+        (given_typed (cell U32) (NumberScalar k ∷ [])) (given_typed (lay_of (taken_by e.ty)) us) call.answers found_so among (32 * r.cost + 32) (32 * r.cost + 32 - suc (suc (suc call.steps)))
+        (omega (arith, call.within, gave_here.cost)),
   )
     where
-      ends : Ends n (outcome p n k us m) r
-      ends = ends_is n (outcome p n k us m) r h
+      at : (x : Instance) × (slice_get p.list k ≡ Some x) × IsReady p whole ss links k x e
+      at =
+          let lt = slice_get_within p.entries k e entry in
+          let x = there p.list k (omega (arith, lt, is.instances.as_many)) in
+          (x.0, x.1, is.ready k x.0 e x.1 entry)
 
-      runs_so : (is_machine types (argument_of (types_of p k)) us ≡ true) × (calls_within p (suc n) k us (starting m) n ≡ gives r.value r.state ends.left)
-      runs_so = where_is (is_machine types (argument_of (types_of p k)) us) (calls_within p (suc n) k us (starting m) n) r.value r.state ends.left ends.gave
+      gave_here : Given n k us m r
+      gave_here = is_given n k us m r h
 
       machine : is_machine types (taken_by e.ty) us ≡ true
-      machine = subst (λ z. is_machine types (argument_of (option_map (λ (e : Entry). e.ty) z)) us ≡ true) entry runs_so.0
+      machine = subst (λ z. is_machine types (argument_of (option_map (λ (e : Entry). e.ty) z)) us ≡ true) entry gave_here.machine
 
-      given_so : entered_by p (calls_within p n) x e.ty e.body us (starting m) n ≡ gives r.value r.state ends.left
-      given_so = entered_is (calls_within p n) k x e us r.value (starting m) r.state n ends.left listed entry runs_so.1
+      derived_arrow : e.ty ≡ arrow (taken_by e.ty) (given_by e.ty)
+      derived_arrow = let d = is.instances.each k at.0 e at.1 entry in arrow_is e.ty d.argument d.result d.is_arrow
 
-      all : AllRun (calls_within p n)
-      all = all_run n
+      typed_so : types_of p k ≡ Some e.ty
+      typed_so = ap (option_map (λ (e : Entry). e.ty)) entry
 
-      ran : Ended k x e listed entry us r.value (starting m) r.state 0 n ends.left
-      ran =
-          core_ended k x e listed entry (calls_within p n) all.callees (values_run (calls_within p n) all.callees) all.sources us r.value (starting m) r.state n ends.left machine core b
-          (sym (ap (λ z. entered_by p (calls_within p n) x e.ty z us (starting m) n) b) ∙ given_so)
+      call : Called q (function_name k) (typed (lay_of (taken_by e.ty)) us ∷ []) (starting m) r.state (lay_of (given_by e.ty)) r.value 24 n gave_here.left
+      call =
+          (all_run (suc n)).callees k (taken_by e.ty) (given_by e.ty) us r.value (starting m) r.state n gave_here.left (typed (lay_of (taken_by e.ty)) us) (typed_so ∙ ap Some derived_arrow) gave_here.gave machine fine
+          (given_typed (lay_of (taken_by e.ty)) us)
+
+      j : ℕ
+      j = arrow_number whole.arrows e.ty
+
+      found_so : find (dispatch_name j) q.program.functions ≡ Some (dispatch_of whole p.entries j e.ty)
+      found_so = dispatch_found e.ty listed
+
+      among : Contains (tags_from 0 e.ty p.entries) k
+      among = tagged 0 k k e.ty p.entries e (omega arith) entry (same_self e.ty)
 
 pub lowering_simulates : LoweringSimulates
 lowering_simulates p whole ss links order is = simulates p whole ss links order is
+
+pub library_is_simulated : LibraryIsSimulated
+library_is_simulated p whole ss links order is = simulates_library p whole ss links order is
+
+pub dispatch_is_simulated : DispatchIsSimulated
+dispatch_is_simulated p whole ss links order is = simulates_dispatch p whole ss links order is

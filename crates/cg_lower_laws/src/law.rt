@@ -1,12 +1,23 @@
 // The laws of lowering.
 ghost use Rattle.cg_lower_def.specs.Printables.{LoweringIsPrintable};
-ghost use Rattle.cg_lower_def.specs.Simulated.{LoweringSimulates};
+ghost use Rattle.cg_lower_def.specs.Simulated.{DispatchIsSimulated, LibraryIsSimulated, LoweringSimulates};
 ghost use Rattle.cg_lower_def.specs.Structs.{CoveredAreDeclared};
 
 /// The C of a list of instances simulates the update semantics: where an instance with a body gives a result at cost k on a heap, its C
 /// function ends within 32k + 32 steps, with the same scalars, heap, and addresses of the cells that were made and freed.
 pub fn lowering_simulates()
     ensures { LoweringSimulates }
+{}
+
+/// So does the C of an instance of the library, of an iterator with all its turns: a result at cost k comes within 32k + 32 steps.
+pub fn library_is_simulated()
+    ensures { LibraryIsSimulated }
+{}
+
+/// And so does the function of an arrow type of calls, on the number of an instance of just that type and its argument: it gives what the
+/// function of that instance gives.
+pub fn dispatch_is_simulated()
+    ensures { DispatchIsSimulated }
 {}
 
 /// The C of a list of instances can be printed, where no body is deeper than 2,048 and its structs can.
