@@ -1,9 +1,8 @@
 -- What a core mentions: each function is among some, and has as many type arguments as it takes.
-use Rattle.std.proofs.Common.{◌≡◌, ℕ, zero, suc, Bool, IsTrue, Some, List, [], ◌∷◌, ◌++◌, length, map, refl, sym, ◌∙◌, eq-eqb}
+use Rattle.std.proofs.Common.{ℕ, suc, Bool, IsTrue, List, ◌++◌, length, map, refl, sym, ◌∙◌}
 use Rattle.std.proofs.lemmas.Bool.{and_parts}
 use Rattle.std.proofs.lemmas.List.Folds.{list_all-append}
 use Rattle.std.specs.List.{list_all}
-use Rattle.std.specs.Prelude.{slice_get}
 use Rattle.cg_base.specs.declared.fun.Fun.{Fun}
 use Rattle.cg_base.specs.declared.fun.Fun.TheVariants.{User, Lib as OfLib}
 use Rattle.cg_core.specs.Kernels.{Function}
@@ -11,7 +10,7 @@ use Rattle.cg_core.specs.Terms.{Note, Tree, term, Shape, var, unit, bool, lit, f
 use Rattle.cg_eval_def.specs.Foreigns.{is_among}
 use Rattle.cg_typing.specs.Functions.{takes_as_many}
 use Rattle.cg_typing.proofs.Lists.{taken_as_many}
-use Rattle.cg_core_def.specs.Lawful.{IsLawfulTerm, IsLawfulShape, AreLawfulTerms, AreLawfulFields, Takes, term_mentions, shape_mentions, terms_mentions, fields_mentions, user_of}
+use Rattle.cg_core_def.specs.Lawful.{IsLawfulTerm, IsLawfulShape, AreLawfulTerms, AreLawfulFields, term_mentions, shape_mentions, terms_mentions, fields_mentions, user_of}
 
 -- how many type arguments each function takes
 abbrev pub arities : List Function → List ℕ

@@ -1,5 +1,5 @@
 -- What the body of an instance mentions: good instances, of functions that the function's body mentions.
-use Rattle.std.proofs.Common.{◌≡◌, ℕ, zero, suc, IsTrue, Option, Some, None, List, [], ◌∷◌, length, map, refl, sym, ap, ◌∙◌, eq-eqb, subst as at}
+use Rattle.std.proofs.Common.{◌≡◌, ℕ, zero, suc, IsTrue, Option, Some, None, List, [], ◌∷◌, length, map, refl, sym, ap, ◌∙◌, subst as at}
 use Rattle.std.proofs.lemmas.Option.{slice_get_within, get_or_from_slice_get}
 use Rattle.std.specs.List.{All, list_all}
 use Rattle.std.specs.Prelude.{slice_get}
@@ -11,7 +11,7 @@ use Rattle.cg_core.specs.declared.term.Term.{Term}
 use Rattle.cg_core.specs.declared.term.Typed.{Typed}
 use Rattle.cg_core.specs.Derivations.{Derivation}
 use Rattle.cg_core.specs.Kernels.{Body, Function}
-use Rattle.cg_core.specs.Terms.{Note, Tree, term, fun, erased}
+use Rattle.cg_core.specs.Terms.{Note, Tree, term, fun}
 use Rattle.cg_inst.specs.Judged.{core_in, functions_in}
 use Rattle.cg_inst.specs.Lists.{Cores, core_of, mentioned_by, mentioned_maybe}
 use Rattle.cg_core_def.specs.Lawful.{IsLawfulFunction, body_mentions, user_of}
