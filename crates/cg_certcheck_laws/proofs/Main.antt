@@ -28,9 +28,10 @@ spelled_holds functions cert limited h l =
 
 pub decide : EventsDecide
 decide functions cert lawful = (
-  λ h. let r = functions_sound functions functions lawful.functions_stand cert.funs 1 h in
-      (record { cores = r.cores; trees = r.trees; kept = r.kept; lists = ap cert_of r.lists },
-      (types_are_within functions lawful (kept_accepted functions r.cores r.trees r.kept)).0 r.limits),
+  λ h. let r = functions_sound functions functions lawful.functions_stand cert.funs 1 h in (
+    record { cores = r.cores; trees = r.trees; kept = r.kept; lists = ap cert_of r.lists },
+    (types_are_within functions lawful (kept_accepted functions r.cores r.trees r.kept)).0 r.limits,
+  ),
   λ h. all_hold (cert_events functions cert)
       (spelled_holds functions cert true h.0
       (limits_asked (kernel_events functions) ((types_are_within functions lawful (kept_accepted functions h.0.cores h.0.trees h.0.kept)).1 h.1))),

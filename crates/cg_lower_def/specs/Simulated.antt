@@ -20,7 +20,7 @@ use Rattle.cg_eval_operations.specs.Iterators.{is_iterator}
 use Rattle.cg_typing.specs.Instances.{AreInstances, Entry, Instance, IsGood, nodes_of}
 use Rattle.cg_typing.specs.Parts.{given_by, taken_by}
 use Rattle.cg_typing.specs.Rules.{type_at}
-use Rattle.cg_update.specs.Calls.{Program}
+use Rattle.cg_update.specs.Calls.{Program, types_of}
 use Rattle.cg_update.specs.Machines.{is_machine}
 use Rattle.cg_update.specs.Outcomes.{State}
 use Rattle.cg_update.specs.Updates.{Result, updated}
