@@ -6,3 +6,4 @@ pub mod Named
 pub mod Nodes
 pub mod Turns
 pub mod Whole
+pub mod Sources

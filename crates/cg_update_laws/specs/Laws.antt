@@ -1,7 +1,9 @@
 -- On values without cells, evaluation and the update semantics agree.
-use Rattle.std.specs.Prelude.{◌≡◌, ℕ, ◌^◌, ◌<◌, Bool, true, IsTrue, List, [], ◌∷◌, Option, Some, None, slice_get, if◌then◌else◌}
+use Rattle.std.specs.Prelude.{◌≡◌, ℕ, ◌^◌, ◌<◌, Bool, true, false, ◌||◌, IsTrue, List, [], ◌∷◌, Option, Some, None, codes, slice_get, if◌then◌else◌}
+use Rattle.std.specs.Str.{bytes_eq}
 use Rattle.cg_base.specs.declared.kind.Word.TheVariants.{U32}
-use Rattle.cg_base.specs.Types.{Tau, arrow, word}
+use Rattle.cg_base.specs.declared.kind.Sigil.TheVariants.{U}
+use Rattle.cg_base.specs.Types.{Tau, arrow, fields, part, word}
 use Rattle.cg_core.specs.Terms.{Note, Tree}
 use Rattle.cg_heap.specs.Calls.{heap_of}
 use Rattle.cg_heap.specs.declared.cell.Scalar.{Scalar}
@@ -13,9 +15,9 @@ use Rattle.cg_eval_def.specs.Evaluation.{evaluation}
 use Rattle.cg_mono_laws.specs.Laws.{copies_table}
 use Rattle.cg_typing.specs.Instances.{AreInstances, Entry, Instance}
 use Rattle.cg_typing.specs.Parts.{given_by, taken_by}
-use Rattle.cg_update.specs.Calls.{Program}
-use Rattle.cg_update.specs.Outcomes.{starting}
-use Rattle.cg_update.specs.Updates.{Result, updated}
+use Rattle.cg_update.specs.Calls.{Program, types_of}
+use Rattle.cg_update.specs.Outcomes.{State, starting}
+use Rattle.cg_update.specs.Updates.{Calls, Result, calls_source, updated}
 use Rattle.cg_value.specs.Values.{Val, number, function}
 use Rattle.cg_update.specs.Unboxed.{is_unboxed_entry}
 
@@ -75,3 +77,17 @@ WordsAreUpdated =
     → slice_get p.list k ≡ Some x → slice_get p.entries k ≡ Some e → e.body ≡ Some core → among k ≡ true → e.ty ≡ arrow (word U32) (word U32) → a < 2 ^ 32
     → evaluation (copies_table p.foreign p.functions p.list p.entries) n (function x.fun x.types) (number a) ≡ Some (w, cost)
     → GivesWord p n k a m w cost
+
+-- ---- what iterators call
+
+-- what an iterator's function takes: the element or what is carried comes first
+abbrev pub is_turn : Tau → Bool
+is_turn (fields (part name t taken ps) U) = bytes_eq name (codes "elem") || bytes_eq name (codes "acc")
+is_turn t = false
+
+-- Where an instance of a list takes such a turn, it is of the source: so what an iterator calls is a call of that instance, and no other case
+-- comes up.
+abbrev pub IteratorsCallSources : Type 0
+IteratorsCallSources =
+    (p : Program) → AreInstances p.functions p.list p.entries → (calls : Calls) (k : ℕ) (a b : Tau) → types_of p k ≡ Some (arrow a b) → IsTrue (is_turn a)
+    → (us : List Scalar) (s : State) (left : ℕ) → calls_source p calls (slice_get p.list k) k us s left ≡ calls k us s left
