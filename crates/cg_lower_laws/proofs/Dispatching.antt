@@ -1,5 +1,5 @@
 -- Calls of the function of an arrow type: it calls the function of the number that it is given.
-use Rattle.std.proofs.Common.{◌≡◌, ℕ, zero, suc, ◌+◌, ◌^◌, ◌<◌, ◌≤◌, Bool, true, false, ◌||◌, cond, nat_eq, Some, List, [], ◌∷◌, length, replicate, slice_get, take_all, refl, sym, ap, ◌∙◌, subst, arith}
+use Rattle.std.proofs.Common.{◌≡◌, ℕ, zero, suc, ◌+◌, ◌^◌, ◌<◌, ◌≤◌, Bool, true, false, ◌||◌, cond, nat_eq, Some, List, [], ◌∷◌, length, replicate, slice_get, take, drop, take_all, nat_le, refl, sym, ap, ◌∙◌, subst, arith}
 use Rattle.std.proofs.lemmas.Bool.{eqb-false, eqb-true, le-leb}
 use Rattle.std.proofs.lemmas.List.{drop_all}
 use Rattle.std.specs.List.{Contains, list_any}
@@ -13,7 +13,6 @@ use Rattle.cg_cmachine_def.specs.Operands.{Value, typed as of_layout, Frame, giv
 use Rattle.cg_cmachine_def.specs.Outcomes.{State, Outcome, ok, on, done, stuck, needs, astray, bind, lift}
 use Rattle.cg_cmachine_def.specs.Runs.{Linked, Flow, goes, back, Calls, calls_in, enter, filled, find, judged_word, onward, returned, run_block, run_body, run_cases, run_frame, run_function, run_stmt, start, unset}
 use Rattle.cg_cmachine_def.specs.Targets.{with_scalars}
-use Rattle.cg_ctree.specs.declared.tree.CDecl.{CDecl}
 use Rattle.cg_ctree.specs.declared.tree.COpnd.{COpnd}
 use Rattle.cg_ctree.specs.declared.tree.COpnd.TheVariants.{Path}
 use Rattle.cg_ctree.specs.declared.tree.CRhs.TheVariants.{Call}
@@ -213,17 +212,34 @@ module _ (q : Linked) (whole : Whole) (entries : List Entry) (j k : ℕ) (t : Ta
       }
 
   -- a whole run of the function, on the number and the argument
-  filled_by : (locals : List CDecl) → locals ≡ declared result (local_name 0) ∷ []
-      → filled q (declared (ty.Word U32) argument_name ∷ declared taken second_name ∷ []) locals (NumberScalar k ∷ us) ≡ ok begins
-  filled_by locals is =
-      rw (is, le-leb (size (lay_c q taken)) (length us) (omega (arith, sized_us)), drop_all (size (lay_c q taken)) us (omega (arith, sized_us)), take_all (size (lay_c q taken)) us (omega (arith, sized_us))) refl
+  -- the number has the one slot of the first parameter
+  one_number : 1 ≡ size (lay_c q (ty.Word U32))
+  one_number = one_slot U32 (NumberScalar k ∷ []) k refl
+
+  number_fits : nat_le (size (lay_c q (ty.Word U32))) (length (NumberScalar k ∷ us)) ≡ true
+  number_fits = subst (λ n. nat_le n (length (NumberScalar k ∷ us)) ≡ true) one_number (le-leb 1 (length (NumberScalar k ∷ us)) (omega arith))
+
+  number_taken : take (size (lay_c q (ty.Word U32))) (NumberScalar k ∷ us) ≡ NumberScalar k ∷ []
+  number_taken = subst (λ n. take n (NumberScalar k ∷ us) ≡ NumberScalar k ∷ []) one_number refl
+
+  number_dropped : drop (size (lay_c q (ty.Word U32))) (NumberScalar k ∷ us) ≡ us
+  number_dropped = subst (λ n. drop n (NumberScalar k ∷ us) ≡ us) one_number refl
+
+  -- and the argument the second one
+  argument_filled : filled q (declared taken second_name ∷ []) (declared result (local_name 0) ∷ []) us
+      ≡ ok (record { name = second_name; layout = lay_c q taken; scalars = us } ∷ unset q (declared result (local_name 0) ∷ []))
+  argument_filled =
+      rw (le-leb (size (lay_c q taken)) (length us) (omega (arith, sized_us)), drop_all (size (lay_c q taken)) us (omega (arith, sized_us)), take_all (size (lay_c q taken)) us (omega (arith, sized_us))) refl
+
+  filled_by : filled q (declared (ty.Word U32) argument_name ∷ declared taken second_name ∷ []) (declared result (local_name 0) ∷ []) (NumberScalar k ∷ us) ≡ ok begins
+  filled_by = rw (number_fits, number_dropped, number_taken, argument_filled) refl
 
   runs_by : (ks : List ℕ) (n left : ℕ) → Contains ks k → n ≡ suc (suc (suc steps)) + left
       → run_frame q (calls_in q n) n (dispatch_of whole entries j t) (dispatch_body whole t ks)
       (filled q (declared (ty.Word U32) argument_name ∷ declared taken second_name ∷ []) (dispatch_body whole t ks).locals (NumberScalar k ∷ us)) s n ≡ done ws s' left
   runs_by [] n left h e = absurd (omega (arith, h.1))
   runs_by (i ∷ ks) n left h e =
-      ap (λ z. run_frame q (calls_in q n) n (dispatch_of whole entries j t) (dispatch_body whole t (i ∷ ks)) z s n) (filled_by (declared result (local_name 0) ∷ []) refl)
+      ap (λ z. run_frame q (calls_in q n) n (dispatch_of whole entries j t) (dispatch_body whole t (i ∷ ks)) z s n) filled_by
       ∙ body_runs (i ∷ ks) n n left h e (omega arith)
 
   pub dispatch_runs : find (dispatch_name j) q.program.functions ≡ Some (dispatch_of whole entries j t) → Contains (tags_from 0 t entries) k
