@@ -56,11 +56,11 @@ module _ (world : HeapWorld) (known : World) (instances_fit : (n : ℕ) (v : Val
   unfolding Holds
   held_there end i us x v r = absurd r
   held_there (part y t taken ps) zero us x v r = ap (λ b. is_there (if b then Some (record { name = y; ty = t; taken = taken }) else part_named x ps)) (ap (λ z. bytes_eq z y) r.1 ∙ name_self y)
-  held_there (part y t taken ps) (suc i) us x v r = either (bytes_eq x y)
+  held_there (part y t taken ps) (suc i) us x v r = either (bytes_eq x y) (held_there ps i (drop (slots t) us) x v r)
     where
-      either : (b : Bool) → is_there (if b then Some (record { name = y; ty = t; taken = taken }) else part_named x ps) ≡ true
-      either true = refl
-      either false = held_there ps i (drop (slots t) us) x v r
+      either : (b : Bool) → is_there (part_named x ps) ≡ true → is_there (if b then Some (record { name = y; ty = t; taken = taken }) else part_named x ps) ≡ true
+      either true h = refl
+      either false h = h
 
   -- so by no name that isn't there
   other_name : (x y : List ℕ) (ps : Parts) → IsTrue (not (is_there (part_named y ps))) → is_there (part_named x ps) ≡ true → bytes_eq x y ≡ false
@@ -106,6 +106,15 @@ module _ (world : HeapWorld) (known : World) (instances_fit : (n : ℕ) (v : Val
 
 -- ---- the law
 
+-- the value and the type of what may be there
+abbrev value_in : Val → Option (Val × Tau) → Val
+value_in d None = d
+value_in d (Some r) = r.0
+
+abbrev type_in : Tau → Option (Val × Tau) → Tau
+type_in d None = d
+type_in d (Some r) = r.1
+
 module _ (checked : Checked) (list : List Instance)
     (kept : AreKept (functions_in checked) (functions_in checked) (map maybe_core (cores_in checked)) (map maybe_tree (trees_in checked)))
     (is : IsList (functions_in checked) (core_in checked) list) where
@@ -143,8 +152,8 @@ module _ (checked : Checked) (list : List Instance)
         go : (q : Bool) (o : Option Instance) (u : Option Entry) → slice_get list k ≡ o → slice_get (map entry list) k ≡ u → (if q then value_of o u else None) ≡ Some (v, arrow a b)
             → IsTrue (fits (world_over no_foreign (functions_in checked) list) (arrow a b) v)
         go true (Some x) (Some e) here there is_this =
-            let value : function x.fun x.types ≡ v = cc in
-            let ty : e.ty ≡ arrow a b = cc in
+            let value : function x.fun x.types ≡ v = ap (value_in v) is_this in
+            let ty : e.ty ≡ arrow a b = ap (type_in e.ty) is_this in
             at (λ v. IsTrue (fits (world_over no_foreign (functions_in checked) list) (arrow a b) v)) value (instance_fits k x e a b here there ty)
         go true (Some x) None here there is_this = absurd (cc)
         go true None u here there is_this = absurd (cc)
