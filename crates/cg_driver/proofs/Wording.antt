@@ -112,4 +112,4 @@ Finished c old new taken taken' =
 pub compiled : (c : Option Command) (file text certificate : List ℕ) → c ≡ Some (build file text certificate) → (old new : World) (taken taken' : Option (List ℕ))
     → Finished c old new taken taken'
     → (found : Found) × Runs Judges (reads_source file ∷ build_steps file text certificate) nothing old (goes found) new × IsCompiled (functions found) found.copies
-compiled c file text certificate is old new taken taken' h = let g = subst (λ x. Finished x old new taken taken') is h in (g.0, g.2, g.3.1, g.3.2)
+compiled c file text certificate is old new taken taken' h = let g = subst (λ x. Finished x old new taken taken') is h in (g.0, g.2, g.3.1)
