@@ -1,3 +1,5 @@
+mod Dispatching
+pub mod Declaring
 pub mod Numbers
 pub mod Operating
 pub mod Paths

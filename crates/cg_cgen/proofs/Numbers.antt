@@ -6,7 +6,7 @@ use Rattle.cg_base.specs.declared.kind.Word.{Word}
 use Rattle.cg_base.specs.declared.kind.Word.TheVariants.{U8, U16, U32, U64}
 use Rattle.cg_base.specs.Words.{bits}
 use Rattle.cg_cmachine_def.specs.Operations.{flag}
-use Rattle.cg_cgen.specs.Code.{inner}
+use Rattle.cg_cgen_def.specs.Code.{inner}
 
 -- the bits of a word are among those of its inner word
 pub kept : (w : Word) (n : ℕ) → n % 2 ^ bits (inner w) % 2 ^ bits w ≡ n % 2 ^ bits w

@@ -30,7 +30,7 @@ use Rattle.cg_cmachine_def.specs.Operations.{flag, word_value, operation, comput
 use Rattle.cg_cmachine_def.specs.Outcomes.{ok, no, on, State, done, lift}
 use Rattle.cg_cmachine_def.specs.Runs.{Linked, Calls, goes, onward, choose, plain, judged_word, assigned, run_assign, run_stmt, run_block}
 use Rattle.cg_eval_operations.specs.Operators.{truth, on_one, on_two}
-use Rattle.cg_cgen.specs.Code.{inner, computed_by, only, divided_by, shifted_by, op_code}
+use Rattle.cg_cgen_def.specs.Code.{inner, computed_by, only, divided_by, shifted_by, op_code}
 use Rattle.cg_cgen.specs.Meanings.{IsNumber, IsPart, IsApart, set, Changes, Computes, OperatorsCompute}
 use Rattle.cg_cgen.proofs.Numbers.{kept, bits_kept, cast, whole, small, flag_is_small, width_fits, bit_fits, difference, complement_kept}
 use Rattle.cg_cgen.proofs.Paths.{number_read, below, still_part, set_twice, still_number, set_read, set_written}

@@ -13,7 +13,7 @@ use Rattle.cg_ctree.specs.declared.tree.CStmt as statement
 use Rattle.cg_ctree.specs.declared.tree.CStmt.{CStmt}
 use Rattle.cg_ctree.specs.declared.tree.CStmt.TheVariants.{If}
 use Rattle.cg_ctree.specs.Trees.{Stmt, stop, assign, branch, to_block, stmt_of, block_of}
-use Rattle.cg_cgen.specs.Code.{computed_by, only, divided_by, shifted_by}
+use Rattle.cg_cgen_def.specs.Code.{computed_by, only, divided_by, shifted_by}
 
 block_of_one : (ss : List CStmt) (s : Stmt) → map stmt_of ss ≡ s ∷ [] → block_of ss ≡ only s
 unfolding to_block

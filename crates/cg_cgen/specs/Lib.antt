@@ -1,2 +1,3 @@
-pub mod Code
+pub mod Dispatched
+pub mod Iterators
 pub mod Meanings

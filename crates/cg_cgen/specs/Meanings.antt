@@ -17,7 +17,7 @@ use Rattle.cg_ctree.specs.Trees.{Stmt, to_block}
 use Rattle.cg_heap.specs.declared.cell.Scalar.TheVariants.{Word as NumberScalar}
 use Rattle.cg_heap.specs.Stored.{Stored}
 use Rattle.cg_eval_operations.specs.Operators.{on_one, on_two}
-use Rattle.cg_cgen.specs.Code.{op_code, word_given}
+use Rattle.cg_cgen_def.specs.Code.{op_code, takes_two, word_given}
 
 -- ---- operands
 
@@ -26,12 +26,6 @@ pub record IsNumber (p : Linked) (m : Stored) (fr : Frame) (word : Word) (o : CO
   pub value : Value
   pub read : judged p m fr o ≡ ok value
   pub given : give (cell word) value ≡ ok (NumberScalar n ∷ [])
-
--- an operator takes two operands
-abbrev pub takes_two : Op → Bool
-takes_two ops.Complement = false
-takes_two ops.Not = false
-takes_two _ = true
 
 -- the operands of `&&`, `||` and `not` are truth values
 abbrev pub AreFor : Op → ℕ → ℕ → Type 0

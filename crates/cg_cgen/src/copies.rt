@@ -1,8 +1,8 @@
-// Paths and operands, copied.
+// Paths, operands and types, copied.
 ghost use Rattle.std.specs.Prelude.{◌≡◌, IfOk};
 
 use cg_base::{Items, Memory, Name};
-use cg_ctree::{COpnd, CPath};
+use cg_ctree::{COpnd, CPath, CTy};
 use std::alloc::Global;
 
 // Equal names.
@@ -34,5 +34,16 @@ pub(crate) fn copy_operand(alloc: Global, operand: &COpnd) -> Result<COpnd, Memo
     match operand {
         COpnd::Number(number) => Ok(COpnd::Number(*number)),
         COpnd::Path(path) => Ok(COpnd::Path(copy_path(alloc, path)?)),
+    }
+}
+
+/// An equal type. The one error is want of memory.
+pub(crate) fn copy_type(alloc: Global, ty: &CTy) -> Result<CTy, Memory>
+    ensures { IfOk result (λ copy. copy ≡ ty.now) }
+{
+    match ty {
+        CTy::Word(word) => Ok(CTy::Word(*word)),
+        CTy::Struct(name) => Ok(CTy::Struct(name.copy(alloc)?)),
+        CTy::Pointer(name) => Ok(CTy::Pointer(name.copy(alloc)?)),
     }
 }

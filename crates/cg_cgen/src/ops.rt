@@ -8,26 +8,15 @@ ghost use Rattle.cg_ctree.specs.declared.tree.COp.TheVariants as op;
 ghost use Rattle.cg_ctree.specs.declared.tree.COpnd.TheVariants.{Number};
 ghost use Rattle.cg_ctree.specs.declared.tree.CRhs.TheVariants.{Opnd, Binary};
 ghost use Rattle.cg_ctree.specs.Trees.{assign as assign_of, block_of, branch, stmt_of};
-ghost use Rattle.cg_cgen.specs.Code.{inner as inner_of, computed_by, divided_by, shifted_by, op_code};
+ghost use Rattle.cg_cgen_def.specs.Code.{inner as inner_of, computed_by, divided_by, shifted_by, op_code};
 ghost use Rattle.cg_cgen.specs.Meanings.{Computes};
 
 use crate::copies::{copy_operand, copy_path};
 use cg_base::{Items, Memory, Word};
+use cg_cgen_lines::inner;
 use cg_core::Op;
 use cg_ctree::{COp, COpnd, CPath, CRhs, CStmt};
 use std::alloc::Global;
-
-// The word that operations on a word are computed in.
-fn inner(word: Word) -> Word
-    ensures { result ≡ inner_of word }
-{
-    match word {
-        Word::U8 => Word::U32,
-        Word::U16 => Word::U32,
-        Word::U32 => Word::U32,
-        Word::U64 => Word::U64,
-    }
-}
 
 // How many bits a word has.
 fn bits(word: Word) -> u64

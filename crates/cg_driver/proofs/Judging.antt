@@ -23,7 +23,7 @@ use Rattle.cg_heap.specs.declared.cell.Scalar.{Scalar}
 use Rattle.cg_heap.specs.declared.cell.Scalar.TheVariants.{Word}
 use Rattle.cg_heaptext.proofs.Reading.{one_argument}
 use Rattle.cg_core_def.specs.Lawful.{IsLawfulKernel}
-use Rattle.cg_lower_def.specs.Lowered.{function_name}
+use Rattle.cg_cgen_def.specs.Names.{function_name}
 use Rattle.cg_resolve_names.specs.Says.{IsFirst}
 use Rattle.cg_parser.specs.Answers.{NoProgram, Answers as Parses}
 use Rattle.cg_parser.specs.declared.fault.ParseFault.{ParseFault}

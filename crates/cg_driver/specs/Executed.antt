@@ -7,7 +7,7 @@ use Rattle.cg_core.specs.Terms.{Note, Tree}
 use Rattle.cg_ctree.specs.declared.tree.CProgram.{CProgram}
 use Rattle.cg_ctree.specs.Spells.{CSpells}
 use Rattle.cg_ctree.specs.Trees.{Program, program_of}
-use Rattle.cg_lower_def.specs.Lowered.{function_name}
+use Rattle.cg_cgen_def.specs.Names.{function_name}
 use Rattle.cg_lower.specs.Promises.{IsSimulated}
 use Rattle.cg_eval_def.specs.Evaluation.{evaluation}
 use Rattle.cg_eval_def.specs.Foreigns.{table_of}

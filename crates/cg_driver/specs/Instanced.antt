@@ -23,15 +23,15 @@ use Rattle.cg_inst.specs.Lists.{Cores, IsList}
 use Rattle.cg_inst_laws.specs.Laws.{entry_of}
 use Rattle.cg_eval_def.specs.Evaluation.{evaluation}
 use Rattle.cg_eval_def.specs.Foreigns.{table_over}
-use Rattle.cg_lower_def.specs.Lowered.{function_name}
+use Rattle.cg_cgen_def.specs.Names.{function_name}
 use Rattle.cg_lower.specs.Programs.{lowered}
 use Rattle.cg_lower.specs.Promises.{IsSimulated}
-use Rattle.cg_driver_laws.specs.Laws.{AreWithoutCells, GivesRepresented, copies_over, program_over}
+use Rattle.cg_driver_laws.specs.Laws.{GivesRepresented, copies_over, program_over}
 use Rattle.cg_typing.specs.Holds.{kept_at}
 use Rattle.cg_typing.specs.Instances.{Instance}
 use Rattle.cg_typing.specs.Kept.{AreKept}
 use Rattle.cg_typing.specs.Parts.{given_by, taken_by}
-use Rattle.cg_update_laws.specs.Laws.{world_among}
+use Rattle.cg_update_laws.specs.Laws.{AreWithoutCells, world_among}
 use Rattle.cg_value.specs.NoForeign.{no_foreign}
 use Rattle.cg_value.specs.Values.{Val, function}
 use Rattle.cg_driver.specs.Lines.{limit_line, limit_name}

@@ -6,7 +6,7 @@ use Rattle.cg_core.specs.Terms.{Note, Tree}
 use Rattle.cg_ctree.specs.Spells.{CSpells}
 use Rattle.cg_ctree.specs.Trees.{Program}
 use Rattle.cg_lower.specs.Collected.{Copy}
-use Rattle.cg_lower_def.specs.Lowered.{function_name}
+use Rattle.cg_cgen_def.specs.Names.{function_name}
 use Rattle.cg_eval_def.specs.Evaluation.{Table, evaluation, IsSpent}
 use Rattle.cg_eval_def.specs.Foreigns.{table_over}
 use Rattle.cg_cmachine_def.specs.WordRuns.{RunsTo}

@@ -13,7 +13,7 @@ use Rattle.cg_inst.specs.Lists.{Cores}
 use Rattle.cg_inst_laws.proofs.Bodies.{source_typed, tree_in}
 use Rattle.cg_inst_laws.specs.Laws.{entry_of}
 use Rattle.cg_kinds.specs.Kinds.{or_unit, subst}
-use Rattle.cg_lower_def.specs.Lowered.{function_name}
+use Rattle.cg_cgen_def.specs.Names.{function_name}
 use Rattle.cg_graphs.proofs.Marked.{marks_are_there}
 use Rattle.cg_driver_laws.specs.Laws.{EntriesRun}
 use Rattle.cg_driver_laws.proofs.Programs.{list_same}

@@ -16,7 +16,7 @@ use Rattle.cg_cmachine_def.specs.WordRuns.{alone}
 use Rattle.cg_core.specs.Terms.{Note, Tree}
 use Rattle.cg_ctree.specs.Trees.{Program as CText}
 use Rattle.cg_driver_laws.proofs.Whole.{instances, program_is}
-use Rattle.cg_driver_laws.specs.Laws.{AreWithoutCells, GivesRepresented, UnboxedIsRepresented, copies_in, program_over}
+use Rattle.cg_driver_laws.specs.Laws.{GivesRepresented, UnboxedIsRepresented, copies_in, program_over}
 use Rattle.cg_eval_def.specs.Evaluation.{cost_of, evaluation}
 use Rattle.cg_eval_def.specs.Foreigns.{is_instance, table_of}
 use Rattle.cg_eval_laws.proofs.Mentions.{value_made}
@@ -29,7 +29,7 @@ use Rattle.cg_inst.specs.Lists.{IsList}
 use Rattle.cg_inst_laws.proofs.Sources.{instances_are_apart, instances_are_good}
 use Rattle.cg_inst_laws.specs.Laws.{entry_of}
 use Rattle.cg_lower.specs.Promises.{IsSimulated}
-use Rattle.cg_lower_def.specs.Lowered.{function_name}
+use Rattle.cg_cgen_def.specs.Names.{function_name}
 use Rattle.cg_lower_def.specs.Simulated.{as_run}
 use Rattle.cg_mono_laws.proofs.Kept.{evaluation_is_kept}
 use Rattle.cg_mono_laws.proofs.Listed.{is_found}
@@ -42,7 +42,7 @@ use Rattle.cg_typing.specs.Parts.{given_by, is_there, part_named, taken_by}
 use Rattle.cg_update.specs.Calls.{Program}
 use Rattle.cg_update.specs.Unboxed.{are_apart, are_unboxed, is_unboxed, is_unboxed_by}
 use Rattle.cg_update_laws.proofs.Whole.{unboxed_is_updated}
-use Rattle.cg_update_laws.specs.Laws.{AreUnboxed, IsUpdated, value_of, world_among}
+use Rattle.cg_update_laws.specs.Laws.{AreWithoutCells, AreUnboxed, IsUpdated, value_of, world_among}
 use Rattle.cg_value.specs.Fits.{World, fits, fits_alternative, fits_fields, is_gone}
 use Rattle.cg_value.specs.NoForeign.{no_foreign, none_is_lawful}
 use Rattle.cg_value.specs.Values as values

@@ -19,7 +19,7 @@ use Rattle.cg_inst_laws.proofs.Each.{Each}
 use Rattle.cg_inst_laws.proofs.Entries.{list_derived, list_good}
 use Rattle.cg_inst_laws.proofs.Sources.{instances_are_good}
 use Rattle.cg_inst_laws.specs.Laws.{entry_of}
-use Rattle.cg_lower_def.specs.Lowered.{function_name}
+use Rattle.cg_cgen_def.specs.Names.{function_name}
 use Rattle.cg_lower.specs.Promises.{IsProgramOf, IsSimulated}
 use Rattle.cg_eval_def.specs.Evaluation.{cost_of, evaluation}
 use Rattle.cg_eval_def.specs.Foreigns.{table_of}

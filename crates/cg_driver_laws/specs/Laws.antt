@@ -20,18 +20,17 @@ use Rattle.cg_heap.specs.Stored.{Stored}
 use Rattle.cg_inst.specs.Judged.{core_in, functions_in}
 use Rattle.cg_inst.specs.Lists.{Cores, IsList}
 use Rattle.cg_inst_laws.specs.Laws.{entry_of}
-use Rattle.cg_lower_def.specs.Lowered.{function_name}
+use Rattle.cg_cgen_def.specs.Names.{function_name}
 use Rattle.cg_lower.specs.Promises.{CanBePrinted, IsProgramOf, IsSimulated}
 use Rattle.cg_eval_def.specs.Evaluation.{evaluation, outcome, stuck}
 use Rattle.cg_eval_def.specs.Foreigns.{is_known, table_of}
 use Rattle.cg_typing.specs.declared.checked.Checked.{Checked}
 use Rattle.cg_typing.specs.Holds.{cores_in, trees_in}
-use Rattle.cg_typing.specs.Instances.{Entry, Instance, IsIn}
+use Rattle.cg_typing.specs.Instances.{Instance, IsIn}
 use Rattle.cg_typing.specs.Kept.{AreKept, maybe_core, maybe_tree}
 use Rattle.cg_typing.specs.Parts.{given_by, taken_by}
 use Rattle.cg_update.specs.Calls.{Program}
-use Rattle.cg_update.specs.Unboxed.{is_unboxed_entry}
-use Rattle.cg_update_laws.specs.Laws.{world_among}
+use Rattle.cg_update_laws.specs.Laws.{AreWithoutCells, world_among}
 use Rattle.cg_value.specs.Fits.{fits}
 use Rattle.cg_value.specs.Foreign.{Foreign, IsLawful, first_order}
 use Rattle.cg_value.specs.NoForeign.{no_foreign}
@@ -64,11 +63,6 @@ pub record GivesRepresented (world : HeapWorld) (program : CText) (name : List �
   pub left : ℕ
   pub ends : crun (alone program) (32 * cost + 32) name us m ≡ done given (record { store = m; made = []; freed = [] }) left
   pub represents : Holds world (heap_of m) t given value
-
--- At some places of a list of instances there are bodies without cells, which mention only instances at these places, and iterators over numbers.
-abbrev pub AreWithoutCells : Program → (ℕ → Bool) → Type 0
-AreWithoutCells p among =
-    (k : ℕ) (x : Instance) (e : Entry) → among k ≡ true → slice_get p.list k ≡ Some x → slice_get p.entries k ≡ Some e → IsTrue (is_unboxed_entry p.list among x e)
 
 -- A function without type variables has an instance in the list of a source.
 abbrev pub FunctionsStand : Type 0

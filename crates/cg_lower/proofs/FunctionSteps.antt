@@ -4,11 +4,11 @@ use Rattle.std.proofs.lemmas.List.{length-take-le, take_more}
 use Rattle.cg_ctree.specs.declared.tree.CDecl.{CDecl}
 use Rattle.cg_ctree.specs.declared.tree.CTy.{CTy}
 use Rattle.cg_core.specs.declared.term.Form.{the_lemmas}
-use Rattle.cg_lower_def.specs.CTypes.{declared}
-use Rattle.cg_lower_def.specs.Functions.{locals_from}
-use Rattle.cg_lower_def.specs.Places.{local_name}
+use Rattle.cg_cgen_def.specs.Names.{declared}
+use Rattle.cg_cgen_def.specs.Bodies.{locals_from}
+use Rattle.cg_cgen_def.specs.Places.{local_name}
 use Rattle.cg_lower_nodes.proofs.MoveSteps.{item_is, rest_more}
-use Rattle.cg_lower_iterators.proofs.Written.{locals_more}
+use Rattle.cg_cgen.proofs.Declaring.{locals_more}
 
 -- one local more is declared, whose type is taken out of its place
 pub declared_more : (all items : List CTy) (i at : ℕ) (r y : CTy) (x : List ℕ) (decls : List CDecl) → i < length all → at ≡ i → drop i items ≡ drop i all → r ≡ get_or items i r → x ≡ local_name at

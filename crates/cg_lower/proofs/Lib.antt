@@ -1,5 +1,4 @@
 pub mod Arrows
-pub mod DispatchSteps
 pub mod FunctionSteps
 pub mod Lists
 pub mod Placed

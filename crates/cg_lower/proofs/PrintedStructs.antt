@@ -4,7 +4,8 @@ use Rattle.std.specs.List.{AllByRecursion}
 use Rattle.cg_base.specs.Types.{Tau, variant, fields, Parts, end, part}
 use Rattle.cg_ctree.specs.Spells.{IsCName, IsPrintableDecl, IsPrintableStruct, SomeAll}
 use Rattle.cg_lower_laws.proofs.PrintedNames.{argument_named, field_named, struct_named, tag_named, type_prints}
-use Rattle.cg_lower_def.specs.CTypes.{members_from, name}
+use Rattle.cg_cgen_def.specs.Names.{name}
+use Rattle.cg_lower_def.specs.CTypes.{members_from}
 use Rattle.cg_lower_def.specs.Structs.{HasBelow, IsTable, numbered_in, struct_members, structs_from, structs_in}
 use Rattle.cg_lower.specs.Promises.{HasFields}
 

@@ -21,11 +21,14 @@ use Rattle.cg_inst.specs.Views.{instance_of}
 use Rattle.cg_lower_def.specs.Dispatch.{dispatch_of, tags_from}
 use Rattle.cg_lower_def.specs.Functions as pure
 use Rattle.cg_lower_def.specs.Functions.{Item, of_arrow, of_instance, function_at, function_of_item, functions_at, with_function}
-use Rattle.cg_lower_def.specs.Lowered.{Whole}
+use Rattle.cg_lower_def.specs.Lowered.{Whole, typed}
+use Rattle.cg_cgen_def.specs.Dispatches.{dispatch_function}
+use Rattle.cg_cgen_def.specs.Names.{dispatch_name}
+use Rattle.cg_typing.specs.Parts.{given_by, taken_by}
 use Rattle.cg_lower_def.specs.Structs.{IsTable, structs_in}
 use Rattle.cg_lower.proofs.Placed.{instance_stands}
 use Rattle.cg_lower.proofs.Programs as pure_laws
-use Rattle.cg_lower.specs.Lowerings.{dispatch_by, IsFewItem}
+use Rattle.cg_lower.specs.Lowerings.{IsFewItem}
 use Rattle.cg_lower.specs.Programs.{item_of, items_in, lowered}
 use Rattle.cg_lower.specs.Promises.{AreFew, CanBePrinted, IsFewMaybe, IsSimulated}
 use Rattle.cg_mono.specs.Copies.{copy_of}
@@ -67,14 +70,14 @@ slice_past (y ∷ ys) (suc i) h = slice_past ys i (grind (arith, ltb-false (suc 
 -- the function of an arrow type, where there is one, with the places of the instances that are of it
 pub dispatched_at : (whole : Whole) (entries : List Entry) (types : List Ty) (ty : Ty) (number : ℕ) (tags : List (List ℕ)) (places : List ℕ) (f : CFun)
     → map type_of types ≡ whole.arrows → slice_get types number ≡ Some ty → places ≡ get_or tags number []
-    → function_of f ≡ dispatch_by whole.numbered number (type_of ty) places → tags ≡ tags_of entries whole.arrows
+    → function_of f ≡ dispatch_function (dispatch_name number) (typed whole (taken_by (type_of ty))) (typed whole (given_by (type_of ty))) places → tags ≡ tags_of entries whole.arrows
     → Some (function_of f) ≡ option_map (dispatch_of whole entries number) (slice_get whole.arrows number)
 dispatched_at whole entries types ty number tags places f same at got is all =
     let there : slice_get whole.arrows number ≡ Some (type_of ty) = sym (ap (λ ts. slice_get ts number) same) ∙ mapped_at type_of types number ty at in
     let tagged : places ≡ tags_from 0 (type_of ty) entries =
     got ∙ ap (λ z. get_or z number []) all ∙ get_or-map (λ t. tags_from 0 t entries) whole.arrows number unit [] (within whole.arrows number (type_of ty) there)
     ∙ ap (λ t. tags_from 0 t entries) (at_or whole.arrows number (type_of ty) unit there) in
-    ap Some is ∙ ap (λ z. Some (dispatch_by whole.numbered number (type_of ty) z)) tagged ∙ sym (ap (option_map (dispatch_of whole entries number)) there)
+    ap Some is ∙ ap (λ z. Some (dispatch_function (dispatch_name number) (typed whole (taken_by (type_of ty))) (typed whole (given_by (type_of ty))) z)) tagged ∙ sym (ap (option_map (dispatch_of whole entries number)) there)
 
 pub no_arrow : (whole : Whole) (entries : List Entry) (types : List Ty) (number : ℕ) → map type_of types ≡ whole.arrows → slice_get types number ≡ None
     → None ≡ option_map (dispatch_of whole entries number) (slice_get whole.arrows number)

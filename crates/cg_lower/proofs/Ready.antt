@@ -14,7 +14,7 @@ use Rattle.cg_lower_laws.proofs.Typings.{all_back, all_front}
 use Rattle.cg_lower_def.specs.CTypes.{IsDeclared}
 use Rattle.cg_lower_def.specs.Functions.{low_instance}
 use Rattle.cg_lower_def.specs.IteratorCode.{function_type}
-use Rattle.cg_lower_def.specs.Lowered.{Low, Whole}
+use Rattle.cg_cgen_def.specs.Bodies.{Low}
 use Rattle.cg_lower_def.specs.Simulated.{CallsListed, IsCallable, IsReady}
 use Rattle.cg_lower_def.specs.Structs.{IsCovered, structs_in}
 use Rattle.cg_eval_operations.specs.Iterators.{is_iterator}
@@ -40,14 +40,14 @@ copy_at (c ∷ copies) (suc k) x e f h = copy_at copies k x e f h
 -- ---- functions of iterators
 
 -- the function of an iterator's type is that which it calls
-turned_is : (whole : Whole) (lib : Lib) (args : List Tau) → is_iterator lib ≡ true → turned_by (OfLib lib) (library_type lib args) ≡ function_type whole lib args ∷ []
+turned_is : (lib : Lib) (args : List Tau) → is_iterator lib ≡ true → turned_by (OfLib lib) (library_type lib args) ≡ function_type lib args ∷ []
 unfolding type_of_part
-turned_is whole Map args i = refl
-turned_is whole Fold args i = refl
-turned_is whole Seq32 args i = refl
-turned_is whole Seq64 args i = refl
-turned_is whole Seq32Break args i = refl
-turned_is whole _ args i = absurd (cc)
+turned_is Map args i = refl
+turned_is Fold args i = refl
+turned_is Seq32 args i = refl
+turned_is Seq64 args i = refl
+turned_is Seq32Break args i = refl
+turned_is _ args i = absurd (cc)
 
 -- ---- an instance
 
@@ -107,8 +107,8 @@ module _ (copies : List Copy) (few : AreFew copies) where
         let same : library_type lib (arg_types (as_arguments x.types)) ≡ e.ty = cc in
         sym same ∙ ap (library_type lib) (types_back x.types)
 
-    turning : (lib : Lib) → x.fun ≡ OfLib lib → is_iterator lib ≡ true → turned_by x.fun e.ty ≡ function_type (whole_of copies) lib x.types ∷ []
-    turning lib f i = ap (λ g. turned_by g e.ty) f ∙ ap (turned_by (OfLib lib)) (library_is lib f) ∙ turned_is (whole_of copies) lib x.types i
+    turning : (lib : Lib) → x.fun ≡ OfLib lib → is_iterator lib ≡ true → turned_by x.fun e.ty ≡ function_type lib x.types ∷ []
+    turning lib f i = ap (λ g. turned_by g e.ty) f ∙ ap (turned_by (OfLib lib)) (library_is lib f) ∙ turned_is lib x.types i
 
     nodes_declared : (core : Tree Note) → e.body ≡ Some core → AllByRecursion (λ t. IsHere (type_at t)) (nodes_of core)
     nodes_declared core b = subst (λ o. AllByRecursion (λ t. IsHere (type_at t)) (nodes_maybe o)) b (nodes_here k x e here)
@@ -124,7 +124,7 @@ module _ (copies : List Copy) (few : AreFew copies) where
       result = (types_here k x e here).1.0;
       nodes = nodes_declared;
       listed = calls_here;
-      turned = λ lib f i. callable k x e here (function_type (whole_of copies) lib x.types) (turning lib f i);
+      turned = λ lib f i. callable k x e here (function_type lib x.types) (turning lib f i);
       few = few_here k x e here;
       linked = λ i f h b at knows. is.linked k i x e f hx he h b at knows;
     }

@@ -1,27 +1,21 @@
 -- How the code comes to the C of a list of instances: what its parts are, and what is known of them.
-use Rattle.std.specs.Prelude.{◌≡◌, ℕ, false, List, [], ◌∷◌, Some, map, slice_get, if◌then◌else◌}
+use Rattle.std.specs.Prelude.{◌≡◌, ℕ, List, [], ◌∷◌, map, slice_get, if◌then◌else◌}
 use Rattle.cg_base.specs.declared.fun.Lib.{Lib}
-use Rattle.cg_base.specs.declared.kind.Word.TheVariants.{U32}
 use Rattle.cg_base.specs.Types.{Tau}
 use Rattle.cg_lower_nodes.specs.declared.state.Lowering.{Lowering}
 use Rattle.cg_lower_nodes.specs.Kept.{kept_of}
 use Rattle.cg_lower_nodes.specs.Views.{place_of}
 use Rattle.cg_lower.specs.Collected.{Copy}
 use Rattle.cg_ctree.specs.declared.tree.CFun.{CFun}
-use Rattle.cg_ctree.specs.declared.tree.COpnd.TheVariants.{Path}
-use Rattle.cg_ctree.specs.declared.tree.CPath.{CPath}
-use Rattle.cg_ctree.specs.declared.tree.CRhs.{CRhs}
-use Rattle.cg_ctree.specs.declared.tree.CRhs.TheVariants.{Call}
-use Rattle.cg_ctree.specs.declared.tree.CTy.TheVariants as ty
-use Rattle.cg_ctree.specs.Trees.{Body, Function}
 use Rattle.cg_lower.specs.Promises.{IsFewMaybe}
-use Rattle.cg_lower_def.specs.CTypes.{c_type, declared, name}
-use Rattle.cg_lower_def.specs.Dispatch.{dispatch_body, second_name, second_path}
+use Rattle.cg_cgen_def.specs.Names.{declared, function_name}
+use Rattle.cg_lower_def.specs.CTypes.{c_type}
 use Rattle.cg_lower_def.specs.Functions.{Item, of_arrow, of_instance}
 use Rattle.cg_lower_def.specs.IteratorCode.{low_iterator}
-use Rattle.cg_lower_def.specs.LibraryCode.{low_library, whole_argument}
-use Rattle.cg_lower_def.specs.Lowered.{Low, Whole, dispatch_name, function_name}
-use Rattle.cg_lower_def.specs.Places.{argument_name}
+use Rattle.cg_cgen_def.specs.Places.{whole_argument, argument_name}
+use Rattle.cg_lower_def.specs.LibraryCode.{low_library}
+use Rattle.cg_cgen_def.specs.Bodies.{Low}
+use Rattle.cg_lower_def.specs.Lowered.{Whole}
 use Rattle.cg_eval_operations.specs.Iterators.{is_iterator}
 use Rattle.cg_typing.specs.Parts.{given_by, taken_by}
 
@@ -48,25 +42,3 @@ pub record IsHead (numbered : Tau → ℕ) (k : ℕ) (t : Tau) (f : CFun) : Type
   pub ty_is : f.ty ≡ c_type numbered (given_by t)
   pub name_is : f.name ≡ function_name k
   pub params_are : f.params ≡ declared (c_type numbered (taken_by t)) argument_name ∷ []
-
--- ---- functions of arrow types
-
--- a variable, by a letter and a number
-abbrev pub variable_path : ℕ → ℕ → CPath
-variable_path letter n = record { base = name letter n; arrow = false; members = [] }
-
--- a call of the instance at a place
-abbrev pub call_of : ℕ → CRhs
-call_of k = Call (function_name k) (Path second_path ∷ [])
-
--- the function of an arrow type, over numbers of structs, with these cases
-abbrev pub dispatch_body_by : (Tau → ℕ) → Tau → List ℕ → Body
-dispatch_body_by numbered t tags = dispatch_body (record { numbered = numbered; arrows = []; list = [] }) t tags
-
-abbrev pub dispatch_by : (Tau → ℕ) → ℕ → Tau → List ℕ → Function
-dispatch_by numbered j t tags = record {
-  ty = c_type numbered (given_by t);
-  name = dispatch_name j;
-  params = declared (ty.Word U32) argument_name ∷ declared (c_type numbered (taken_by t)) second_name ∷ [];
-  body = Some (dispatch_body_by numbered t tags);
-}

@@ -10,7 +10,9 @@ use Rattle.cg_ctree.specs.Spells.{IsPrintable}
 use Rattle.cg_ctree.specs.Trees.{Program as CText}
 use Rattle.cg_heap.specs.declared.foreign.Link.{Link}
 use Rattle.cg_lower_def.specs.Functions.{low_instance}
-use Rattle.cg_lower_def.specs.Lowered.{Low, Whole, function_name}
+use Rattle.cg_cgen_def.specs.Bodies.{Low}
+use Rattle.cg_cgen_def.specs.Names.{function_name}
+use Rattle.cg_lower_def.specs.Lowered.{Whole}
 use Rattle.cg_lower_def.specs.Printables.{AreShallow}
 use Rattle.cg_lower_def.specs.Simulated.{Simulates}
 use Rattle.cg_lower_def.specs.Structs.{IsCovered, IsTable}

@@ -1,16 +1,17 @@
 // The C function of an instance.
 #![tactic(auto, using(crate::proofs::FunctionSteps::function_steps))]
 
-ghost use Rattle.std.specs.Prelude.{◌≡◌, ◌∷◌, [], ◌<◌, ◌^◌, length, map, IfOk, OnOk};
+ghost use Rattle.std.specs.Prelude.{◌≡◌, ◌<◌, ◌^◌, Some, length, map, IfOk, OnOk};
 ghost use Rattle.std.specs.Option.{option_map};
 ghost use Rattle.cg_base.specs.Types.{type_of};
 ghost use Rattle.cg_core.specs.Kernels.{the_core};
 ghost use Rattle.cg_ctree.specs.Trees as trees;
 ghost use Rattle.cg_lower_nodes.specs.Kept.{kept_of, whole_of};
-ghost use Rattle.cg_lower_def.specs.CTypes.{c_type, declared};
+ghost use Rattle.cg_cgen_def.specs.Names.{declared, function_name as function_name_of};
+ghost use Rattle.cg_lower_def.specs.CTypes.{c_type};
+ghost use Rattle.cg_cgen_def.specs.Bodies.{body_of, locals_from};
 ghost use Rattle.cg_lower_def.specs.Functions as pure;
-ghost use Rattle.cg_lower_def.specs.Lowered.{function_name as function_name_of};
-ghost use Rattle.cg_lower_def.specs.Places.{argument_name};
+ghost use Rattle.cg_cgen_def.specs.Places.{argument_name};
 ghost use Rattle.cg_lower_def.specs.Structs.{numbered_in};
 ghost use Rattle.cg_inst.specs.Views.{instance_of};
 ghost use Rattle.cg_mono.specs.Copies.{copy_of};
@@ -20,12 +21,12 @@ ghost use Rattle.cg_lower.specs.Lowerings.{Begins, IsHead, library_low};
 ghost use Rattle.cg_lower.specs.Promises.{IsFewIn};
 
 use cg_base::{Fun, Items, Lib, Memory, Name, Ty, Word};
+use cg_cgen_lines::{Base, numbered};
 use cg_core::{Term, Typed};
 use cg_ctree::{CBody, CDecl, CFun, CStmt, CTy};
 use cg_eval_operations::is_iterator;
-use cg_lower_iterators::iterator_body;
-use cg_lower_library::library_body;
-use cg_lower_nodes::{Base, Lowering, Place, numbered};
+use cg_lower_library::{iterator_body, library_body};
+use cg_lower_nodes::{Lowering, Place};
 use cg_lower_tables::Structs;
 use cg_lower_terms::lower_term;
 use cg_mono::Copy;
@@ -42,7 +43,7 @@ pub fn function_name(alloc: Global, at: u32) -> Result<Name, Memory>
 
 // The declarations of locals of these types, each by its number.
 fn declared_locals(alloc: Global, mut types: Items<CTy>) -> Result<Items<CDecl>, Memory>
-    ensures { IfOk result (λ decls. decls ≡ pure.locals_from 0 types) }
+    ensures { IfOk result (λ decls. decls ≡ locals_from 0 types) }
 {
     let mut decls = Items::new(alloc);
     let mut at: usize = 0;
@@ -70,7 +71,7 @@ fn begin(alloc: Global, state: &mut Lowering) -> Result<(), Memory>
 
 // The body of a function whose core this is.
 fn lower_body(alloc: Global, state: &mut Lowering, core: &Term<Typed>) -> Result<CBody, Memory>
-    ensures body { IfOk result (λ b. trees.body_of b ≡ pure.body_of (pure.low_body (whole_of state.old) (the_core core.now))) }
+    ensures body { IfOk result (λ b. trees.body_of b ≡ body_of (pure.low_body (whole_of state.old) (the_core core.now))) }
     ensures few { IfOk result (λ b. length (pure.low_body (whole_of state.old) (the_core core.now)).locals < 2 ^ 64) }
     ensures kept { IfOk result (λ b. kept_of state.new ≡ kept_of state.old) }
 {
@@ -84,27 +85,33 @@ fn lower_body(alloc: Global, state: &mut Lowering, core: &Term<Typed>) -> Result
     Ok(CBody { locals, stmts })
 }
 
-// The body of a function of the library.
+// The body of a function of the library, the instance at a place.
 fn lower_library(
     alloc: Global,
     state: &mut Lowering,
+    at: usize,
     lib: Lib,
     args: &Items<Ty>,
-) -> Result<CBody, Memory>
-    ensures body { IfOk result (λ b. trees.body_of b ≡ pure.body_of (library_low (whole_of state.old) lib (map type_of args.now))) }
+) -> Result<Option<CBody>, Memory>
+    ensures body { IfOk result (λ b. option_map trees.body_of b ≡ Some (body_of (library_low (whole_of state.old) lib (map type_of args.now)))) }
     ensures kept { IfOk result (λ b. kept_of state.new ≡ kept_of state.old) }
 {
     if is_iterator(lib) {
-        iterator_body(alloc, state, lib, args)
+        iterator_body(alloc, state, at, lib, args)
     } else {
-        library_body(alloc, state, lib, args)
+        Ok(Some(library_body(alloc, state, lib, args)?))
     }
 }
 
-// The body of the function of an instance; none, where it has none.
-fn body(alloc: Global, state: &mut Lowering, copy: &Copy) -> Result<Option<CBody>, Memory>
+// The body of the function of the instance at a place; none, where it has none.
+fn body(
+    alloc: Global,
+    state: &mut Lowering,
+    at: usize,
+    copy: &Copy,
+) -> Result<Option<CBody>, Memory>
     ensures body { IfOk result (λ b. option_map trees.body_of b
-        ≡ option_map pure.body_of (pure.low_instance (whole_of state.old) (instance_of copy.now.instance) (maybe_core copy.now.body))) }
+        ≡ option_map body_of (pure.low_instance (whole_of state.old) (instance_of copy.now.instance) (maybe_core copy.now.body))) }
     ensures few { IfOk result (λ b. IsFewIn (whole_of state.old) (instance_of copy.now.instance, copy_of copy.now)) }
     ensures kept { IfOk result (λ b. kept_of state.new ≡ kept_of state.old) }
 {
@@ -112,7 +119,7 @@ fn body(alloc: Global, state: &mut Lowering, copy: &Copy) -> Result<Option<CBody
         Some(core) => Ok(Some(lower_body(alloc, state, core)?)),
         None => match copy.instance.fun {
             Fun::User(_) => Ok(None),
-            Fun::Lib(lib) => Ok(Some(lower_library(alloc, state, lib, &copy.instance.args)?)),
+            Fun::Lib(lib) => lower_library(alloc, state, at, lib, &copy.instance.args),
         },
     }
 }
@@ -177,7 +184,7 @@ pub(crate) fn lower_function(
     ensures kept { IfOk result (λ f. kept_of state.new ≡ kept_of state.old) }
 {
     let mut function = head(alloc, &mut state.structs, at, &copy.ty)?;
-    let body = body(alloc, state, copy)?;
+    let body = body(alloc, state, at, copy)?;
     drop(mem::replace(&mut function.body, body));
     Ok(function)
 }

@@ -5,7 +5,6 @@
 //! docs/LANGUAGE.md, "The C of instances", says it in words.
 #![tactic(auto)]
 
-mod dispatch;
 mod function;
 mod gather;
 mod graph;

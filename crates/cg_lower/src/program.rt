@@ -7,7 +7,13 @@ ghost use Rattle.std.specs.List.{AllByRecursion};
 ghost use Rattle.cg_graphs.specs.Orders.{lists};
 ghost use Rattle.cg_ctree.specs.Trees.{function_of, program_of};
 ghost use Rattle.cg_lower_nodes.specs.Kept.{kept_of, whole_of};
+ghost use Rattle.cg_base.specs.Types.{type_of};
+ghost use Rattle.cg_cgen_def.specs.Dispatches.{dispatch_function};
+ghost use Rattle.cg_cgen_def.specs.Names.{dispatch_name};
+ghost use Rattle.cg_lower_def.specs.CTypes.{c_type};
 ghost use Rattle.cg_lower_def.specs.Dispatch.{dispatch_of};
+ghost use Rattle.cg_lower_def.specs.Structs.{numbered_in};
+ghost use Rattle.cg_typing.specs.Parts.{given_by, taken_by};
 ghost use Rattle.cg_lower_def.specs.Functions.{function_at, function_of_item, functions_at, with_function};
 ghost use Rattle.cg_lower.specs.Calls.{tags_of};
 ghost use Rattle.cg_lower.specs.Collected.{entries_of, list_of};
@@ -17,26 +23,56 @@ ghost use Rattle.cg_lower.specs.Programs.{item_of, lowered};
 ghost use Rattle.cg_lower.specs.Promises.{CanBePrinted, IsFewMaybe, IsSimulated};
 ghost use Rattle.cg_typing.specs.Instances.{Entry};
 
-use crate::dispatch::dispatch;
-use crate::function::lower_function;
+use crate::function::{given, lower_function, taken};
 use crate::gather::{Collected, collect};
 use crate::graph::{calls, tags};
-use cg_base::{Items, Memory};
+use cg_base::{Items, Memory, Ty};
+use cg_cgen::{DispatchList, dispatch};
+use cg_cgen_lines::numbered;
 use cg_ctree::{CFun, CProgram};
 use cg_graphs::by_rank;
 use cg_lower_nodes::Lowering;
+use cg_lower_tables::Structs;
 use cg_mono::Mono;
 use std::alloc::Global;
 
 // The places of the instances of the arrow type of a number; none, where there is no such arrow type.
-fn tags_at(tags: &[Vec<u32>], number: usize) -> &[u32]
-    ensures { result.now ≡ get_or (lists tags.now) number [] }
+fn tags_at(alloc: Global, tags: &[Vec<u32>], number: usize) -> Result<Items<u32>, Memory>
+    ensures { IfOk result (λ places. places ≡ get_or (lists tags.now) number []) }
 {
     if number < tags.len() {
-        tags[number].as_slice()
+        copied(alloc, &tags[number])
     } else {
-        &[]
+        Ok(Items::new(alloc))
     }
+}
+
+// Equal places.
+fn copied(alloc: Global, places: &Vec<u32>) -> Result<Items<u32>, Memory>
+    ensures { IfOk result (λ copies. copies ≡ places.now.items) }
+{
+    let mut copies = Items::new(alloc);
+    for at in places.as_slice() {
+        copies.push(*at)?;
+    }
+    Ok(copies)
+}
+
+// The function of the arrow type of a number, with a case for each of these places.
+fn arrow_dispatch(
+    alloc: Global,
+    structs: &mut Structs,
+    number: usize,
+    ty: &Ty,
+    tags: Items<u32>,
+) -> Result<CFun, Memory>
+    ensures function { IfOk result (λ f. function_of f ≡ dispatch_function (dispatch_name number) (c_type (numbered_in structs.old.table) (taken_by (type_of ty.now))) (c_type (numbered_in structs.old.table) (given_by (type_of ty.now))) tags) }
+    ensures kept { structs.new.table ≡ structs.old.table }
+{
+    let name = numbered(alloc, b'd', number)?;
+    let arg = taken(alloc, structs, ty)?;
+    let result = given(alloc, structs, ty)?;
+    dispatch(alloc, name, &DispatchList { arg, result, tags })
 }
 
 // The function of the arrow type of a number; none, where there is no such arrow type.
@@ -51,13 +87,11 @@ fn arrow_function(
     ensures kept { IfOk result (λ f. kept_of state.new ≡ kept_of state.old) }
 {
     match state.places.arrow_types().get(number) {
-        Some(ty) => Ok(Some(dispatch(
-            alloc,
-            &mut state.structs,
-            number,
-            ty,
-            tags_at(tags, number),
-        )?)),
+        Some(ty) => {
+            let tags = tags_at(alloc, tags, number)?;
+            let function = arrow_dispatch(alloc, &mut state.structs, number, ty, tags)?;
+            Ok(Some(function))
+        }
         None => Ok(None),
     }
 }

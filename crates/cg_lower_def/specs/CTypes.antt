@@ -1,5 +1,5 @@
 -- Types as C has them, and the structs that they are of (docs/LANGUAGE.md, "The C of instances", types).
-use Rattle.std.specs.Prelude.{◌≡◌, ℕ, suc, ◌^◌, ◌≤◌, false, List, [], ◌∷◌, ◌++◌, codes, decimal, if◌then◌else◌}
+use Rattle.std.specs.Prelude.{◌≡◌, ℕ, suc, ◌^◌, ◌≤◌, false, List, [], ◌∷◌, ◌++◌, codes, if◌then◌else◌}
 use Rattle.std.specs.Str.{bytes_eq}
 use Rattle.cg_base.specs.declared.kind.Sigil.TheVariants.{R, W, U}
 use Rattle.cg_base.specs.declared.kind.Word.{Word}
@@ -11,32 +11,7 @@ use Rattle.cg_ctree.specs.declared.tree.CDecl.{CDecl}
 use Rattle.cg_ctree.specs.declared.tree.CStruct.{CStruct}
 use Rattle.cg_ctree.specs.declared.tree.CTy.{CTy}
 use Rattle.cg_ctree.specs.declared.tree.CTy.TheVariants as ty
-
--- ---- names
-
--- a C name: a letter and a number
-abbrev pub name : ℕ → ℕ → List ℕ
-name letter k = letter ∷ decimal k
-
--- m0, m1 and so on, the fields of a record
-abbrev pub field_name : ℕ → List ℕ
-field_name i = name 109 i
-
--- t, the tag of a variant, and a0, a1 and so on, its payloads
-abbrev pub tag_name : List ℕ
-tag_name = 116 ∷ []
-
-abbrev pub payload_name : ℕ → List ℕ
-payload_name i = name 97 i
-
--- s<k>, a struct
-abbrev pub struct_name : ℕ → List ℕ
-struct_name k = name 115 k
-
-abbrev pub declared : CTy → List ℕ → CDecl
-declared t x = record { ty = t; name = x }
-
--- ---- types
+use Rattle.cg_cgen_def.specs.Names.{declared, name, struct_name, tag_name}
 
 -- the word of an array's elements
 abbrev pub element : Taus → Word

@@ -1,35 +1,24 @@
 -- The C program of a list of instances (docs/LANGUAGE.md, "The C of instances", functions).
-use Rattle.std.specs.Prelude.{ℕ, suc, List, [], ◌∷◌, ◌++◌, Option, Some, None, slice_get, if◌then◌else◌}
+use Rattle.std.specs.Prelude.{ℕ, List, [], ◌∷◌, Option, Some, None, slice_get, if◌then◌else◌}
 use Rattle.std.specs.Option.{option_map}
 use Rattle.cg_base.specs.declared.fun.Fun.{Fun}
 use Rattle.cg_base.specs.declared.fun.Fun.TheVariants.{User, Lib as OfLib}
 use Rattle.cg_core.specs.Terms.{Note, Tree}
-use Rattle.cg_ctree.specs.declared.tree.CDecl.{CDecl}
 use Rattle.cg_ctree.specs.declared.tree.CStruct.{CStruct}
-use Rattle.cg_ctree.specs.declared.tree.CTy.{CTy}
 use Rattle.cg_ctree.specs.Trees as trees
-use Rattle.cg_ctree.specs.Trees.{Body, return', to_block}
 use Rattle.cg_cmachine_def.specs.Runs.{Linked}
 use Rattle.cg_heap.specs.declared.foreign.Link.{Link}
 use Rattle.cg_eval_operations.specs.Iterators.{is_iterator}
 use Rattle.cg_typing.specs.Instances.{Entry, Instance}
 use Rattle.cg_typing.specs.Parts.{given_by, taken_by}
 use Rattle.cg_update.specs.Calls.{Program}
-use Rattle.cg_lower_def.specs.CTypes.{declared}
+use Rattle.cg_cgen_def.specs.Names.{declared, function_name}
 use Rattle.cg_lower_def.specs.Dispatch.{dispatch_of}
 use Rattle.cg_lower_def.specs.IteratorCode.{low_iterator}
-use Rattle.cg_lower_def.specs.LibraryCode.{low_library, whole_argument}
-use Rattle.cg_lower_def.specs.Lowered.{Low, Whole, function_name, low, typed}
-use Rattle.cg_lower_def.specs.Places.{argument_name, local_name, operand}
-
--- the locals of these types, counted from k on
-abbrev pub locals_from : ℕ → List CTy → List CDecl
-locals_from k [] = []
-locals_from k (t ∷ ts) = declared t (local_name k) ∷ locals_from (suc k) ts
-
--- a body, which returns the value
-abbrev pub body_of : Low → Body
-body_of a = record { locals = locals_from 0 a.locals; block = to_block (a.code ++ return' (operand a.value) ∷ []) }
+use Rattle.cg_cgen_def.specs.Places.{whole_argument, argument_name}
+use Rattle.cg_lower_def.specs.LibraryCode.{low_library}
+use Rattle.cg_cgen_def.specs.Bodies.{Low, body_of}
+use Rattle.cg_lower_def.specs.Lowered.{Whole, low, typed}
 
 module _ (whole : Whole) where
   -- a body in the context of its argument

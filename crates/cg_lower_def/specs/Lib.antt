@@ -1,10 +1,10 @@
 pub mod CTypes
 pub mod Dispatch
 pub mod Functions
+pub mod Iterated
 pub mod IteratorCode
 pub mod LibraryCode
 pub mod Lowered
-pub mod Places
 pub mod Structs
 pub mod Typed
 pub mod Printables

@@ -7,7 +7,7 @@ use Rattle.cg_base.specs.declared.kind.Word.TheVariants.{U8, U32}
 use Rattle.cg_base.specs.Types.{Tau}
 use Rattle.cg_cmachine_def.specs.BuiltIns.{array_call}
 use Rattle.cg_ctree.specs.declared.tree.CRhs.{CRhs}
-use Rattle.cg_ctree.specs.declared.tree.CRhs.TheVariants.{Opnd, IsNull, Call as called, New as made}
+use Rattle.cg_ctree.specs.declared.tree.CRhs.TheVariants.{IsNull, Call as called, New as made}
 use Rattle.cg_ctree.specs.declared.tree.CTy.TheVariants as ty
 use Rattle.cg_ctree.specs.Trees.{Stmt, assign, branch, call, to_block}
 use Rattle.cg_lib_value.specs.Library.{first_type}
@@ -15,19 +15,9 @@ use Rattle.cg_typing.specs.Library.{array, maybe, pair, state}
 use Rattle.cg_typing.specs.Parts.{all_taken}
 use Rattle.cg_update.specs.Turns.{fields_in}
 use Rattle.cg_lower_def.specs.CTypes.{record_struct}
-use Rattle.cg_lower_def.specs.Lowered.{Whole, Low, leaf, typed, word_of}
-use Rattle.cg_lower_def.specs.Places.{Place, Step, field, tag, payload, argument, local, number, held, path, operand}
-
--- the argument, and a field of it
-abbrev pub whole_argument : Place
-whole_argument = held argument []
-
-abbrev pub field_of_argument : ℕ → Place
-field_of_argument i = held argument (field i ∷ [])
-
--- what sets a part of a local to the value at a place
-abbrev pub setting : ℕ → List Step → Place → Stmt
-setting j steps v = assign (path (local j) steps) (Opnd (operand v))
+use Rattle.cg_cgen_def.specs.Bodies.{Low, leaf, setting}
+use Rattle.cg_lower_def.specs.Lowered.{Whole, typed, word_of}
+use Rattle.cg_cgen_def.specs.Places.{Place, field, tag, payload, local, number, held, path, operand, field_of_argument, whole_argument}
 
 -- A cell is asked for, which `make` does: x0 is its address, x1 whether there is none, and x2 the result, the allocator at q with None or
 -- Some.

@@ -8,8 +8,7 @@ use Rattle.cg_base.specs.declared.kind.Word.{Word}
 use Rattle.cg_base.specs.declared.kind.Word.TheVariants.{U8, U32}
 use Rattle.cg_base.specs.Same.{same_type}
 use Rattle.cg_base.specs.Types.{Tau, word}
-use Rattle.cg_cgen.specs.Code.{op_code}
-use Rattle.cg_cgen.specs.Meanings.{takes_two}
+use Rattle.cg_cgen_def.specs.Code.{op_code, takes_two}
 use Rattle.cg_core.specs.declared.op.Op.{Op}
 use Rattle.cg_core.specs.Terms.{Arg, Note, Tree, term, Shape, var, unit, bool, lit, fun, op, app, lets, let_bang, if_else, con, case_of, esac, struct, member, take_field, put, cast, annot, none, more, Named, end, field as named}
 use Rattle.cg_ctree.specs.declared.tree.COp.TheVariants as cop
@@ -25,15 +24,10 @@ use Rattle.cg_typing.specs.Instances.{Instance}
 use Rattle.cg_typing.specs.Rules.{type_at}
 use Rattle.cg_update.specs.Turns.{field_type, place_in}
 use Rattle.cg_update.specs.Updates.{place_of, sigil_of}
-use Rattle.cg_lower_def.specs.CTypes.{name, c_type}
-use Rattle.cg_lower_def.specs.Places.{field, tag, payload, Base, local, Place, number, held, at, path, arrow_path, operand, base_of}
-
--- f<k>, the function of the instance at a place, and d<j>, that which calls the functions of an arrow type by their places
-abbrev pub function_name : ℕ → List ℕ
-function_name k = name 102 k
-
-abbrev pub dispatch_name : ℕ → List ℕ
-dispatch_name j = name 100 j
+use Rattle.cg_cgen_def.specs.Names.{name, dispatch_name, function_name}
+use Rattle.cg_lower_def.specs.CTypes.{c_type}
+use Rattle.cg_cgen_def.specs.Places.{field, tag, payload, Base, local, Place, number, held, at, path, arrow_path, operand, base_of}
+use Rattle.cg_cgen_def.specs.Bodies.{Low, leaf}
 
 -- where an arrow type stands among those of calls through function values; past their end, where it doesn't
 unfoldable pub arrow_number : List Tau → Tau → ℕ
@@ -46,15 +40,6 @@ pub record Whole : Type 0 where
   pub numbered : Tau → ℕ
   pub arrows : List Tau
   pub list : List Instance
-
--- a lowered term: where its value is kept, the types of its locals, and its statements
-pub record Low : Type 0 where
-  pub value : Place
-  pub locals : List CTy
-  pub code : List Stmt
-
-abbrev pub leaf : Place → Low
-leaf v = record { value = v; locals = []; code = [] }
 
 -- one behind the other, with the value of the second
 abbrev pub joined : Low → Low → Low

@@ -27,7 +27,9 @@ use Rattle.cg_update.specs.Updates.{Result, updated}
 use Rattle.cg_lower_def.specs.CTypes.{IsDeclared}
 use Rattle.cg_lower_def.specs.Functions.{Item, of_arrow, of_instance, linked_in, low_instance}
 use Rattle.cg_lower_def.specs.IteratorCode.{function_type}
-use Rattle.cg_lower_def.specs.Lowered.{Low, Whole, arrow_number, dispatch_name, function_name}
+use Rattle.cg_cgen_def.specs.Bodies.{Low}
+use Rattle.cg_cgen_def.specs.Names.{dispatch_name, function_name}
+use Rattle.cg_lower_def.specs.Lowered.{Whole, arrow_number}
 
 -- a state of the update semantics as one of runs
 abbrev pub as_run : State → runs.State
@@ -60,7 +62,7 @@ pub record IsReady (p : Program) (whole : Whole) (ss : List CStruct) (links : Li
   pub result : IsDeclared whole.numbered ss (given_by e.ty)
   pub nodes : (core : Tree Note) → e.body ≡ Some core → AllByRecursion (λ t. IsDeclared whole.numbered ss (type_at t)) (nodes_of core)
   pub listed : (core : Tree Note) → e.body ≡ Some core → AllByRecursion (CallsListed whole.arrows) (nodes_of core)
-  pub turned : (lib : Lib) → x.fun ≡ OfLib lib → is_iterator lib ≡ true → IsCallable whole ss (function_type whole lib x.types)
+  pub turned : (lib : Lib) → x.fun ≡ OfLib lib → is_iterator lib ≡ true → IsCallable whole ss (function_type lib x.types)
   pub few : (a : Low) → low_instance whole x e.body ≡ Some a → length a.locals < 2 ^ 64
   pub linked : (i : ℕ) (f : Function) → x.fun ≡ User i → e.body ≡ None → slice_get p.functions i ≡ Some f → is_known p.foreign f ≡ true
       → linked_to (function_name k) links ≡ Some f.at.name

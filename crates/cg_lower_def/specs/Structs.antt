@@ -7,7 +7,8 @@ use Rattle.cg_base.specs.Same.{same_type}
 use Rattle.cg_base.specs.Types.{Tau, variant, fields, Parts, end, part}
 use Rattle.cg_ctree.specs.declared.tree.CDecl.{CDecl}
 use Rattle.cg_ctree.specs.declared.tree.CStruct.{CStruct}
-use Rattle.cg_lower_def.specs.CTypes.{count, form, form_parts, IsDeclared, record_members, struct_name, variant_members}
+use Rattle.cg_cgen_def.specs.Names.{struct_name}
+use Rattle.cg_lower_def.specs.CTypes.{count, form, form_parts, IsDeclared, record_members, variant_members}
 
 -- where the first type of a form stands in a table of types
 unfoldable pub numbered_in : List Tau → Tau → ℕ

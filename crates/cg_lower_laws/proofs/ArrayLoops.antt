@@ -1,5 +1,5 @@
 -- Iterators over arrays: `fold`, which reads an array, and `map`, which also writes it.
-use Rattle.std.proofs.Common.{◌≡◌, ℕ, zero, suc, ◌+◌, ◌*◌, ◌^◌, ◌<◌, ◌≤◌, Bool, true, false, cond, min, Option, Some, List, [], ◌∷◌, ◌++◌, length, length-append, replicate, get_or, map, nat_lt, slice_get, slice_set, take, unwrap_or, refl, sym, ap, ◌∙◌, subst, arith, codes}
+use Rattle.std.proofs.Common.{◌≡◌, ℕ, zero, suc, ◌+◌, ◌^◌, ◌<◌, ◌≤◌, Bool, true, false, cond, min, Option, Some, List, [], ◌∷◌, ◌++◌, length, length-append, replicate, get_or, map, nat_lt, slice_get, slice_set, take, unwrap_or, refl, sym, ap, ◌∙◌, subst, arith, codes}
 use Rattle.std.proofs.lemmas.Bool.{and_parts, eq-eqb, le-leb, le-ltb, lt-ltb, ltb-false, ltb-true}
 use Rattle.std.proofs.lemmas.List.{append-nil, drop_all, length-replicate, replicate-append-replicate}
 use Rattle.std.proofs.Math.Seq.{take-append_seam}
@@ -7,14 +7,13 @@ use Rattle.std.proofs.Math.Nat.{mod-eq_of_lt, min_comm, min-eq_left, min-le_left
 use Rattle.std.specs.Cmp.{nat_cmp_total, unsigned_tied}
 use Rattle.std.specs.FinMap as map'
 use Rattle.std.specs.FinMap.{get-insert}
-use Rattle.std.specs.List.{list_all, list_any}
+use Rattle.std.specs.List.{list_all}
 use Rattle.cg_base.specs.declared.fun.Lib.{Lib}
 use Rattle.cg_base.specs.declared.fun.Lib.TheVariants.{Fold, Map}
 use Rattle.cg_base.specs.declared.kind.Sigil.{Sigil}
 use Rattle.cg_base.specs.declared.kind.Sigil.TheVariants.{R, W, U}
 use Rattle.cg_base.specs.declared.kind.Word.{Word}
 use Rattle.cg_base.specs.declared.kind.Word.TheVariants.{U8, U32}
-use Rattle.cg_base.specs.Same.{same_type}
 use Rattle.cg_base.specs.Types.{Tau, word, arrow, abs, fields, none, more, Parts, end, part}
 use Rattle.cg_base.specs.Words.{bits}
 use Rattle.cg_cgen.proofs.Numbers.{flag_is_small}
@@ -40,22 +39,20 @@ use Rattle.cg_lib_heap.specs.Library.{words_at}
 use Rattle.cg_eval_operations.specs.Iterators.{counted, indices_from}
 use Rattle.cg_typing.specs.Library.{array, given, library_type, pair}
 use Rattle.cg_typing.specs.Parts.{given_by, taken_by}
-use Rattle.cg_update.specs.Calls.{Program, are_words, types_of}
+use Rattle.cg_update.specs.Calls.{are_words}
 use Rattle.cg_update.specs.Machines.{are_machine, is_machine, part_at, type_of_part}
 use Rattle.cg_update.specs.Outcomes.{State, Outcome, gives, where_true, with_store}
 use Rattle.cg_update.specs.Turns.{Argument, array_in, ended, field_in, field_of, turns}
-use Rattle.cg_update.specs.Updates.{Calls, calls_source}
 use Rattle.cg_lower_def.specs.CTypes.{c_type, count, record_struct, IsDeclared}
-use Rattle.cg_lower_def.specs.IteratorCode.{array_begins, array_goes_on, array_of_argument, array_reads, computing, function_type, less, low_fold, low_map, turning, whole_local}
-use Rattle.cg_lower_def.specs.LibraryCode.{field_of_argument, setting, whole_argument}
-use Rattle.cg_lower_def.specs.Lowered.{Whole}
-use Rattle.cg_lower_def.specs.Places.{Place, Step, argument, argument_name, field, held, local, local_name, number, operand, path, step_name}
+use Rattle.cg_cgen_def.specs.Loops.{array_begins, array_goes_on, array_of_argument, array_reads, computing, fold_low, less, map_low, turning}
+use Rattle.cg_cgen_def.specs.Places.{whole_local, field_of_argument, whole_argument, Place, Step, argument, argument_name, field, held, local, local_name, number, operand, path, step_name}
+use Rattle.cg_lower_def.specs.IteratorCode.{function_type, types_in}
+use Rattle.cg_cgen_def.specs.Bodies.{setting}
 use Rattle.cg_lower_def.specs.Simulated.{as_run}
 use Rattle.cg_lower_laws.proofs.Frames.{Fresh, Is, Keeps, is_kept}
 use Rattle.cg_lower_laws.proofs.Inversions.{bind_is, pay_is, same_rest, same_scalars, same_state, where_is}
-use Rattle.cg_lower_laws.proofs.Iterating.{IteratorClaim, SourceCalled, SourceRuns}
+use Rattle.cg_lower_laws.proofs.Iterating.{Does, IteratorClaim, LoopRan, Price, TurnCalled}
 use Rattle.cg_lower_laws.proofs.Layouts.{field_leads, machine_slots, size_slots}
-use Rattle.cg_lower_laws.proofs.LibraryCalls.{LibraryRan}
 use Rattle.cg_lower_laws.proofs.LibraryParts.{element_below, get_called, get_callee, held_read, length_called, length_callee, one_judged, put_called, put_callee, three_judged, two_judged, words_are}
 use Rattle.cg_lower_laws.proofs.Loops.{Loops, loops_end, loops_turn, runs_while}
 use Rattle.cg_lower_laws.proofs.NumberLoops.{counted_next, counted_none}
@@ -103,12 +100,9 @@ kept_words w m a i k h e =
 
 -- ---- what both are made of
 
-module _ (p : Program) (whole : Whole) (q : Linked) (l : Layout) (few : (k : ℕ) (t : Tau) → types_of p k ≡ Some t → k < 2 ^ 32) (w : Word) (sigil : Sigil) (c o r : Tau) (us : List Scalar) where
-  abbrev types : ℕ → Option Tau
-  types = types_of p
-
+module _ (types : ℕ → Option Tau) (numbered : Tau → ℕ) (q : Linked) (l : Layout) (few : (k : ℕ) (t : Tau) → types k ≡ Some t → k < 2 ^ 32) (w : Word) (sigil : Sigil) (c o r : Tau) (us : List Scalar) where
   abbrev lay_of : Tau → Layout
-  lay_of t = lay_c q (c_type whole.numbered t)
+  lay_of t = lay_c q (c_type numbered t)
 
   -- what the function takes, and what the iterator takes
   abbrev item_parts : Parts
@@ -158,7 +152,7 @@ module _ (p : Program) (whole : Whole) (q : Linked) (l : Layout) (few : (k : ℕ
       record { layout = cell U32; scalars = index } ∷ record { layout = cell U32; scalars = last } ∷ record { layout = cell U8; scalars = test }
       ∷ record { layout = lay_of item; scalars = item_now } ∷ others
 
-  module _ (d : IsDeclared whole.numbered q.program.structs taken) (di : IsDeclared whole.numbered q.program.structs item) (machine : is_machine types taken us ≡ true) where
+  module _ (d : IsDeclared numbered q.program.structs taken) (di : IsDeclared numbered q.program.structs item) (machine : is_machine types taken us ≡ true) where
     -- a field of the argument
     abbrev Field : ℕ → Type 0
     Field i = MachinePart types i parts us
@@ -174,7 +168,7 @@ module _ (p : Program) (whole : Whole) (q : Linked) (l : Layout) (few : (k : ℕ
     field_kept fr xs i h scene =
         let f = part_of i h in
         subst (λ z. Keeps fr (field_of_argument i) (lay_of (type_of_part i parts)) z) (sym (field_is i f))
-        (keeps_field whole.numbered q.program.structs fr whole_argument parts i us f.scalars d (is_kept fr argument (lay_of taken) us scene.argued) f.there)
+        (keeps_field numbered q.program.structs fr whole_argument parts i us f.scalars d (is_kept fr argument (lay_of taken) us scene.argued) f.there)
 
     -- the array and the bounds
     array_is : field_in x 0 ≡ Address at_array ∷ []
@@ -261,27 +255,27 @@ module _ (p : Program) (whole : Whole) (q : Linked) (l : Layout) (few : (k : ℕ
     -- its parts
     item_size : size (lay_of item) ≡ 1 + (slots c + slots (bang o))
     unfolding slots
-    item_size = size_slots whole.numbered q.program.structs item di ∙ omega arith
+    item_size = size_slots numbered q.program.structs item di ∙ omega arith
 
     elem_leads : walk (step_name (field 0) ∷ []) (lay_of item) ≡ Some (spot 0 (cell w))
     unfolding type_of_part count
-    elem_leads = field_leads whole.numbered q.program.structs item_parts U 0 di (omega arith)
+    elem_leads = field_leads numbered q.program.structs item_parts U 0 di (omega arith)
 
     acc_leads : walk (step_name (field 1) ∷ []) (lay_of item) ≡ Some (spot 1 (lay_of c))
     unfolding type_of_part count slots
-    acc_leads = field_leads whole.numbered q.program.structs item_parts U 1 di (omega arith)
+    acc_leads = field_leads numbered q.program.structs item_parts U 1 di (omega arith)
 
     obsv_leads : walk (step_name (field 2) ∷ []) (lay_of item) ≡ Some (spot (1 + slots c) (lay_of (bang o)))
     unfolding type_of_part count slots
-    obsv_leads = field_leads whole.numbered q.program.structs item_parts U 2 di (omega arith) ∙ ap (λ n. Some (spot n (lay_of (bang o)))) (omega arith)
+    obsv_leads = field_leads numbered q.program.structs item_parts U 2 di (omega arith) ∙ ap (λ n. Some (spot n (lay_of (bang o)))) (omega arith)
 
     acc_size : size (lay_of c) ≡ slots c
     unfolding IsDeclared
-    acc_size = size_slots whole.numbered q.program.structs c di.2.1.0
+    acc_size = size_slots numbered q.program.structs c di.2.1.0
 
     obsv_size : size (lay_of (bang o)) ≡ slots (bang o)
     unfolding IsDeclared
-    obsv_size = size_slots whole.numbered q.program.structs (bang o) di.2.1.1.0
+    obsv_size = size_slots numbered q.program.structs (bang o) di.2.1.1.0
 
     -- what is handed on, as a part
     acc_part : (u : Scalar) (cs : List Scalar) → is_machine types c cs ≡ true → part_at 1 item_parts (u ∷ (cs ++ seen)) ≡ Some cs
@@ -300,7 +294,7 @@ module _ (p : Program) (whole : Whole) (q : Linked) (l : Layout) (few : (k : ℕ
     -- ---- what stands before the loop
 
     abbrev Reach : List Stmt → Frame → runs.State → ℕ → List Local → runs.State → Type 0
-    Reach code fr s n xs t = Reaches q whole.numbered l argument_local code fr s n xs t
+    Reach code fr s n xs t = Reaches q numbered l argument_local code fr s n xs t
 
     -- there are few locals
     few_locals : (z e m it : List Scalar) (extra : List Local) → length extra ≤ 2 → length (standing z e m it extra) ≤ 2 ^ 64
@@ -311,9 +305,9 @@ module _ (p : Program) (whole : Whole) (q : Linked) (l : Layout) (few : (k : ℕ
         → Scene argument_local fr (standing z e m (u ∷ (acc ++ old)) extra)
         → Reach (setting 3 (field 2 ∷ []) (field_of_argument 5) ∷ []) fr s 1 (standing z e m (u ∷ (acc ++ seen)) extra) s
     observes fr s z e m acc old u extra h k short scene =
-        sets q whole.numbered l argument_local fr s 3 (standing z e m (u ∷ (acc ++ old)) extra) (record { layout = lay_of item; scalars = u ∷ (acc ++ old) }) (field 2 ∷ []) (field_of_argument 5)
+        sets q numbered l argument_local fr s 3 (standing z e m (u ∷ (acc ++ old)) extra) (record { layout = lay_of item; scalars = u ∷ (acc ++ old) }) (field 2 ∷ []) (field_of_argument 5)
         (lay_of (bang o)) (1 + slots c) seen (u ∷ (acc ++ seen)) scene refl obsv_leads (seen_kept fr (standing z e m (u ∷ (acc ++ old)) extra) scene)
-        (machine_readable whole.numbered q.program.structs types few (bang o) seen seen_machine)
+        (machine_readable numbered q.program.structs types few (bang o) seen seen_machine)
         (spliced_next (1 + slots c) (slots (bang o)) (u ∷ acc) old seen (lay_of (bang o)) obsv_size (omega (arith, h))
         ∙ ap (λ y. (u ∷ (acc ++ seen)) ++ y) (drop_all (slots (bang o)) old (omega (arith, k))) ∙ append-nil (u ∷ (acc ++ seen)))
         (let all = length-append acc seen in omega (arith, all, h, seen_long, item_size)) (few_locals z e m (u ∷ (acc ++ old)) extra short)
@@ -323,9 +317,9 @@ module _ (p : Program) (whole : Whole) (q : Linked) (l : Layout) (few : (k : ℕ
         → Scene argument_local fr (standing z e m (u ∷ (old ++ last)) extra)
         → Reach (setting 3 (field 1 ∷ []) (field_of_argument 4) ∷ []) fr s 1 (standing z e m (u ∷ (first ++ last)) extra) s
     hands fr s z e m old last u extra h k short scene =
-        sets q whole.numbered l argument_local fr s 3 (standing z e m (u ∷ (old ++ last)) extra) (record { layout = lay_of item; scalars = u ∷ (old ++ last) }) (field 1 ∷ []) (field_of_argument 4)
+        sets q numbered l argument_local fr s 3 (standing z e m (u ∷ (old ++ last)) extra) (record { layout = lay_of item; scalars = u ∷ (old ++ last) }) (field 1 ∷ []) (field_of_argument 4)
         (lay_of c) 1 first (u ∷ (first ++ last)) scene refl acc_leads (first_kept fr (standing z e m (u ∷ (old ++ last)) extra) scene)
-        (machine_readable whole.numbered q.program.structs types few c first first_machine)
+        (machine_readable numbered q.program.structs types few c first first_machine)
         (middle_spliced 1 (slots c) (u ∷ []) old last first (lay_of c) acc_size (omega arith) h)
         (let all = length-append first last in let long = machine_slots types c first first_machine in omega (arith, all, k, long, item_size)) (few_locals z e m (u ∷ (old ++ last)) extra short)
 
@@ -349,7 +343,7 @@ module _ (p : Program) (whole : Whole) (q : Linked) (l : Layout) (few : (k : ℕ
         → Scene argument_local fr (standing (NumberScalar z ∷ []) (NumberScalar e ∷ []) m it extra)
         → Reach (less U32 2 (whole_local 0) (whole_local 1) ∷ []) fr s 1 (standing (NumberScalar z ∷ []) (NumberScalar e ∷ []) (NumberScalar (flag (nat_lt z e)) ∷ []) it extra) s
     tests fr s z e m it extra h k short scene =
-        computes q whole.numbered l argument_local fr s 2 (standing (NumberScalar z ∷ []) (NumberScalar e ∷ []) m it extra) (record { layout = cell U8; scalars = m }) cop.Lt U8 U32 (whole_local 0) (whole_local 1) z e
+        computes q numbered l argument_local fr s 2 (standing (NumberScalar z ∷ []) (NumberScalar e ∷ []) m it extra) (record { layout = cell U8; scalars = m }) cop.Lt U8 U32 (whole_local 0) (whole_local 1) z e
         (flag (nat_lt z e)) scene refl refl (index_number fr z (NumberScalar e ∷ []) m it extra h scene) (last_number fr e (NumberScalar z ∷ []) m it extra k scene) (less_is U32 z e h k)
         (few_locals (NumberScalar z ∷ []) (NumberScalar e ∷ []) m it extra short)
 
@@ -357,7 +351,7 @@ module _ (p : Program) (whole : Whole) (q : Linked) (l : Layout) (few : (k : ℕ
     bounded : (fr : Frame) (s : runs.State) (e : ℕ) (z m it : List Scalar) (extra : List Local) → e < 2 ^ 32 → length extra ≤ 2 → Scene argument_local fr (standing z (NumberScalar e ∷ []) m it extra)
         → Reach (less U32 2 (field_of_argument 2) (whole_local 1) ∷ []) fr s 1 (standing z (NumberScalar e ∷ []) (NumberScalar (flag (nat_lt bound e)) ∷ []) it extra) s
     bounded fr s e z m it extra k short scene =
-        computes q whole.numbered l argument_local fr s 2 (standing z (NumberScalar e ∷ []) m it extra) (record { layout = cell U8; scalars = m }) cop.Lt U8 U32 (field_of_argument 2) (whole_local 1) bound e
+        computes q numbered l argument_local fr s 2 (standing z (NumberScalar e ∷ []) m it extra) (record { layout = cell U8; scalars = m }) cop.Lt U8 U32 (field_of_argument 2) (whole_local 1) bound e
         (flag (nat_lt bound e)) scene refl refl (record { keeps = bound_kept fr (standing z (NumberScalar e ∷ []) m it extra) scene; small = bound_is.1 }) (last_number fr e z m it extra k scene)
         (less_is U32 bound e bound_is.1 k) (few_locals z (NumberScalar e ∷ []) m it extra short)
 
@@ -366,7 +360,7 @@ module _ (p : Program) (whole : Whole) (q : Linked) (l : Layout) (few : (k : ℕ
         → Reach (setting 1 [] (field_of_argument 2) ∷ []) fr s 1 (standing z (NumberScalar bound ∷ []) m it extra) s
     unfolding size
     ends_at_bound fr s e z m it extra short scene =
-        sets q whole.numbered l argument_local fr s 1 (standing z (NumberScalar e ∷ []) m it extra) (record { layout = cell U32; scalars = NumberScalar e ∷ [] }) [] (field_of_argument 2) (cell U32) 0
+        sets q numbered l argument_local fr s 1 (standing z (NumberScalar e ∷ []) m it extra) (record { layout = cell U32; scalars = NumberScalar e ∷ [] }) [] (field_of_argument 2) (cell U32) 0
         (NumberScalar bound ∷ []) (NumberScalar bound ∷ []) scene refl refl (bound_kept fr (standing z (NumberScalar e ∷ []) m it extra) scene) (bound, refl, bound_is.1) refl refl
         (few_locals z (NumberScalar e ∷ []) m it extra short)
 
@@ -375,7 +369,7 @@ module _ (p : Program) (whole : Whole) (q : Linked) (l : Layout) (few : (k : ℕ
         → Reach (setting 0 [] (field_of_argument 1) ∷ []) fr s 1 (standing (NumberScalar from ∷ []) e m it extra) s
     unfolding size
     starts fr s u e m it extra short scene =
-        sets q whole.numbered l argument_local fr s 0 (standing (u ∷ []) e m it extra) (record { layout = cell U32; scalars = u ∷ [] }) [] (field_of_argument 1) (cell U32) 0
+        sets q numbered l argument_local fr s 0 (standing (u ∷ []) e m it extra) (record { layout = cell U32; scalars = u ∷ [] }) [] (field_of_argument 1) (cell U32) 0
         (NumberScalar from ∷ []) (NumberScalar from ∷ []) scene refl refl (from_kept fr (standing (u ∷ []) e m it extra) scene) (from, refl, from_is.1) refl refl
         (few_locals (u ∷ []) e m it extra short)
 
@@ -398,7 +392,7 @@ module _ (p : Program) (whole : Whole) (q : Linked) (l : Layout) (few : (k : ℕ
               (one_judged q.program.structs s.store fr (operand array_of_argument) (typed (array_of w) (Address at_array ∷ []))
               (held_read q.program.structs s.store fr argument (field 0 ∷ []) (array_of w) (Address at_array ∷ []) (array_kept fr xs scene) (at_array, refl)))
               (λ m. let zero_more : 0 + m ≡ m = omega arith in rw zero_more (length_called w at_array (words_at at_array s.store) s m cells.0))
-              (write_whole whole.numbered q.program.structs s.store fr (local 1) (cell U32) (u ∷ []) (NumberScalar n ∷ []) (word_value U32 n)
+              (write_whole numbered q.program.structs s.store fr (local 1) (cell U32) (u ∷ []) (NumberScalar n ∷ []) (word_value U32 n)
               (stand_at fr 0 1 1 xs (record { layout = cell U32; scalars = u ∷ [] }) (omega arith) refl scene.locals) (given_typed (cell U32) (NumberScalar n ∷ [])));
           scene = scene_set argument_local fr 1 xs (record { layout = cell U32; scalars = u ∷ [] }) (NumberScalar n ∷ []) refl refl (few_locals z (u ∷ []) m it extra short) scene;
         }
@@ -423,7 +417,7 @@ module _ (p : Program) (whole : Whole) (q : Linked) (l : Layout) (few : (k : ℕ
               (held_read q.program.structs s.store fr argument (field 0 ∷ []) (array_of w) (Address at_array ∷ []) (array_kept fr xs scene) (at_array, refl))
               (held_read q.program.structs s.store fr (local 0) [] (cell U32) (NumberScalar z ∷ []) (scene_whole argument_local fr 0 xs (record { layout = cell U32; scalars = NumberScalar z ∷ [] }) refl scene) (z, refl, h)))
               (λ m. let zero_more : 0 + m ≡ m = omega arith in rw zero_more (get_called w at_array z (words_at at_array s.store) s m cells.0 cells.2 h))
-              (write_part whole.numbered q.program.structs s.store fr (local 3) (field 0 ∷ []) (lay_of item) (u ∷ it) (NumberScalar n ∷ []) (spot 0 (cell w)) (word_value w n)
+              (write_part numbered q.program.structs s.store fr (local 3) (field 0 ∷ []) (lay_of item) (u ∷ it) (NumberScalar n ∷ []) (spot 0 (cell w)) (word_value w n)
               is elem_leads (given_typed (cell w) (NumberScalar n ∷ [])));
           scene = scene_set argument_local fr 3 xs (record { layout = lay_of item; scalars = u ∷ it }) (NumberScalar n ∷ it) refl is.sized (few_locals (NumberScalar z ∷ []) e m (u ∷ it) extra short) scene;
         }
@@ -455,9 +449,9 @@ module _ (p : Program) (whole : Whole) (q : Linked) (l : Layout) (few : (k : ℕ
         → Keeps fr v (lay_of c) cs → Scene argument_local fr (standing z e m (u ∷ (old ++ seen)) extra)
         → Reach (setting 3 (field 1 ∷ []) v ∷ []) fr s 1 (standing z e m (u ∷ (cs ++ seen)) extra) s
     carries fr s z e m old cs u v extra h formed short keeps scene =
-        sets q whole.numbered l argument_local fr s 3 (standing z e m (u ∷ (old ++ seen)) extra) (record { layout = lay_of item; scalars = u ∷ (old ++ seen) }) (field 1 ∷ []) v
+        sets q numbered l argument_local fr s 3 (standing z e m (u ∷ (old ++ seen)) extra) (record { layout = lay_of item; scalars = u ∷ (old ++ seen) }) (field 1 ∷ []) v
         (lay_of c) 1 cs (u ∷ (cs ++ seen)) scene refl acc_leads keeps
-        (machine_readable whole.numbered q.program.structs types few c cs formed)
+        (machine_readable numbered q.program.structs types few c cs formed)
         (middle_spliced 1 (slots c) (u ∷ []) old seen cs (lay_of c) acc_size (omega arith) h)
         (let all = length-append cs seen in let long = machine_slots types c cs formed in omega (arith, all, seen_long, long, item_size)) (few_locals z e m (u ∷ (old ++ seen)) extra short)
 
@@ -553,13 +547,13 @@ module _ (p : Program) (whole : Whole) (q : Linked) (l : Layout) (few : (k : ℕ
         from1 = assign (path (local 1) []) (called (array_call w (codes "length")) (operand array_of_argument ∷ [])) ∷ from2
 
         join : (z : Stmt) (rest : List Stmt) (fr : Frame) (i j : ℕ) (xs ys : List Local) → Reach (z ∷ []) fr s i xs s → ((fr' : Frame) → Scene argument_local fr' xs → Reach rest fr' s j ys s) → Reach (z ∷ rest) fr s (i + j) ys s
-        join z rest fr i j xs ys one others = reaches_on q whole.numbered l argument_local (z ∷ []) rest fr s s s i j xs ys one others
+        join z rest fr i j xs ys one others = reaches_on q numbered l argument_local (z ∷ []) rest fr s s s i j xs ys one others
 
     -- the next index
     nexts : (fr : Frame) (s : runs.State) (n : ℕ) (e m it : List Scalar) (extra : List Local) → suc n < 2 ^ 32 → length extra ≤ 2 → Scene argument_local fr (standing (NumberScalar n ∷ []) e m it extra)
         → Reach (computing U32 0 (whole_local 0) (number 1) ∷ []) fr s 1 (standing (NumberScalar (n + 1) ∷ []) e m it extra) s
     nexts fr s n e m it extra h short scene =
-        computes q whole.numbered l argument_local fr s 0 (standing (NumberScalar n ∷ []) e m it extra) (record { layout = cell U32; scalars = NumberScalar n ∷ [] }) cop.Add U32 U32 (whole_local 0) (number 1) n 1
+        computes q numbered l argument_local fr s 0 (standing (NumberScalar n ∷ []) e m it extra) (record { layout = cell U32; scalars = NumberScalar n ∷ [] }) cop.Add U32 U32 (whole_local 0) (number 1) n 1
         (n + 1) scene refl refl (index_number fr n e m it extra (omega (arith, h)) scene) (record { keeps = record { word = U32; laid = refl; is = refl; small = omega arith }; small = omega arith })
         (sum_is U32 n 1 (omega (arith, h)) (omega arith) ∙ ap (λ k. runs.ok (word_value U32 k)) (mod-eq_of_lt (omega (arith, h)))) (few_locals (NumberScalar n ∷ []) e m it extra short)
 
@@ -567,7 +561,7 @@ module _ (p : Program) (whole : Whole) (q : Linked) (l : Layout) (few : (k : ℕ
     goes_on : (fr : Frame) (s : runs.State) (n to : ℕ) (m it : List Scalar) (extra : List Local) → n < to → to < 2 ^ 32 → length extra ≤ 2
         → Scene argument_local fr (standing (NumberScalar n ∷ []) (NumberScalar to ∷ []) m it extra) → Reach array_goes_on fr s 2 (looping (n + 1) to it extra) s
     goes_on fr s n to m it extra h k short scene =
-        reaches_on q whole.numbered l argument_local (computing U32 0 (whole_local 0) (number 1) ∷ []) (less U32 2 (whole_local 0) (whole_local 1) ∷ []) fr s s s 1 1
+        reaches_on q numbered l argument_local (computing U32 0 (whole_local 0) (number 1) ∷ []) (less U32 2 (whole_local 0) (whole_local 1) ∷ []) fr s s s 1 1
         (standing (NumberScalar (n + 1) ∷ []) (NumberScalar to ∷ []) m it extra) (looping (n + 1) to it extra)
         (nexts fr s n (NumberScalar to ∷ []) m it extra (omega (arith, h, k)) short scene)
         (λ fr1 sc1. tests fr1 s (n + 1) to m it extra (omega (arith, h, k)) k short sc1)
@@ -575,33 +569,32 @@ module _ (p : Program) (whole : Whole) (q : Linked) (l : Layout) (few : (k : ℕ
     -- ---- turns
 
     -- a turn's call, whose answer goes to a part of a local
-    module _ (lib : Lib) (args : List Tau) (calls : Calls) (sr : SourceRuns p whole q calls) (ty : function_type whole lib args ≡ arrow item r) (listed : list_any (λ u. same_type u (arrow item r)) whole.arrows ≡ true) where
+    module _ (callee : List ℕ) (price : Price) (call : List Scalar → State → ℕ → Outcome) (does : Does types numbered q callee price function item r call) where
       -- the call
       called_is : (n : ℕ) (cs ws : List Scalar) (s s' : State) (left rest : ℕ) → n < 2 ^ bits w → is_machine types c cs ≡ true
-          → calls_source p calls (slice_get p.list function) function (NumberScalar n ∷ (cs ++ seen)) s left ≡ gives ws s' rest
-          → SourceCalled p whole q item r (typed (cell U32) (NumberScalar function ∷ [])) (typed (lay_of item) (NumberScalar n ∷ (cs ++ seen))) s s' ws left rest
+          → call (NumberScalar n ∷ (cs ++ seen)) s left ≡ gives ws s' rest
+          → TurnCalled types numbered q callee price r (typed (cell U32) (NumberScalar function ∷ [])) (typed (lay_of item) (NumberScalar n ∷ (cs ++ seen))) s s' ws left rest
       called_is n cs ws s s' left rest h m e =
-          sr function item r (NumberScalar n ∷ (cs ++ seen)) ws s s' left rest (typed (cell U32) (NumberScalar function ∷ [])) (typed (lay_of item) (NumberScalar n ∷ (cs ++ seen)))
-          listed function_is.1 e (item_machine n cs h m) (given_typed (cell U32) (NumberScalar function ∷ [])) (given_typed (lay_of item) (NumberScalar n ∷ (cs ++ seen)))
+          does (NumberScalar n ∷ (cs ++ seen)) ws s s' left rest function_is.1 e (item_machine n cs h m)
 
       -- and what is set to its answer
       turn_is : (fr : Frame) (s s' : State) (n to i : ℕ) (z e m cs ws after : List Scalar) (extra : List Local) (y : Local) (steps : List Step) (left rest : ℕ)
           → Scene argument_local fr (standing z e m (NumberScalar n ∷ (cs ++ seen)) extra) → n < 2 ^ bits w → is_machine types c cs ≡ true → length extra ≤ 2
           → slice_get (standing z e m (NumberScalar n ∷ (cs ++ seen)) extra) to ≡ Some y → walk (map step_name steps) y.layout ≡ Some (spot i (lay_of r))
           → spliced (spot i (lay_of r)) ws y.scalars ≡ after → length after ≡ size y.layout
-          → (call : SourceCalled p whole q item r (typed (cell U32) (NumberScalar function ∷ [])) (typed (lay_of item) (NumberScalar n ∷ (cs ++ seen))) s s' ws left rest)
-          → Reach (turning whole lib args to steps 3 ∷ []) fr (as_run s) (suc call.called.steps) (replaced to after (standing z e m (NumberScalar n ∷ (cs ++ seen)) extra)) (as_run s')
-      turn_is fr s s' n to i z e m cs ws after extra y steps left rest scene h mc short at leads becomes sized call =
-          turn_runs p whole q l argument_local fr s s' lib args item r to 3 i (standing z e m (NumberScalar n ∷ (cs ++ seen)) extra) y
+          → (turn : TurnCalled types numbered q callee price r (typed (cell U32) (NumberScalar function ∷ [])) (typed (lay_of item) (NumberScalar n ∷ (cs ++ seen))) s s' ws left rest)
+          → Reach (turning callee to steps 3 ∷ []) fr (as_run s) (suc turn.steps) (replaced to after (standing z e m (NumberScalar n ∷ (cs ++ seen)) extra)) (as_run s')
+      turn_is fr s s' n to i z e m cs ws after extra y steps left rest scene h mc short at leads becomes sized turn =
+          turn_runs types numbered q l callee price argument_local fr s s' r to 3 i (standing z e m (NumberScalar n ∷ (cs ++ seen)) extra) y
           (record { layout = lay_of item; scalars = NumberScalar n ∷ (cs ++ seen) }) steps (NumberScalar function ∷ []) (NumberScalar n ∷ (cs ++ seen)) ws after left rest
-          ty scene at refl refl (machine_readable whole.numbered q.program.structs types few item (NumberScalar n ∷ (cs ++ seen)) (item_machine n cs h mc))
+          scene at refl refl (machine_readable numbered q.program.structs types few item (NumberScalar n ∷ (cs ++ seen)) (item_machine n cs h mc))
           (function_kept fr (standing z e m (NumberScalar n ∷ (cs ++ seen)) extra) scene) (function, refl, function_is.2) leads becomes sized
-          (few_locals z e m (NumberScalar n ∷ (cs ++ seen)) extra short) call
+          (few_locals z e m (NumberScalar n ∷ (cs ++ seen)) extra short) turn
 
     -- ---- the loop
 
     -- statements that make a turn up to its index, with one more local or none that they set
-    module _ (lib : Lib) (args : List Tau) (call : List Scalar → State → ℕ → Outcome) (code : List Stmt) (extra : List Scalar → List Local) (short : (ys : List Scalar) → length (extra ys) ≤ 2) where
+    module _ (price : Price) (lib : Lib) (args : List Tau) (call : List Scalar → State → ℕ → Outcome) (code : List Stmt) (extra : List Scalar → List Local) (short : (ys : List Scalar) → length (extra ys) ≤ 2) where
       -- what a turn does
       record Turned (fr : Frame) (s : State) (n to : ℕ) (test : List Scalar) (is : List ℕ) (left : ℕ) (ws : List Scalar) (s' : State) (rest : ℕ) : Type 0 where
         handed : List Scalar
@@ -610,7 +603,7 @@ module _ (p : Program) (whole : Whole) (q : Linked) (l : Layout) (few : (k : ℕ
         answer : List Scalar
         element : Scalar
         steps : ℕ
-        within : steps + 32 * kept + 3 ≤ 32 * left
+        within : steps + price.worth kept + 3 ≤ price.worth left
         formed : is_machine types c handed ≡ true
         there : are_words (word w) (cell_at state.store at_array) ≡ true
         reach : Reach code fr (as_run s) steps (standing (NumberScalar n ∷ []) (NumberScalar to ∷ []) test (element ∷ (handed ++ seen)) (extra answer)) (as_run state)
@@ -631,7 +624,7 @@ module _ (p : Program) (whole : Whole) (q : Linked) (l : Layout) (few : (k : ℕ
         handed : List Scalar
         answer : List Scalar
         element : Scalar
-        within : steps + 32 * rest ≤ 32 * left + 1
+        within : steps + price.worth rest ≤ price.worth left + 1
         formed : is_machine types c handed ≡ true
         is : ended lib x handed ≡ ws
         loops : Loops q l (operand (whole_local 2)) (code ++ array_goes_on) fr (as_run s) steps frame (as_run s')
@@ -657,7 +650,7 @@ module _ (p : Program) (whole : Whole) (q : Linked) (l : Layout) (few : (k : ℕ
             handed = cs;
             answer = ys;
             element = u;
-            within = omega (arith, same);
+            within = omega (arith, ap price.worth same);
             formed = m;
             is = same_scalars (ended lib x cs) ws s s' left rest e;
             loops =
@@ -674,7 +667,7 @@ module _ (p : Program) (whole : Whole) (q : Linked) (l : Layout) (few : (k : ℕ
           → Looped fr s to left ws s' rest
       one_turn fr s s' n to cs ys ws u is left rest h small scene t others =
           let made =
-          reaches_on q whole.numbered l argument_local code array_goes_on fr (as_run s) (as_run t.state) (as_run t.state) t.steps 2
+          reaches_on q numbered l argument_local code array_goes_on fr (as_run s) (as_run t.state) (as_run t.state) t.steps 2
           (standing (NumberScalar n ∷ []) (NumberScalar to ∷ []) (NumberScalar (flag (nat_lt n to)) ∷ []) (t.element ∷ (t.handed ++ seen)) (extra t.answer))
           (looping (n + 1) to (t.element ∷ (t.handed ++ seen)) (extra t.answer)) t.reach
           (λ fr1 sc1. goes_on fr1 (as_run t.state) n to (NumberScalar (flag (nat_lt n to)) ∷ []) (t.element ∷ (t.handed ++ seen)) (extra t.answer) (ltb-true n to h) small (short t.answer) sc1) in
@@ -725,7 +718,7 @@ module _ (p : Program) (whole : Whole) (q : Linked) (l : Layout) (few : (k : ℕ
         handed : List Scalar
         answer : List Scalar
         element : Scalar
-        within : steps + 32 * rest ≤ 32 * left + 9
+        within : steps + price.worth rest ≤ price.worth left + 9
         formed : is_machine types c handed ≡ true
         is : ended lib x handed ≡ ws
         reach : Reach (array_begins w ++ while (operand (whole_local 2)) (to_block (code ++ array_goes_on)) ∷ []) fr (as_run s) steps (looping index to (element ∷ (handed ++ seen)) (extra answer)) (as_run s')
@@ -761,68 +754,61 @@ module _ (p : Program) (whole : Whole) (q : Linked) (l : Layout) (few : (k : ℕ
 
 -- ---- fold
 
-module _ (p : Program) (whole : Whole) (q : Linked) (l : Layout) (few : (k : ℕ) (t : Tau) → types_of p k ≡ Some t → k < 2 ^ 32) (w : Word) (c o : Tau) (us : List Scalar)
-    (d : IsDeclared whole.numbered q.program.structs (taken p whole q l few w R c o c us)) (di : IsDeclared whole.numbered q.program.structs (item p whole q l few w R c o c us))
-    (machine : is_machine (types_of p) (taken p whole q l few w R c o c us) us ≡ true) (ts : List Tau) (calls : Calls) (sr : SourceRuns p whole q calls)
-    (ty : function_type whole Fold (word w ∷ ts) ≡ arrow (item p whole q l few w R c o c us) c)
-    (listed : list_any (λ u. same_type u (arrow (item p whole q l few w R c o c us) c)) whole.arrows ≡ true) where
+module _ (types : ℕ → Option Tau) (numbered : Tau → ℕ) (q : Linked) (l : Layout) (few : (k : ℕ) (t : Tau) → types k ≡ Some t → k < 2 ^ 32) (w : Word) (c o : Tau) (us : List Scalar)
+    (d : IsDeclared numbered q.program.structs (taken types numbered q l few w R c o c us)) (di : IsDeclared numbered q.program.structs (item types numbered q l few w R c o c us))
+    (machine : is_machine types (taken types numbered q l few w R c o c us) us ≡ true) (ts : List Tau) (callee : List ℕ) (price : Price) (call : List Scalar → State → ℕ → Outcome) (does : Does types numbered q callee price (function types numbered q l few w R c o c us) (item types numbered q l few w R c o c us) c call)
+    (ty : function_type Fold (word w ∷ ts) ≡ arrow (item types numbered q l few w R c o c us) c) where
   -- the function of a fold, and a turn's statements up to its index
-  abbrev fold_function : ℕ
-  fold_function = function p whole q l few w R c o c us
-
-  abbrev fold_call : List Scalar → State → ℕ → Outcome
-  fold_call = calls_source p calls (slice_get p.list fold_function) fold_function
-
   abbrev fold_code : List Stmt
-  fold_code = array_reads w ∷ turning whole Fold (word w ∷ ts) 3 (field 1 ∷ []) 3 ∷ []
+  fold_code = array_reads w ∷ turning callee 3 (field 1 ∷ []) 3 ∷ []
 
   -- what stands behind a call
   abbrev fold_behind : List ℕ → List Scalar → State → ℕ → Outcome
   fold_behind is ws t rest =
-      where_true (are_words (word w) (cell_at t.store (at_array p whole q l few w R c o c us))) (turns fold_call Fold (word w ∷ ts) (x p whole q l few w R c o c us) is ws (with_store t.store t) rest)
+      where_true (are_words (word w) (cell_at t.store (at_array types numbered q l few w R c o c us))) (turns call Fold (word w ∷ ts) (x types numbered q l few w R c o c us) is ws (with_store t.store t) rest)
 
   -- there are no more
   no_others : (ys : List Scalar) → length {A = Local} [] ≤ 2
   no_others ys = omega arith
 
   -- a turn of a fold
-  fold_turn : Turn p whole q l few w R c o c us d di machine Fold (word w ∷ ts) fold_call fold_code (λ ys. []) no_others
+  fold_turn : Turn types numbered q l few w R c o c us d di machine price Fold (word w ∷ ts) call fold_code (λ ys. []) no_others
   unfolding turns
   fold_turn fr s s' n to test cs ys ws u is left rest h small mc there scene e =
       let paid = pay_is left _ ws s' rest e in
-      let b = bind_is (fold_call (NumberScalar N ∷ (cs ++ observed)) s paid.0) (fold_behind is) ws s' rest paid.2 in
+      let b = bind_is (call (NumberScalar N ∷ (cs ++ observed)) s paid.0) (fold_behind is) ws s' rest paid.2 in
       let after = where_is (are_words (word w) (cell_at b.state.store address)) _ ws s' rest b.later in
-      let call = called_is p whole q l few w R c o c us d di machine Fold (word w ∷ ts) calls sr ty listed N cs b.scalars s b.state paid.0 b.rest below mc b.first in
-      let long = machine_slots (types_of p) c b.scalars call.machine in
+      let turn = called_is types numbered q l few w R c o c us d di machine callee price call does N cs b.scalars s b.state paid.0 b.rest below mc b.first in
+      let long = machine_slots types c b.scalars turn.machine in
       record {
         handed = b.scalars;
         state = b.state;
         kept = b.rest;
         answer = [];
         element = NumberScalar N;
-        steps = 1 + suc call.called.steps;
-        within = let paid_one = paid.1 in let cost = call.called.within in omega (arith, paid_one, cost);
-        formed = call.machine;
+        steps = 1 + suc turn.steps;
+        within = let paid_one = ap price.worth paid.1 in let cost = turn.within in let pay = price.pays paid.0 in omega (arith, paid_one, cost, pay);
+        formed = turn.machine;
         there = after.0;
         reach =
-            reaches_on q whole.numbered l (argument_local p whole q l few w R c o c us) (array_reads w ∷ []) (turning whole Fold (word w ∷ ts) 3 (field 1 ∷ []) 3 ∷ []) fr (as_run s) (as_run s) (as_run b.state) 1 (suc call.called.steps)
+            reaches_on q numbered l (argument_local types numbered q l few w R c o c us) (array_reads w ∷ []) (turning callee 3 (field 1 ∷ []) 3 ∷ []) fr (as_run s) (as_run s) (as_run b.state) 1 (suc turn.steps)
             (stand cs) (stand b.scalars)
-            (reads_element p whole q l few w R c o c us d di machine fr (as_run s) n (NumberScalar to ∷ []) test (cs ++ observed) u [] (omega (arith, h, small)) (omega arith) there scene)
+            (reads_element types numbered q l few w R c o c us d di machine fr (as_run s) n (NumberScalar to ∷ []) test (cs ++ observed) u [] (omega (arith, h, small)) (omega arith) there scene)
             (λ fr1 sc1.
-            turn_is p whole q l few w R c o c us d di machine Fold (word w ∷ ts) calls sr ty listed fr1 s b.state N 3 1 (NumberScalar n ∷ []) (NumberScalar to ∷ []) test cs b.scalars (NumberScalar N ∷ (b.scalars ++ observed)) []
-            (record { layout = lay_of p whole q l few w R c o c us (item p whole q l few w R c o c us); scalars = NumberScalar N ∷ (cs ++ observed) }) (field 1 ∷ []) paid.0 b.rest sc1 below mc (omega arith) refl
-            (acc_leads p whole q l few w R c o c us d di machine)
-            (middle_spliced 1 (slots c) (NumberScalar N ∷ []) cs observed b.scalars (lay_of p whole q l few w R c o c us c) (acc_size p whole q l few w R c o c us d di machine) (omega arith) (machine_slots (types_of p) c cs mc))
-            (let all = length-append b.scalars observed in omega (arith, all, long, seen_long p whole q l few w R c o c us d di machine, item_size p whole q l few w R c o c us d di machine))
-            call);
+            turn_is types numbered q l few w R c o c us d di machine callee price call does fr1 s b.state N 3 1 (NumberScalar n ∷ []) (NumberScalar to ∷ []) test cs b.scalars (NumberScalar N ∷ (b.scalars ++ observed)) []
+            (record { layout = lay_of types numbered q l few w R c o c us (item types numbered q l few w R c o c us); scalars = NumberScalar N ∷ (cs ++ observed) }) (field 1 ∷ []) paid.0 b.rest sc1 below mc (omega arith) refl
+            (acc_leads types numbered q l few w R c o c us d di machine)
+            (middle_spliced 1 (slots c) (NumberScalar N ∷ []) cs observed b.scalars (lay_of types numbered q l few w R c o c us c) (acc_size types numbered q l few w R c o c us d di machine) (omega arith) (machine_slots types c cs mc))
+            (let all = length-append b.scalars observed in omega (arith, all, long, seen_long types numbered q l few w R c o c us d di machine, item_size types numbered q l few w R c o c us d di machine))
+            turn);
         later = after.1;
       }
     where
       address : ℕ
-      address = at_array p whole q l few w R c o c us
+      address = at_array types numbered q l few w R c o c us
 
       observed : List Scalar
-      observed = seen p whole q l few w R c o c us
+      observed = seen types numbered q l few w R c o c us
 
       N : ℕ
       N = get_or (words_at address s.store) n 0
@@ -831,55 +817,54 @@ module _ (p : Program) (whole : Whole) (q : Linked) (l : Layout) (few : (k : ℕ
       below = element_below w n (words_at address s.store) (words_are w (cell_at s.store address) there).2
 
       stand : List Scalar → List Local
-      stand cs = standing p whole q l few w R c o c us (NumberScalar n ∷ []) (NumberScalar to ∷ []) test (NumberScalar N ∷ (cs ++ observed)) []
+      stand cs = standing types numbered q l few w R c o c us (NumberScalar n ∷ []) (NumberScalar to ∷ []) test (NumberScalar N ∷ (cs ++ observed)) []
 
   -- the whole of a fold
-  fold_done : (fr : Frame) (s s' : State) (ws : List Scalar) (left rest : ℕ) → Fresh (lay_c q) fr 0 (low_fold whole (word w ∷ ts)).locals
-      → Is fr argument_name (lay_of p whole q l few w R c o c us (taken p whole q l few w R c o c us)) us
-      → are_words (word w) (cell_at s.store (at_array p whole q l few w R c o c us)) ≡ true
-      → turns fold_call Fold (word w ∷ ts) (x p whole q l few w R c o c us)
-      (counted (last_of p whole q l few w R c o c us d di machine s.store) (from p whole q l few w R c o c us) (last_of p whole q l few w R c o c us d di machine s.store) 1)
-      (first p whole q l few w R c o c us) s left ≡ gives ws s' rest
-      → LibraryRan q l (low_fold whole (word w ∷ ts)) fr s s' (lay_of p whole q l few w R c o c us c) ws left rest
+  fold_done : (fr : Frame) (s s' : State) (ws : List Scalar) (left rest : ℕ) → Fresh (lay_c q) fr 0 (fold_low (types_in numbered Fold (word w ∷ ts)) callee).locals
+      → Is fr argument_name (lay_of types numbered q l few w R c o c us (taken types numbered q l few w R c o c us)) us
+      → are_words (word w) (cell_at s.store (at_array types numbered q l few w R c o c us)) ≡ true
+      → turns call Fold (word w ∷ ts) (x types numbered q l few w R c o c us)
+      (counted (last_of types numbered q l few w R c o c us d di machine s.store) (from types numbered q l few w R c o c us) (last_of types numbered q l few w R c o c us d di machine s.store) 1)
+      (first types numbered q l few w R c o c us) s left ≡ gives ws s' rest
+      → LoopRan price q l (fold_low (types_in numbered Fold (word w ∷ ts)) callee) fr s s' (lay_of types numbered q l few w R c o c us c) ws left rest
   unfolding size type_of_part count
   fold_done fr s s' ws left rest fresh is there e =
-      let unset = subst (λ t. Is fr (local_name 3) (lay_of p whole q l few w R c o c us (taken_by t)) (replicate (size (lay_of p whole q l few w R c o c us (taken_by t))) Unset)) ty fresh.1.1.1.0 in
-      let item_there = subst (λ z. Is fr (local_name 3) (lay_of p whole q l few w R c o c us (item p whole q l few w R c o c us)) z) (item_unset p whole q l few w R c o c us d di machine) unset in
-      let scene : Scene (argument_local p whole q l few w R c o c us) fr (standing p whole q l few w R c o c us (Unset ∷ []) (Unset ∷ []) (Unset ∷ []) (Unset ∷ (replicate (slots c) Unset ++ replicate (slots (bang o)) Unset)) []) =
+      let unset = subst (λ t. Is fr (local_name 3) (lay_of types numbered q l few w R c o c us (taken_by t)) (replicate (size (lay_of types numbered q l few w R c o c us (taken_by t))) Unset)) ty fresh.1.1.1.0 in
+      let item_there = subst (λ z. Is fr (local_name 3) (lay_of types numbered q l few w R c o c us (item types numbered q l few w R c o c us)) z) (item_unset types numbered q l few w R c o c us d di machine) unset in
+      let scene : Scene (argument_local types numbered q l few w R c o c us) fr (standing types numbered q l few w R c o c us (Unset ∷ []) (Unset ∷ []) (Unset ∷ []) (Unset ∷ (replicate (slots c) Unset ++ replicate (slots (bang o)) Unset)) []) =
       record { argued = is; locals = (fresh.0, (fresh.1.0, (fresh.1.1.0, (item_there, tt)))) } in
       let made =
-      made_is p whole q l few w R c o c us d di machine Fold (word w ∷ ts) fold_call fold_code (λ ys. []) no_others fold_turn fr s s' Unset Unset Unset Unset (replicate (slots c) Unset) (replicate (slots (bang o)) Unset) [] ws left rest
+      made_is types numbered q l few w R c o c us d di machine price Fold (word w ∷ ts) call fold_code (λ ys. []) no_others fold_turn fr s s' Unset Unset Unset Unset (replicate (slots c) Unset) (replicate (slots (bang o)) Unset) [] ws left rest
       (length-replicate (slots c) Unset) (length-replicate (slots (bang o)) Unset) there scene e in
-      let item_now : List Scalar = made.element ∷ (made.handed ++ seen p whole q l few w R c o c us) in
-      let item_local : Local = record { layout = lay_of p whole q l few w R c o c us (item p whole q l few w R c o c us); scalars = item_now } in
-      let formed : is_machine (types_of p) c ws ≡ true = subst (λ z. is_machine (types_of p) c z ≡ true) made.is made.formed in
+      let item_now : List Scalar = made.element ∷ (made.handed ++ seen types numbered q l few w R c o c us) in
+      let item_local : Local = record { layout = lay_of types numbered q l few w R c o c us (item types numbered q l few w R c o c us); scalars = item_now } in
+      let formed : is_machine types c ws ≡ true = subst (λ z. is_machine types c z ≡ true) made.is made.formed in
       record {
         steps = made.steps;
         frame = made.reach.frame;
         within = let b = made.within in omega (arith, b);
         runs = made.reach.runs;
         keeps =
-            keeps_field whole.numbered q.program.structs made.reach.frame (whole_local 3) (item_parts p whole q l few w R c o c us) 1 item_now ws di
-            (scene_whole (argument_local p whole q l few w R c o c us) made.reach.frame 3 (looping p whole q l few w R c o c us d di machine made.index made.to item_now [])
+            keeps_field numbered q.program.structs made.reach.frame (whole_local 3) (item_parts types numbered q l few w R c o c us) 1 item_now ws di
+            (scene_whole (argument_local types numbered q l few w R c o c us) made.reach.frame 3 (looping types numbered q l few w R c o c us d di machine made.index made.to item_now [])
             item_local (refl {a = Some item_local}) made.reach.scene)
-            (acc_part p whole q l few w R c o c us d di machine made.element made.handed made.formed ∙ ap Some made.is);
-        readable = machine_readable whole.numbered q.program.structs (types_of p) few c ws formed;
+            (acc_part types numbered q l few w R c o c us d di machine made.element made.handed made.formed ∙ ap Some made.is);
+        readable = machine_readable numbered q.program.structs types few c ws formed;
       }
 
 pub fold_ran : (w : Word) (ts : List Tau) → IteratorClaim Fold (word w ∷ ts)
 unfolding bang type_of_part indices_from
-fold_ran w ts p whole q l calls fr s s' us ws left rest few sr dt dg di dr listed is fresh machine e =
+fold_ran w ts types numbered q l callee price call fr s s' us ws left rest few does dt dg di dr is fresh machine e =
     let there = where_is (are_words (word w) (cell_at s.store (array_in (record { ty = taken_by (library_type Fold (word w ∷ ts)); scalars = us })))) _ ws s' rest e in
-    fold_done p whole q l few w (given (word w ∷ ts) 1) (given (word w ∷ ts) 2) us dt di machine ts calls sr refl listed fr s s' ws left rest fresh is there.0 there.1
+    fold_done types numbered q l few w (given (word w ∷ ts) 1) (given (word w ∷ ts) 2) us dt di machine ts callee price call does refl fr s s' ws left rest fresh is there.0 there.1
 
 -- ---- map
 
-module _ (p : Program) (whole : Whole) (q : Linked) (l : Layout) (few : (k : ℕ) (t : Tau) → types_of p k ≡ Some t → k < 2 ^ 32) (w : Word) (c o : Tau) (us : List Scalar)
-    (d : IsDeclared whole.numbered q.program.structs (taken p whole q l few w W c o (pair (word w) c) us)) (di : IsDeclared whole.numbered q.program.structs (item p whole q l few w W c o (pair (word w) c) us))
-    (machine : is_machine (types_of p) (taken p whole q l few w W c o (pair (word w) c) us) us ≡ true) (ts : List Tau) (calls : Calls) (sr : SourceRuns p whole q calls)
-    (ty : function_type whole Map (word w ∷ ts) ≡ arrow (item p whole q l few w W c o (pair (word w) c) us) (pair (word w) c))
-    (listed : list_any (λ u. same_type u (arrow (item p whole q l few w W c o (pair (word w) c) us) (pair (word w) c))) whole.arrows ≡ true)
-    (dr : IsDeclared whole.numbered q.program.structs (pair (word w) c)) (dg : IsDeclared whole.numbered q.program.structs (pair (array (word w)) c)) where
+module _ (types : ℕ → Option Tau) (numbered : Tau → ℕ) (q : Linked) (l : Layout) (few : (k : ℕ) (t : Tau) → types k ≡ Some t → k < 2 ^ 32) (w : Word) (c o : Tau) (us : List Scalar)
+    (d : IsDeclared numbered q.program.structs (taken types numbered q l few w W c o (pair (word w) c) us)) (di : IsDeclared numbered q.program.structs (item types numbered q l few w W c o (pair (word w) c) us))
+    (machine : is_machine types (taken types numbered q l few w W c o (pair (word w) c) us) us ≡ true) (ts : List Tau) (callee : List ℕ) (price : Price) (call : List Scalar → State → ℕ → Outcome) (does : Does types numbered q callee price (function types numbered q l few w W c o (pair (word w) c) us) (item types numbered q l few w W c o (pair (word w) c) us) (pair (word w) c) call)
+    (ty : function_type Map (word w ∷ ts) ≡ arrow (item types numbered q l few w W c o (pair (word w) c) us) (pair (word w) c))
+    (dr : IsDeclared numbered q.program.structs (pair (word w) c)) (dg : IsDeclared numbered q.program.structs (pair (array (word w)) c)) where
   -- what a turn gives, and what the whole gives
   abbrev both_parts : Parts
   both_parts = part (codes "p1") (word w) false (part (codes "p2") c false end)
@@ -888,12 +873,12 @@ module _ (p : Program) (whole : Whole) (q : Linked) (l : Layout) (few : (k : ℕ
   result_parts = part (codes "p1") (array (word w)) false (part (codes "p2") c false end)
 
   abbrev result_size : ℕ
-  result_size = size (lay_c q (c_type whole.numbered (pair (array (word w)) c)))
+  result_size = size (lay_c q (c_type numbered (pair (array (word w)) c)))
 
   -- the locals behind the loop's own
   abbrev map_others : List Scalar → List Scalar → List Local
   map_others ys rs =
-      record { layout = lay_c q (c_type whole.numbered (pair (word w) c)); scalars = ys } ∷ record { layout = lay_c q (c_type whole.numbered (pair (array (word w)) c)); scalars = rs } ∷ []
+      record { layout = lay_c q (c_type numbered (pair (word w) c)); scalars = ys } ∷ record { layout = lay_c q (c_type numbered (pair (array (word w)) c)); scalars = rs } ∷ []
 
   abbrev map_extra : List Scalar → List Local
   map_extra ys = map_others ys (replicate result_size Unset)
@@ -907,14 +892,14 @@ module _ (p : Program) (whole : Whole) (q : Linked) (l : Layout) (few : (k : ℕ
     there : part_at 0 both_parts ws ≡ Some (NumberScalar (first_number (field_of (pair (word w) c) ws 0)) ∷ [])
     small : first_number (field_of (pair (word w) c) ws 0) < 2 ^ bits w
     later : part_at 1 both_parts ws ≡ Some (field_of (pair (word w) c) ws 1)
-    formed : is_machine (types_of p) c (field_of (pair (word w) c) ws 1) ≡ true
+    formed : is_machine types c (field_of (pair (word w) c) ws 1) ≡ true
 
   -- which are there
-  given_parts : (ws : List Scalar) → is_machine (types_of p) (pair (word w) c) ws ≡ true → GivenParts ws
+  given_parts : (ws : List Scalar) → is_machine types (pair (word w) c) ws ≡ true → GivenParts ws
   unfolding is_machine type_of_part count
   given_parts ws m =
-      let f = machine_part (types_of p) 0 both_parts ws refl m (omega arith) in
-      let g = machine_part (types_of p) 1 both_parts ws refl m (omega arith) in
+      let f = machine_part types 0 both_parts ws refl m (omega arith) in
+      let g = machine_part types 1 both_parts ws refl m (omega arith) in
       let b = below_is (2 ^ bits w) f.scalars f.machine in
       let e : field_of (pair (word w) c) ws 0 ≡ NumberScalar b.0 ∷ [] = ap (λ z. unwrap_or z []) f.there ∙ b.1 in
       let same : b.0 ≡ first_number (field_of (pair (word w) c) ws 0) = sym (ap first_number e) in
@@ -923,109 +908,103 @@ module _ (p : Program) (whole : Whole) (q : Linked) (l : Layout) (few : (k : ℕ
         there = f.there ∙ ap Some (b.1 ∙ ap (λ z. NumberScalar z ∷ []) same);
         small = subst (λ n. n < 2 ^ bits w) same b.2;
         later = g.there ∙ ap Some (sym is);
-        formed = subst (λ z. is_machine (types_of p) c z ≡ true) (sym is) g.machine;
+        formed = subst (λ z. is_machine types c z ≡ true) (sym is) g.machine;
       }
 
   -- the function of a map, and a turn's statements up to its index
-  abbrev map_function : ℕ
-  map_function = function p whole q l few w W c o (pair (word w) c) us
-
-  abbrev map_call : List Scalar → State → ℕ → Outcome
-  map_call = calls_source p calls (slice_get p.list map_function) map_function
-
   abbrev map_puts : List Stmt
   map_puts =
       done_by (array_call w (codes "put")) (operand array_of_argument ∷ operand (whole_local 0) ∷ operand (held (local 4) (field 0 ∷ [])) ∷ [])
       ∷ setting 3 (field 1 ∷ []) (held (local 4) (field 1 ∷ [])) ∷ []
 
   abbrev map_code : List Stmt
-  map_code = array_reads w ∷ turning whole Map (word w ∷ ts) 4 [] 3 ∷ map_puts
+  map_code = array_reads w ∷ turning callee 4 [] 3 ∷ map_puts
 
   -- the state behind a turn, and what stands behind a call
   abbrev map_state : ℕ → List Scalar → State → State
-  map_state n ws t = with_store (changed (with_element n (first_number (field_of (pair (word w) c) ws 0))) (at_array p whole q l few w W c o (pair (word w) c) us) t.store) t
+  map_state n ws t = with_store (changed (with_element n (first_number (field_of (pair (word w) c) ws 0))) (at_array types numbered q l few w W c o (pair (word w) c) us) t.store) t
 
   abbrev map_behind : ℕ → List ℕ → List Scalar → State → ℕ → Outcome
   map_behind n is ws t rest =
-      where_true (are_words (word w) (cell_at t.store (at_array p whole q l few w W c o (pair (word w) c) us)))
-      (turns map_call Map (word w ∷ ts) (x p whole q l few w W c o (pair (word w) c) us) is (field_of (pair (word w) c) ws 1) (map_state n ws t) rest)
+      where_true (are_words (word w) (cell_at t.store (at_array types numbered q l few w W c o (pair (word w) c) us)))
+      (turns call Map (word w ∷ ts) (x types numbered q l few w W c o (pair (word w) c) us) is (field_of (pair (word w) c) ws 1) (map_state n ws t) rest)
 
   -- the element is written, and what is handed on is set
-  map_puts_run : (fr : Frame) (s : State) (n k : ℕ) (e m cs ws : List Scalar) → n < 2 ^ 32 → length cs ≡ slots c → are_words (word w) (cell_at s.store (at_array p whole q l few w W c o (pair (word w) c) us)) ≡ true
+  map_puts_run : (fr : Frame) (s : State) (n k : ℕ) (e m cs ws : List Scalar) → n < 2 ^ 32 → length cs ≡ slots c → are_words (word w) (cell_at s.store (at_array types numbered q l few w W c o (pair (word w) c) us)) ≡ true
       → GivenParts ws
-      → Scene (argument_local p whole q l few w W c o (pair (word w) c) us) fr (standing p whole q l few w W c o (pair (word w) c) us (NumberScalar n ∷ []) e m (NumberScalar k ∷ (cs ++ seen p whole q l few w W c o (pair (word w) c) us)) (map_extra ws))
-      → Reaches q whole.numbered l (argument_local p whole q l few w W c o (pair (word w) c) us) map_puts fr (as_run s) 2
-      (standing p whole q l few w W c o (pair (word w) c) us (NumberScalar n ∷ []) e m (NumberScalar k ∷ (field_of (pair (word w) c) ws 1 ++ seen p whole q l few w W c o (pair (word w) c) us)) (map_extra ws)) (as_run (map_state n ws s))
+      → Scene (argument_local types numbered q l few w W c o (pair (word w) c) us) fr (standing types numbered q l few w W c o (pair (word w) c) us (NumberScalar n ∷ []) e m (NumberScalar k ∷ (cs ++ seen types numbered q l few w W c o (pair (word w) c) us)) (map_extra ws))
+      → Reaches q numbered l (argument_local types numbered q l few w W c o (pair (word w) c) us) map_puts fr (as_run s) 2
+      (standing types numbered q l few w W c o (pair (word w) c) us (NumberScalar n ∷ []) e m (NumberScalar k ∷ (field_of (pair (word w) c) ws 1 ++ seen types numbered q l few w W c o (pair (word w) c) us)) (map_extra ws)) (as_run (map_state n ws s))
   unfolding type_of_part
   map_puts_run fr s n k e m cs ws small long there g scene =
-      reaches_on q whole.numbered l around
+      reaches_on q numbered l around
       (done_by (array_call w (codes "put")) (operand array_of_argument ∷ operand (whole_local 0) ∷ operand (held (local 4) (field 0 ∷ [])) ∷ []) ∷ [])
       (setting 3 (field 1 ∷ []) (held (local 4) (field 1 ∷ [])) ∷ []) fr (as_run s) (as_run (map_state n ws s)) (as_run (map_state n ws s)) 1 1 (stand cs) (stand (field_of (pair (word w) c) ws 1))
-      (puts_element p whole q l few w W c o (pair (word w) c) us d di machine fr s n (first_number (field_of (pair (word w) c) ws 0)) e m (NumberScalar k ∷ (cs ++ observed)) (map_extra ws) (field 0 ∷ []) small g.small there
-      (keeps_field whole.numbered q.program.structs fr (whole_local 4) both_parts 0 ws (NumberScalar (first_number (field_of (pair (word w) c) ws 0)) ∷ []) dr (kept fr scene) g.there) scene)
+      (puts_element types numbered q l few w W c o (pair (word w) c) us d di machine fr s n (first_number (field_of (pair (word w) c) ws 0)) e m (NumberScalar k ∷ (cs ++ observed)) (map_extra ws) (field 0 ∷ []) small g.small there
+      (keeps_field numbered q.program.structs fr (whole_local 4) both_parts 0 ws (NumberScalar (first_number (field_of (pair (word w) c) ws 0)) ∷ []) dr (kept fr scene) g.there) scene)
       (λ fr1 sc1.
-      carries p whole q l few w W c o (pair (word w) c) us d di machine fr1 (as_run (map_state n ws s)) (NumberScalar n ∷ []) e m cs (field_of (pair (word w) c) ws 1) (NumberScalar k) (held (local 4) (field 1 ∷ [])) (map_extra ws)
+      carries types numbered q l few w W c o (pair (word w) c) us d di machine fr1 (as_run (map_state n ws s)) (NumberScalar n ∷ []) e m cs (field_of (pair (word w) c) ws 1) (NumberScalar k) (held (local 4) (field 1 ∷ [])) (map_extra ws)
       long g.formed (map_short ws)
-      (keeps_field whole.numbered q.program.structs fr1 (whole_local 4) both_parts 1 ws (field_of (pair (word w) c) ws 1) dr (kept fr1 sc1) g.later) sc1)
+      (keeps_field numbered q.program.structs fr1 (whole_local 4) both_parts 1 ws (field_of (pair (word w) c) ws 1) dr (kept fr1 sc1) g.later) sc1)
     where
       around : Local
-      around = argument_local p whole q l few w W c o (pair (word w) c) us
+      around = argument_local types numbered q l few w W c o (pair (word w) c) us
 
       observed : List Scalar
-      observed = seen p whole q l few w W c o (pair (word w) c) us
+      observed = seen types numbered q l few w W c o (pair (word w) c) us
 
       stand : List Scalar → List Local
-      stand ds = standing p whole q l few w W c o (pair (word w) c) us (NumberScalar n ∷ []) e m (NumberScalar k ∷ (ds ++ observed)) (map_extra ws)
+      stand ds = standing types numbered q l few w W c o (pair (word w) c) us (NumberScalar n ∷ []) e m (NumberScalar k ∷ (ds ++ observed)) (map_extra ws)
 
-      kept : (fr : Frame) → Scene around fr (stand cs) → Keeps fr (whole_local 4) (lay_c q (c_type whole.numbered (pair (word w) c))) ws
-      kept fr scene = scene_whole around fr 4 (stand cs) (record { layout = lay_c q (c_type whole.numbered (pair (word w) c)); scalars = ws }) refl scene
+      kept : (fr : Frame) → Scene around fr (stand cs) → Keeps fr (whole_local 4) (lay_c q (c_type numbered (pair (word w) c))) ws
+      kept fr scene = scene_whole around fr 4 (stand cs) (record { layout = lay_c q (c_type numbered (pair (word w) c)); scalars = ws }) refl scene
 
   -- a turn of a map
-  map_turn : Turn p whole q l few w W c o (pair (word w) c) us d di machine Map (word w ∷ ts) map_call map_code map_extra map_short
+  map_turn : Turn types numbered q l few w W c o (pair (word w) c) us d di machine price Map (word w ∷ ts) call map_code map_extra map_short
   unfolding turns type_of_part
   map_turn fr s s' n to test cs ys ws u is left rest h small mc there scene e =
       let paid = pay_is left _ ws s' rest e in
-      let b = bind_is (map_call (NumberScalar N ∷ (cs ++ observed)) s paid.0) (map_behind n is) ws s' rest paid.2 in
+      let b = bind_is (call (NumberScalar N ∷ (cs ++ observed)) s paid.0) (map_behind n is) ws s' rest paid.2 in
       let after = where_is (are_words (word w) (cell_at b.state.store address)) _ ws s' rest b.later in
-      let call = called_is p whole q l few w W c o (pair (word w) c) us d di machine Map (word w ∷ ts) calls sr ty listed N cs b.scalars s b.state paid.0 b.rest below mc b.first in
-      let g = given_parts b.scalars call.machine in
+      let turn = called_is types numbered q l few w W c o (pair (word w) c) us d di machine callee price call does N cs b.scalars s b.state paid.0 b.rest below mc b.first in
+      let g = given_parts b.scalars turn.machine in
       record {
         handed = field_of (pair (word w) c) b.scalars 1;
         state = map_state n b.scalars b.state;
         kept = b.rest;
         answer = b.scalars;
         element = NumberScalar N;
-        steps = 1 + (suc call.called.steps + 2);
-        within = let paid_one = paid.1 in let cost = call.called.within in omega (arith, paid_one, cost);
+        steps = 1 + (suc turn.steps + 2);
+        within = let paid_one = ap price.worth paid.1 in let cost = turn.within in let pay = price.pays paid.0 in omega (arith, paid_one, cost, pay);
         formed = g.formed;
         there = kept_words w b.state.store address n (first_number (field_of (pair (word w) c) b.scalars 0)) g.small after.0;
         reach =
-            reaches_on q whole.numbered l around (array_reads w ∷ []) (turning whole Map (word w ∷ ts) 4 [] 3 ∷ map_puts) fr (as_run s) (as_run s) (as_run (map_state n b.scalars b.state)) 1 (suc call.called.steps + 2)
+            reaches_on q numbered l around (array_reads w ∷ []) (turning callee 4 [] 3 ∷ map_puts) fr (as_run s) (as_run s) (as_run (map_state n b.scalars b.state)) 1 (suc turn.steps + 2)
             (stand cs (map_extra ys)) (stand (field_of (pair (word w) c) b.scalars 1) (map_extra b.scalars))
-            (reads_element p whole q l few w W c o (pair (word w) c) us d di machine fr (as_run s) n (NumberScalar to ∷ []) test (cs ++ observed) u (map_extra ys) (omega (arith, h, small)) (map_short ys) there scene)
+            (reads_element types numbered q l few w W c o (pair (word w) c) us d di machine fr (as_run s) n (NumberScalar to ∷ []) test (cs ++ observed) u (map_extra ys) (omega (arith, h, small)) (map_short ys) there scene)
             (λ fr1 sc1.
-            reaches_on q whole.numbered l around (turning whole Map (word w ∷ ts) 4 [] 3 ∷ []) map_puts fr1 (as_run s) (as_run b.state) (as_run (map_state n b.scalars b.state)) (suc call.called.steps) 2
+            reaches_on q numbered l around (turning callee 4 [] 3 ∷ []) map_puts fr1 (as_run s) (as_run b.state) (as_run (map_state n b.scalars b.state)) (suc turn.steps) 2
             (stand cs (map_extra b.scalars)) (stand (field_of (pair (word w) c) b.scalars 1) (map_extra b.scalars))
-            (turn_is p whole q l few w W c o (pair (word w) c) us d di machine Map (word w ∷ ts) calls sr ty listed fr1 s b.state N 4 0 (NumberScalar n ∷ []) (NumberScalar to ∷ []) test cs b.scalars b.scalars (map_extra ys)
+            (turn_is types numbered q l few w W c o (pair (word w) c) us d di machine callee price call does fr1 s b.state N 4 0 (NumberScalar n ∷ []) (NumberScalar to ∷ []) test cs b.scalars b.scalars (map_extra ys)
             (record { layout = lay; scalars = ys }) [] paid.0 b.rest sc1 below mc (map_short ys) refl refl
             (ap (λ z. b.scalars ++ z) (drop_all (0 + size lay) ys (let sized = (stand_at fr1 0 4 4 (stand cs (map_extra ys)) (record { layout = lay; scalars = ys }) (omega arith) refl sc1.locals).sized in omega (arith, sized))) ∙ append-nil b.scalars)
-            (machine_slots (types_of p) (pair (word w) c) b.scalars call.machine ∙ sym (size_slots whole.numbered q.program.structs (pair (word w) c) dr))
-            call)
-            (λ fr2 sc2. map_puts_run fr2 b.state n N (NumberScalar to ∷ []) test cs b.scalars (omega (arith, h, small)) (machine_slots (types_of p) c cs mc) after.0 g sc2));
+            (machine_slots types (pair (word w) c) b.scalars turn.machine ∙ sym (size_slots numbered q.program.structs (pair (word w) c) dr))
+            turn)
+            (λ fr2 sc2. map_puts_run fr2 b.state n N (NumberScalar to ∷ []) test cs b.scalars (omega (arith, h, small)) (machine_slots types c cs mc) after.0 g sc2));
         later = after.1;
       }
     where
       around : Local
-      around = argument_local p whole q l few w W c o (pair (word w) c) us
+      around = argument_local types numbered q l few w W c o (pair (word w) c) us
 
       lay : Layout
-      lay = lay_c q (c_type whole.numbered (pair (word w) c))
+      lay = lay_c q (c_type numbered (pair (word w) c))
 
       address : ℕ
-      address = at_array p whole q l few w W c o (pair (word w) c) us
+      address = at_array types numbered q l few w W c o (pair (word w) c) us
 
       observed : List Scalar
-      observed = seen p whole q l few w W c o (pair (word w) c) us
+      observed = seen types numbered q l few w W c o (pair (word w) c) us
 
       N : ℕ
       N = get_or (words_at address s.store) n 0
@@ -1034,103 +1013,103 @@ module _ (p : Program) (whole : Whole) (q : Linked) (l : Layout) (few : (k : ℕ
       below = element_below w n (words_at address s.store) (words_are w (cell_at s.store address) there).2
 
       stand : List Scalar → List Local → List Local
-      stand ds others = standing p whole q l few w W c o (pair (word w) c) us (NumberScalar n ∷ []) (NumberScalar to ∷ []) test (NumberScalar N ∷ (ds ++ observed)) others
+      stand ds others = standing types numbered q l few w W c o (pair (word w) c) us (NumberScalar n ∷ []) (NumberScalar to ∷ []) test (NumberScalar N ∷ (ds ++ observed)) others
 
   -- the unset slots of the result
   result_unset : replicate result_size Unset ≡ Unset ∷ replicate (slots c) Unset
   unfolding slots
   result_unset =
-      let n : result_size ≡ suc (slots c) = size_slots whole.numbered q.program.structs (pair (array (word w)) c) dg ∙ omega arith in
+      let n : result_size ≡ suc (slots c) = size_slots numbered q.program.structs (pair (array (word w)) c) dg ∙ omega arith in
       ap (λ k. replicate k Unset) n
 
   -- and how many they are
   result_long : result_size ≡ 1 + slots c
   unfolding slots
-  result_long = size_slots whole.numbered q.program.structs (pair (array (word w)) c) dg ∙ omega arith
+  result_long = size_slots numbered q.program.structs (pair (array (word w)) c) dg ∙ omega arith
 
   -- the array in the result
   gives_array : (fr : Frame) (s : runs.State) (z e m it ys : List Scalar)
-      → Scene (argument_local p whole q l few w W c o (pair (word w) c) us) fr (standing p whole q l few w W c o (pair (word w) c) us z e m it (map_others ys (Unset ∷ replicate (slots c) Unset)))
-      → Reaches q whole.numbered l (argument_local p whole q l few w W c o (pair (word w) c) us) (setting 5 (field 0 ∷ []) array_of_argument ∷ []) fr s 1
-      (standing p whole q l few w W c o (pair (word w) c) us z e m it (map_others ys (Address (at_array p whole q l few w W c o (pair (word w) c) us) ∷ replicate (slots c) Unset))) s
+      → Scene (argument_local types numbered q l few w W c o (pair (word w) c) us) fr (standing types numbered q l few w W c o (pair (word w) c) us z e m it (map_others ys (Unset ∷ replicate (slots c) Unset)))
+      → Reaches q numbered l (argument_local types numbered q l few w W c o (pair (word w) c) us) (setting 5 (field 0 ∷ []) array_of_argument ∷ []) fr s 1
+      (standing types numbered q l few w W c o (pair (word w) c) us z e m it (map_others ys (Address (at_array types numbered q l few w W c o (pair (word w) c) us) ∷ replicate (slots c) Unset))) s
   unfolding size type_of_part count
   gives_array fr s z e m it ys scene =
-      let address : ℕ = at_array p whole q l few w W c o (pair (word w) c) us in
+      let address : ℕ = at_array types numbered q l few w W c o (pair (word w) c) us in
       let unset : List Scalar = replicate (slots c) Unset in
-      let xs : List Local = standing p whole q l few w W c o (pair (word w) c) us z e m it (map_others ys (Unset ∷ unset)) in
+      let xs : List Local = standing types numbered q l few w W c o (pair (word w) c) us z e m it (map_others ys (Unset ∷ unset)) in
       let long = length-replicate (slots c) Unset in
-      sets q whole.numbered l (argument_local p whole q l few w W c o (pair (word w) c) us) fr s 5 xs (record { layout = lay_c q (c_type whole.numbered (pair (array (word w)) c)); scalars = Unset ∷ unset }) (field 0 ∷ []) array_of_argument
-      (array_of w) 0 (Address address ∷ []) (Address address ∷ unset) scene refl (field_leads whole.numbered q.program.structs result_parts U 0 dg (omega arith))
-      (array_kept p whole q l few w W c o (pair (word w) c) us d di machine fr xs scene) (address, refl) refl (omega (arith, long, result_long)) (omega arith)
+      sets q numbered l (argument_local types numbered q l few w W c o (pair (word w) c) us) fr s 5 xs (record { layout = lay_c q (c_type numbered (pair (array (word w)) c)); scalars = Unset ∷ unset }) (field 0 ∷ []) array_of_argument
+      (array_of w) 0 (Address address ∷ []) (Address address ∷ unset) scene refl (field_leads numbered q.program.structs result_parts U 0 dg (omega arith))
+      (array_kept types numbered q l few w W c o (pair (word w) c) us d di machine fr xs scene) (address, refl) refl (omega (arith, long, result_long)) (omega arith)
 
   -- and what is handed on, behind it
-  gives_handed : (fr : Frame) (s : runs.State) (z e m ys cs : List Scalar) (u v : Scalar) → is_machine (types_of p) c cs ≡ true
-      → Scene (argument_local p whole q l few w W c o (pair (word w) c) us) fr
-      (standing p whole q l few w W c o (pair (word w) c) us z e m (u ∷ (cs ++ seen p whole q l few w W c o (pair (word w) c) us)) (map_others ys (v ∷ replicate (slots c) Unset)))
-      → Reaches q whole.numbered l (argument_local p whole q l few w W c o (pair (word w) c) us) (setting 5 (field 1 ∷ []) (held (local 3) (field 1 ∷ [])) ∷ []) fr s 1
-      (standing p whole q l few w W c o (pair (word w) c) us z e m (u ∷ (cs ++ seen p whole q l few w W c o (pair (word w) c) us)) (map_others ys (v ∷ cs))) s
+  gives_handed : (fr : Frame) (s : runs.State) (z e m ys cs : List Scalar) (u v : Scalar) → is_machine types c cs ≡ true
+      → Scene (argument_local types numbered q l few w W c o (pair (word w) c) us) fr
+      (standing types numbered q l few w W c o (pair (word w) c) us z e m (u ∷ (cs ++ seen types numbered q l few w W c o (pair (word w) c) us)) (map_others ys (v ∷ replicate (slots c) Unset)))
+      → Reaches q numbered l (argument_local types numbered q l few w W c o (pair (word w) c) us) (setting 5 (field 1 ∷ []) (held (local 3) (field 1 ∷ [])) ∷ []) fr s 1
+      (standing types numbered q l few w W c o (pair (word w) c) us z e m (u ∷ (cs ++ seen types numbered q l few w W c o (pair (word w) c) us)) (map_others ys (v ∷ cs))) s
   unfolding type_of_part count slots
   gives_handed fr s z e m ys cs u v formed scene =
       let unset : List Scalar = replicate (slots c) Unset in
-      let item_now : List Scalar = u ∷ (cs ++ seen p whole q l few w W c o (pair (word w) c) us) in
-      let xs : List Local = standing p whole q l few w W c o (pair (word w) c) us z e m item_now (map_others ys (v ∷ unset)) in
+      let item_now : List Scalar = u ∷ (cs ++ seen types numbered q l few w W c o (pair (word w) c) us) in
+      let xs : List Local = standing types numbered q l few w W c o (pair (word w) c) us z e m item_now (map_others ys (v ∷ unset)) in
       let long = length-replicate (slots c) Unset in
-      let cs_long = machine_slots (types_of p) c cs formed in
-      sets q whole.numbered l (argument_local p whole q l few w W c o (pair (word w) c) us) fr s 5 xs (record { layout = lay_c q (c_type whole.numbered (pair (array (word w)) c)); scalars = v ∷ unset }) (field 1 ∷ []) (held (local 3) (field 1 ∷ []))
-      (lay_c q (c_type whole.numbered c)) 1 cs (v ∷ cs) scene refl (field_leads whole.numbered q.program.structs result_parts U 1 dg (omega arith))
-      (keeps_field whole.numbered q.program.structs fr (whole_local 3) (item_parts p whole q l few w W c o (pair (word w) c) us) 1 item_now cs di
-      (scene_whole (argument_local p whole q l few w W c o (pair (word w) c) us) fr 3 xs (record { layout = lay_c q (c_type whole.numbered (item p whole q l few w W c o (pair (word w) c) us)); scalars = item_now }) refl scene)
-      (acc_part p whole q l few w W c o (pair (word w) c) us d di machine u cs formed))
-      (machine_readable whole.numbered q.program.structs (types_of p) few c cs formed)
-      (spliced_next 1 (slots c) (v ∷ []) unset cs (lay_c q (c_type whole.numbered c)) (acc_size p whole q l few w W c o (pair (word w) c) us d di machine) (omega arith)
+      let cs_long = machine_slots types c cs formed in
+      sets q numbered l (argument_local types numbered q l few w W c o (pair (word w) c) us) fr s 5 xs (record { layout = lay_c q (c_type numbered (pair (array (word w)) c)); scalars = v ∷ unset }) (field 1 ∷ []) (held (local 3) (field 1 ∷ []))
+      (lay_c q (c_type numbered c)) 1 cs (v ∷ cs) scene refl (field_leads numbered q.program.structs result_parts U 1 dg (omega arith))
+      (keeps_field numbered q.program.structs fr (whole_local 3) (item_parts types numbered q l few w W c o (pair (word w) c) us) 1 item_now cs di
+      (scene_whole (argument_local types numbered q l few w W c o (pair (word w) c) us) fr 3 xs (record { layout = lay_c q (c_type numbered (item types numbered q l few w W c o (pair (word w) c) us)); scalars = item_now }) refl scene)
+      (acc_part types numbered q l few w W c o (pair (word w) c) us d di machine u cs formed))
+      (machine_readable numbered q.program.structs types few c cs formed)
+      (spliced_next 1 (slots c) (v ∷ []) unset cs (lay_c q (c_type numbered c)) (acc_size types numbered q l few w W c o (pair (word w) c) us d di machine) (omega arith)
       ∙ ap (λ y. (v ∷ cs) ++ y) (drop_all (slots c) unset (omega (arith, long))) ∙ append-nil (v ∷ cs))
       (omega (arith, cs_long, result_long)) (omega arith)
 
   -- the whole of a map
-  map_done : (fr : Frame) (s s' : State) (ws : List Scalar) (left rest : ℕ) → Fresh (lay_c q) fr 0 (low_map whole (word w ∷ ts)).locals
-      → Is fr argument_name (lay_of p whole q l few w W c o (pair (word w) c) us (taken p whole q l few w W c o (pair (word w) c) us)) us
-      → are_words (word w) (cell_at s.store (at_array p whole q l few w W c o (pair (word w) c) us)) ≡ true
+  map_done : (fr : Frame) (s s' : State) (ws : List Scalar) (left rest : ℕ) → Fresh (lay_c q) fr 0 (map_low (types_in numbered Map (word w ∷ ts)) callee).locals
+      → Is fr argument_name (lay_of types numbered q l few w W c o (pair (word w) c) us (taken types numbered q l few w W c o (pair (word w) c) us)) us
+      → are_words (word w) (cell_at s.store (at_array types numbered q l few w W c o (pair (word w) c) us)) ≡ true
       → given_by (library_type Map (word w ∷ ts)) ≡ pair (array (word w)) c
-      → turns map_call Map (word w ∷ ts) (x p whole q l few w W c o (pair (word w) c) us)
-      (counted (last_of p whole q l few w W c o (pair (word w) c) us d di machine s.store) (from p whole q l few w W c o (pair (word w) c) us) (last_of p whole q l few w W c o (pair (word w) c) us d di machine s.store) 1)
-      (first p whole q l few w W c o (pair (word w) c) us) s left ≡ gives ws s' rest
-      → LibraryRan q l (low_map whole (word w ∷ ts)) fr s s' (lay_c q (c_type whole.numbered (pair (array (word w)) c))) ws left rest
+      → turns call Map (word w ∷ ts) (x types numbered q l few w W c o (pair (word w) c) us)
+      (counted (last_of types numbered q l few w W c o (pair (word w) c) us d di machine s.store) (from types numbered q l few w W c o (pair (word w) c) us) (last_of types numbered q l few w W c o (pair (word w) c) us d di machine s.store) 1)
+      (first types numbered q l few w W c o (pair (word w) c) us) s left ≡ gives ws s' rest
+      → LoopRan price q l (map_low (types_in numbered Map (word w ∷ ts)) callee) fr s s' (lay_c q (c_type numbered (pair (array (word w)) c))) ws left rest
   unfolding size type_of_part count
   map_done fr s s' ws left rest fresh is there result e =
       let item_unset' = subst (λ t. Is fr (local_name 3) (lay (taken_by t)) (replicate (size (lay (taken_by t))) Unset)) ty fresh.1.1.1.0 in
-      let item_there = subst (λ z. Is fr (local_name 3) (lay (item p whole q l few w W c o (pair (word w) c) us)) z) (item_unset p whole q l few w W c o (pair (word w) c) us d di machine) item_unset' in
+      let item_there = subst (λ z. Is fr (local_name 3) (lay (item types numbered q l few w W c o (pair (word w) c) us)) z) (item_unset types numbered q l few w W c o (pair (word w) c) us d di machine) item_unset' in
       let answer_there = subst (λ t. Is fr (local_name 4) (lay (given_by t)) (replicate (size (lay (given_by t))) Unset)) ty fresh.1.1.1.1.0 in
       let result_there = subst (λ t. Is fr (local_name 5) (lay t) (replicate (size (lay t)) Unset)) result fresh.1.1.1.1.1.0 in
-      let scene : Scene around fr (standing p whole q l few w W c o (pair (word w) c) us (Unset ∷ []) (Unset ∷ []) (Unset ∷ []) (Unset ∷ (replicate (slots c) Unset ++ replicate (slots (bang o)) Unset)) (map_extra first_answer)) =
+      let scene : Scene around fr (standing types numbered q l few w W c o (pair (word w) c) us (Unset ∷ []) (Unset ∷ []) (Unset ∷ []) (Unset ∷ (replicate (slots c) Unset ++ replicate (slots (bang o)) Unset)) (map_extra first_answer)) =
       record { argued = is; locals = (fresh.0, (fresh.1.0, (fresh.1.1.0, (item_there, (answer_there, (result_there, tt)))))) } in
       let made =
-      made_is p whole q l few w W c o (pair (word w) c) us d di machine Map (word w ∷ ts) map_call map_code map_extra map_short map_turn fr s s' Unset Unset Unset Unset (replicate (slots c) Unset) (replicate (slots (bang o)) Unset) first_answer ws left rest
+      made_is types numbered q l few w W c o (pair (word w) c) us d di machine price Map (word w ∷ ts) call map_code map_extra map_short map_turn fr s s' Unset Unset Unset Unset (replicate (slots c) Unset) (replicate (slots (bang o)) Unset) first_answer ws left rest
       (length-replicate (slots c) Unset) (length-replicate (slots (bang o)) Unset) there scene e in
       finished made
     where
       around : Local
-      around = argument_local p whole q l few w W c o (pair (word w) c) us
+      around = argument_local types numbered q l few w W c o (pair (word w) c) us
 
       lay : Tau → Layout
-      lay t = lay_c q (c_type whole.numbered t)
+      lay t = lay_c q (c_type numbered t)
 
       address : ℕ
-      address = at_array p whole q l few w W c o (pair (word w) c) us
+      address = at_array types numbered q l few w W c o (pair (word w) c) us
 
       first_answer : List Scalar
-      first_answer = replicate (size (lay_c q (c_type whole.numbered (pair (word w) c)))) Unset
+      first_answer = replicate (size (lay_c q (c_type numbered (pair (word w) c)))) Unset
 
-      finished : Made p whole q l few w W c o (pair (word w) c) us d di machine Map (word w ∷ ts) map_call map_code map_extra map_short fr s left ws s' rest
-          → LibraryRan q l (low_map whole (word w ∷ ts)) fr s s' (lay_c q (c_type whole.numbered (pair (array (word w)) c))) ws left rest
+      finished : Made types numbered q l few w W c o (pair (word w) c) us d di machine price Map (word w ∷ ts) call map_code map_extra map_short fr s left ws s' rest
+          → LoopRan price q l (map_low (types_in numbered Map (word w ∷ ts)) callee) fr s s' (lay_c q (c_type numbered (pair (array (word w)) c))) ws left rest
       finished made =
           let index : List Scalar = NumberScalar made.index ∷ [] in
           let last : List Scalar = NumberScalar made.to ∷ [] in
           let test : List Scalar = NumberScalar (flag (nat_lt made.index made.to)) ∷ [] in
-          let item_now : List Scalar = made.element ∷ (made.handed ++ seen p whole q l few w W c o (pair (word w) c) us) in
-          let scene = subst (λ z. Scene around made.reach.frame (standing p whole q l few w W c o (pair (word w) c) us index last test item_now (map_others made.answer z))) result_unset made.reach.scene in
+          let item_now : List Scalar = made.element ∷ (made.handed ++ seen types numbered q l few w W c o (pair (word w) c) us) in
+          let scene = subst (λ z. Scene around made.reach.frame (standing types numbered q l few w W c o (pair (word w) c) us index last test item_now (map_others made.answer z))) result_unset made.reach.scene in
           let one = gives_array made.reach.frame (as_run s') index last test item_now made.answer scene in
           let two = gives_handed one.frame (as_run s') index last test made.answer made.handed made.element (Address address) made.formed one.scene in
-          let are : Address address ∷ made.handed ≡ ws = ap (λ z. z ++ made.handed) (sym (array_is p whole q l few w W c o (pair (word w) c) us d di machine)) ∙ made.is in
+          let are : Address address ∷ made.handed ≡ ws = ap (λ z. z ++ made.handed) (sym (array_is types numbered q l few w W c o (pair (word w) c) us d di machine)) ∙ made.is in
           record {
             steps = made.steps + 2;
             frame = two.frame;
@@ -1140,14 +1119,14 @@ module _ (p : Program) (whole : Whole) (q : Linked) (l : Layout) (few : (k : ℕ
                 fr made.reach.frame two.frame (as_run s) (as_run s') (as_run s') made.steps 2 made.reach.runs
                 (runs_on q l (setting 5 (field 0 ∷ []) array_of_argument ∷ []) (setting 5 (field 1 ∷ []) (held (local 3) (field 1 ∷ [])) ∷ []) made.reach.frame one.frame two.frame (as_run s') (as_run s') (as_run s') 1 1 one.runs two.runs);
             keeps =
-                subst (λ z. Keeps two.frame (whole_local 5) (lay_c q (c_type whole.numbered (pair (array (word w)) c))) z) are
-                (scene_whole around two.frame 5 (standing p whole q l few w W c o (pair (word w) c) us index last test item_now (map_others made.answer (Address address ∷ made.handed)))
-                (record { layout = lay_c q (c_type whole.numbered (pair (array (word w)) c)); scalars = Address address ∷ made.handed }) refl two.scene);
-            readable = subst (λ z. IsReadable z ws) (sym (layout_unfolds q.program.structs (record_struct whole.numbered result_parts))) tt;
+                subst (λ z. Keeps two.frame (whole_local 5) (lay_c q (c_type numbered (pair (array (word w)) c))) z) are
+                (scene_whole around two.frame 5 (standing types numbered q l few w W c o (pair (word w) c) us index last test item_now (map_others made.answer (Address address ∷ made.handed)))
+                (record { layout = lay_c q (c_type numbered (pair (array (word w)) c)); scalars = Address address ∷ made.handed }) refl two.scene);
+            readable = subst (λ z. IsReadable z ws) (sym (layout_unfolds q.program.structs (record_struct numbered result_parts))) tt;
           }
 
 pub map_ran : (w : Word) (ts : List Tau) → IteratorClaim Map (word w ∷ ts)
 unfolding type_of_part indices_from
-map_ran w ts p whole q l calls fr s s' us ws left rest few sr dt dg di dr listed is fresh machine e =
+map_ran w ts types numbered q l callee price call fr s s' us ws left rest few does dt dg di dr is fresh machine e =
     let there = where_is (are_words (word w) (cell_at s.store (array_in (record { ty = taken_by (library_type Map (word w ∷ ts)); scalars = us })))) _ ws s' rest e in
-    map_done p whole q l few w (given (word w ∷ ts) 1) (given (word w ∷ ts) 2) us dt di machine ts calls sr refl listed dr dg fr s s' ws left rest fresh is there.0 refl there.1
+    map_done types numbered q l few w (given (word w ∷ ts) 1) (given (word w ∷ ts) 2) us dt di machine ts callee price call does refl dr dg fr s s' ws left rest fresh is there.0 refl there.1

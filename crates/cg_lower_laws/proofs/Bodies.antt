@@ -12,10 +12,9 @@ use Rattle.cg_ctree.specs.declared.tree.CTy.{CTy}
 use Rattle.cg_ctree.specs.Trees.{Stmt, return', to_block, Function}
 use Rattle.cg_heap.specs.declared.cell.Scalar.{Scalar}
 use Rattle.cg_heap.specs.declared.cell.Scalar.TheVariants.{Unset}
-use Rattle.cg_lower_def.specs.CTypes.{declared}
-use Rattle.cg_lower_def.specs.Functions.{body_of, locals_from}
-use Rattle.cg_lower_def.specs.Lowered.{Low}
-use Rattle.cg_lower_def.specs.Places.{argument_name, local_name, operand}
+use Rattle.cg_cgen_def.specs.Names.{declared}
+use Rattle.cg_cgen_def.specs.Bodies.{body_of, locals_from, Low}
+use Rattle.cg_cgen_def.specs.Places.{argument_name, local_name, operand}
 use Rattle.cg_lower_laws.proofs.Frames.{Is, Fresh, Keeps}
 use Rattle.cg_lower_laws.proofs.Names.{apart}
 use Rattle.cg_lower_laws.proofs.Operands.{IsReadable, Reads, reads}

@@ -35,8 +35,9 @@ use Rattle.cg_update.specs.Outcomes.{State, Outcome, gives, on as where_there}
 use Rattle.cg_update.specs.Turns.{alternatives_in, place_in}
 use Rattle.cg_update.specs.Updates.{Calls, Variables, update, update_shape}
 use Rattle.cg_lower_def.specs.CTypes.{c_type, count, IsDeclared}
-use Rattle.cg_lower_def.specs.Lowered.{Low, Whole, low, low_shape, arm, chosen, copy, is_tagged}
-use Rattle.cg_lower_def.specs.Places.{tag, payload, local, local_name, Place, number, held, at, path, operand}
+use Rattle.cg_cgen_def.specs.Bodies.{Low}
+use Rattle.cg_lower_def.specs.Lowered.{Whole, low, low_shape, arm, chosen, copy, is_tagged}
+use Rattle.cg_cgen_def.specs.Places.{tag, payload, local, local_name, Place, number, held, at, path, operand}
 use Rattle.cg_lower_def.specs.Simulated.{as_run}
 use Rattle.cg_lower_def.specs.Typed.{IsTyped}
 use Rattle.cg_lower_laws.proofs.Frames.{Is, is_kept, is_later, set_is, Changes, changes_none, changes_on, changes_set, changes_wider, Fresh, fresh_back, fresh_front, fresh_later, Keeps, keeps_later, outside_below, under_at, under_more}

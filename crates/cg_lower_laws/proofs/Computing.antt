@@ -15,8 +15,8 @@ use Rattle.cg_core.specs.declared.op.Op.{Op}
 use Rattle.cg_core.specs.declared.op.Op.TheVariants as ops
 use Rattle.cg_core.specs.Kernels.{Function}
 use Rattle.cg_core.specs.Terms.{Arg, Note, Tree, term, op, cast, app, fun, none, more}
-use Rattle.cg_cgen.specs.Code.{op_code, word_given}
-use Rattle.cg_cgen.specs.Meanings.{AreFor, Changes as Computed, IsApart, IsNumber, IsPart, IsSecond, number_given, set as with_number, takes_two}
+use Rattle.cg_cgen_def.specs.Code.{op_code, takes_two, word_given}
+use Rattle.cg_cgen.specs.Meanings.{AreFor, Changes as Computed, IsApart, IsNumber, IsPart, IsSecond, number_given, set as with_number}
 use Rattle.cg_cgen.proofs.Numbers.{bit_fits}
 use Rattle.cg_cgen.proofs.Operating.{operators_compute}
 use Rattle.cg_cgen.proofs.Paths.{number_read}
@@ -52,8 +52,10 @@ use Rattle.cg_update.specs.Machines.{is_machine, is_type}
 use Rattle.cg_update.specs.Outcomes.{State, gives, bind}
 use Rattle.cg_update.specs.Updates.{Calls, Variables, place_of, update, update_shape}
 use Rattle.cg_lower_def.specs.CTypes.{c_type, IsDeclared}
-use Rattle.cg_lower_def.specs.Lowered.{Low, Whole, arrow_number, call_operands, callee, calling, dispatch_name, function_name, joined, leaf, low_cast, low_operator, operating, place, set, word_of, low, low_shape}
-use Rattle.cg_lower_def.specs.Places.{Place, number, held, argument, local, local_name, operand, path}
+use Rattle.cg_cgen_def.specs.Bodies.{Low, leaf}
+use Rattle.cg_cgen_def.specs.Names.{dispatch_name, function_name}
+use Rattle.cg_lower_def.specs.Lowered.{Whole, arrow_number, call_operands, callee, calling, joined, low_cast, low_operator, operating, place, set, word_of, low, low_shape}
+use Rattle.cg_cgen_def.specs.Places.{Place, number, held, argument, local, local_name, operand, path}
 use Rattle.cg_lower_def.specs.Simulated.{as_run}
 use Rattle.cg_lower_def.specs.Typed.{IsTyped}
 use Rattle.cg_lower_laws.proofs.Frames.{Fresh, fresh_back, fresh_front, fresh_later, IsNumeral, Is, set_is, changes_none, changes_set, Keeps, keeps_later, outside_argument, outside_below, Under, under_more}

@@ -24,10 +24,12 @@ use Rattle.cg_heap.specs.declared.cell.Scalar.TheVariants.{Unset, Word as Number
 use Rattle.cg_inst.proofs.SameType.{same_is}
 use Rattle.cg_typing.specs.Instances.{Entry}
 use Rattle.cg_typing.specs.Parts.{given_by, taken_by}
-use Rattle.cg_lower_def.specs.CTypes.{declared}
-use Rattle.cg_lower_def.specs.Dispatch.{dispatch_body, dispatch_cases, dispatch_of, dispatched, second_name, second_path, tags_from}
-use Rattle.cg_lower_def.specs.Lowered.{Low, Whole, arrow_number, dispatch_name, function_name, typed}
-use Rattle.cg_lower_def.specs.Places.{argument, argument_name, held, local, local_name, path}
+use Rattle.cg_cgen_def.specs.Names.{declared, dispatch_name, function_name}
+use Rattle.cg_cgen_def.specs.Dispatches.{dispatch_body, dispatch_cases, dispatched, second_name, second_path}
+use Rattle.cg_lower_def.specs.Dispatch.{dispatch_of, tags_from}
+use Rattle.cg_cgen_def.specs.Bodies.{Low}
+use Rattle.cg_lower_def.specs.Lowered.{Whole, arrow_number, typed}
+use Rattle.cg_cgen_def.specs.Places.{argument, argument_name, held, local, local_name, path}
 use Rattle.cg_lower_laws.proofs.Bodies.{BodyRan, body_returns, length_replicate}
 use Rattle.cg_lower_laws.proofs.Computing.{one_slot}
 use Rattle.cg_lower_laws.proofs.Finding.{behind, own_dispatch}
@@ -174,7 +176,7 @@ module _ (q : Linked) (whole : Whole) (entries : List Entry) (j k : ℕ) (t : Ta
 
   -- a body with these cases, in the frame that a call or a run begins with
   body_runs : (ks : List ℕ) (m b b' : ℕ) → Contains ks k → b ≡ suc (suc (suc steps)) + b' → b ≤ m
-      → run_frame q (calls_in q m) m (dispatch_of whole entries j t) (dispatch_body whole t ks) (ok begins) s b ≡ done ws s' b'
+      → run_frame q (calls_in q m) m (dispatch_of whole entries j t) (dispatch_body result ks) (ok begins) s b ≡ done ws s' b'
   body_runs [] m b b' h e le = absurd (omega (arith, h.1))
   body_runs (i ∷ ks) m b b' h e le =
       subst (λ z. returned q (run_block q (calls_in q m) m (lay_c q result) (to_block (switch (Path (path argument [])) (dispatch_cases (i ∷ ks)) ∷ [])) begins s z) ≡ done ws s' b') first
@@ -188,10 +190,10 @@ module _ (q : Linked) (whole : Whole) (entries : List Entry) (j k : ℕ) (t : Ta
       first = omega (arith, e)
 
   body_called : (ks : List ℕ) (m b b' : ℕ) → Contains ks k → b ≡ suc (suc (suc steps)) + b' → b ≤ m
-      → run_body q (calls_in q m) m (dispatch_of whole entries j t) (tag ∷ v ∷ []) s b (Some (dispatch_body whole t ks)) ≡ done (of_layout (lay_c q result) ws) s' b'
+      → run_body q (calls_in q m) m (dispatch_of whole entries j t) (tag ∷ v ∷ []) s b (Some (dispatch_body result ks)) ≡ done (of_layout (lay_c q result) ws) s' b'
   body_called [] m b b' h e le = absurd (omega (arith, h.1))
   body_called (i ∷ ks) m b b' h e le =
-      ap (λ z. bind (run_frame q (calls_in q m) m (dispatch_of whole entries j t) (dispatch_body whole t (i ∷ ks)) z s b) (λ us after rest. done (of_layout (lay_c q result) us) after rest)) entered
+      ap (λ z. bind (run_frame q (calls_in q m) m (dispatch_of whole entries j t) (dispatch_body result (i ∷ ks)) z s b) (λ us after rest. done (of_layout (lay_c q result) us) after rest)) entered
       ∙ ap (λ z. bind z (λ us after rest. done (of_layout (lay_c q result) us) after rest)) (body_runs (i ∷ ks) m b b' h e le)
 
   -- the function is called, where it is found and has a case of the number
@@ -208,7 +210,7 @@ module _ (q : Linked) (whole : Whole) (entries : List Entry) (j k : ℕ) (t : Ta
   dispatch_answers found among =
       record {
         by = λ m b b' e le.
-            rw (own_dispatch q j (dispatch_of whole entries j t) (dispatch_body whole t (tags_from 0 t entries)) found refl) (dispatch_called found among m b b' e le);
+            rw (own_dispatch q j (dispatch_of whole entries j t) (dispatch_body result (tags_from 0 t entries)) found refl) (dispatch_called found among m b b' e le);
       }
 
   -- a whole run of the function, on the number and the argument
@@ -235,11 +237,11 @@ module _ (q : Linked) (whole : Whole) (entries : List Entry) (j k : ℕ) (t : Ta
   filled_by = rw (number_fits, number_dropped, number_taken, argument_filled) refl
 
   runs_by : (ks : List ℕ) (n left : ℕ) → Contains ks k → n ≡ suc (suc (suc steps)) + left
-      → run_frame q (calls_in q n) n (dispatch_of whole entries j t) (dispatch_body whole t ks)
-      (filled q (declared (ty.Word U32) argument_name ∷ declared taken second_name ∷ []) (dispatch_body whole t ks).locals (NumberScalar k ∷ us)) s n ≡ done ws s' left
+      → run_frame q (calls_in q n) n (dispatch_of whole entries j t) (dispatch_body result ks)
+      (filled q (declared (ty.Word U32) argument_name ∷ declared taken second_name ∷ []) (dispatch_body result ks).locals (NumberScalar k ∷ us)) s n ≡ done ws s' left
   runs_by [] n left h e = absurd (omega (arith, h.1))
   runs_by (i ∷ ks) n left h e =
-      ap (λ z. run_frame q (calls_in q n) n (dispatch_of whole entries j t) (dispatch_body whole t (i ∷ ks)) z s n) filled_by
+      ap (λ z. run_frame q (calls_in q n) n (dispatch_of whole entries j t) (dispatch_body result (i ∷ ks)) z s n) filled_by
       ∙ body_runs (i ∷ ks) n n left h e (omega arith)
 
   pub dispatch_runs : find (dispatch_name j) q.program.functions ≡ Some (dispatch_of whole entries j t) → Contains (tags_from 0 t entries) k

@@ -5,7 +5,7 @@ use Rattle.std.specs.List.{Contains}
 use Rattle.cg_cmachine_def.specs.Runs.{Linked, own, abstract', callee, without_body, find, linked_to}
 use Rattle.cg_ctree.specs.Trees.{Body, Function}
 use Rattle.cg_lower_def.specs.Functions.{Item, of_arrow, of_instance, functions_at, with_function}
-use Rattle.cg_lower_def.specs.Lowered.{dispatch_name, function_name}
+use Rattle.cg_cgen_def.specs.Names.{dispatch_name, function_name}
 use Rattle.cg_lower_laws.proofs.Names.{apart}
 use Rattle.cg_base.proofs.Sequences.{itself}
 

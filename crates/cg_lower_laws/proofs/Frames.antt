@@ -8,7 +8,7 @@ use Rattle.cg_cmachine_def.specs.Targets.{with_scalars}
 use Rattle.cg_ctree.specs.declared.tree.CTy.{CTy}
 use Rattle.cg_heap.specs.declared.cell.Scalar.{Scalar}
 use Rattle.cg_heap.specs.declared.cell.Scalar.TheVariants.{Unset, Word as NumberScalar}
-use Rattle.cg_lower_def.specs.Places.{Step, at, step_name, Base, argument, local, argument_name, local_name, base_name, Place, number, held}
+use Rattle.cg_cgen_def.specs.Places.{Step, at, step_name, Base, argument, local, argument_name, local_name, base_name, Place, number, held}
 use Rattle.cg_lower_laws.proofs.Names.{apart}
 use Rattle.cg_cgen.proofs.Paths.{look_apart as look_other}
 

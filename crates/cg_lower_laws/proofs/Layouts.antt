@@ -19,7 +19,8 @@ use Rattle.cg_heap.specs.Reps.{head, number_of, slots, slots_of_parts, tail}
 use Rattle.cg_eval_operations.specs.Positions.{position_among}
 use Rattle.cg_typing.specs.Parts.{held, is_left, is_there, part_named, parts_with, with_part}
 use Rattle.cg_update.specs.Machines.{are_machine, is_address, is_alternative, is_machine, is_number_below, is_place_of, is_tagged, only_at, part_at, type_of_part, with_part_at}
-use Rattle.cg_lower_def.specs.CTypes.{form, form_parts, name, struct_name, c_type, count, record_struct, variant_struct, members_from, tag_name, field_name, payload_name, IsDeclared, AreDeclared}
+use Rattle.cg_cgen_def.specs.Names.{name, struct_name, tag_name, field_name, payload_name}
+use Rattle.cg_lower_def.specs.CTypes.{form, form_parts, c_type, count, record_struct, variant_struct, members_from, IsDeclared, AreDeclared}
 use Rattle.cg_lower_laws.proofs.Names.{apart}
 use Rattle.cg_lower_laws.proofs.Tables.{if_false as cond_false}
 use Rattle.cg_base.proofs.Sequences.{itself}

@@ -13,6 +13,7 @@ pub mod Layouts
 pub mod LibraryAsks
 pub mod LibraryCalls
 pub mod LibraryParts
+pub mod Looping
 pub mod Loops
 pub mod Members
 pub mod Names

@@ -24,9 +24,11 @@ use Rattle.cg_heap.specs.Reps.{slots}
 use Rattle.cg_heap.specs.Stored.{Stored}
 use Rattle.cg_typing.specs.Library.{maybe, pair, state}
 use Rattle.cg_update.specs.Machines.{type_of_part}
-use Rattle.cg_lower_def.specs.CTypes.{c_type, count, field_name, payload_name, tag_name, IsDeclared}
-use Rattle.cg_lower_def.specs.LibraryCode.{asking, setting}
-use Rattle.cg_lower_def.specs.Places.{Step, step_name, field, tag, payload, local, local_name, Place, number, held, path, operand}
+use Rattle.cg_cgen_def.specs.Names.{field_name, payload_name, tag_name}
+use Rattle.cg_lower_def.specs.CTypes.{c_type, count, IsDeclared}
+use Rattle.cg_cgen_def.specs.Bodies.{setting}
+use Rattle.cg_lower_def.specs.LibraryCode.{asking}
+use Rattle.cg_cgen_def.specs.Places.{Step, step_name, field, tag, payload, local, local_name, Place, number, held, path, operand}
 use Rattle.cg_lower_laws.proofs.Frames.{Is, Outside, Fresh, Keeps, Under, set_is, changes_set, is_later, keeps_later, outside_below, outside_behind, is_kept}
 use Rattle.cg_lower_laws.proofs.Layouts.{lay, size_slots, field_leads, tag_leads, payload_leads, walk_on}
 use Rattle.cg_lower_laws.proofs.LibraryParts.{held_read}

@@ -45,10 +45,12 @@ use Rattle.cg_update.specs.Machines.{is_machine}
 use Rattle.cg_update.specs.Outcomes.{State, Outcome, no_result, gives, given}
 use Rattle.cg_update.specs.Turns.{fields_in}
 use Rattle.cg_value.specs.Fits.{most_elements}
-use Rattle.cg_lower_def.specs.CTypes.{c_type, form, form_parts, record_struct, struct_name, IsDeclared}
-use Rattle.cg_lower_def.specs.LibraryCode.{low_fresh, low_library, whole_argument, field_of_argument}
-use Rattle.cg_lower_def.specs.Lowered.{Low, Whole}
-use Rattle.cg_lower_def.specs.Places.{Place, field, argument, argument_name, local, local_name, path, operand}
+use Rattle.cg_cgen_def.specs.Names.{struct_name}
+use Rattle.cg_lower_def.specs.CTypes.{c_type, form, form_parts, record_struct, IsDeclared}
+use Rattle.cg_cgen_def.specs.Places.{whole_argument, field_of_argument, Place, field, argument, argument_name, local, local_name, path, operand}
+use Rattle.cg_lower_def.specs.LibraryCode.{low_fresh, low_library}
+use Rattle.cg_cgen_def.specs.Bodies.{Low}
+use Rattle.cg_lower_def.specs.Lowered.{Whole}
 use Rattle.cg_lower_def.specs.Simulated.{as_run}
 use Rattle.cg_lower_laws.proofs.Frames.{Is, Fresh, Keeps, is_kept, set_is}
 use Rattle.cg_lower_laws.proofs.Inversions.{where_is, pay_for_is}

@@ -31,8 +31,7 @@ use Rattle.cg_update.specs.Calls.{are_answers, are_slots, are_words}
 use Rattle.cg_update.specs.Machines.{is_machine, part_at, type_of_part}
 use Rattle.cg_value.specs.Fits.{most_elements}
 use Rattle.cg_lower_def.specs.CTypes.{IsDeclared}
-use Rattle.cg_lower_def.specs.LibraryCode.{whole_argument, field_of_argument}
-use Rattle.cg_lower_def.specs.Places.{Step, Base, argument, argument_name, held, operand}
+use Rattle.cg_cgen_def.specs.Places.{whole_argument, field_of_argument, Step, Base, argument, argument_name, held, operand}
 use Rattle.cg_lower_laws.proofs.Frames.{Is, Keeps, is_kept}
 use Rattle.cg_lower_laws.proofs.Layouts.{lay}
 use Rattle.cg_lower_laws.proofs.Operands.{IsReadable, readable, given_typed, keeps_field}

@@ -33,8 +33,9 @@ use Rattle.cg_update.specs.Outcomes.{State, Outcome, gives, on, where_true}
 use Rattle.cg_update.specs.Turns.{alternatives_in, field_type, fields_in, place_in}
 use Rattle.cg_update.specs.Updates.{Calls, Variables, cell_slots, read, row_of, sigil_of, update, update_shape}
 use Rattle.cg_lower_def.specs.CTypes.{c_type, IsDeclared, record_struct}
-use Rattle.cg_lower_def.specs.Lowered.{Low, Whole, bare, bare_by, copy, fetching, joined, low, low_member, low_shape, remainder, set}
-use Rattle.cg_lower_def.specs.Places.{Base, local, Place, number, held, field, payload, arrow_path, at, base_name, base_of, local_name, operand, path}
+use Rattle.cg_cgen_def.specs.Bodies.{Low}
+use Rattle.cg_lower_def.specs.Lowered.{Whole, bare, bare_by, copy, fetching, joined, low, low_member, low_shape, remainder, set}
+use Rattle.cg_cgen_def.specs.Places.{Base, local, Place, number, held, field, payload, arrow_path, at, base_name, base_of, local_name, operand, path}
 use Rattle.cg_lower_def.specs.Simulated.{as_run}
 use Rattle.cg_lower_def.specs.Typed.{IsTyped}
 use Rattle.cg_lower_laws.proofs.Frames.{Is, set_is, Changes, changes_none, changes_set, changes_wider, Fresh, fresh_back, fresh_front, fresh_later, Keeps, is_kept, kept_is, keeps_later, Under, under_at, under_more}

@@ -2,7 +2,7 @@
 use Rattle.std.proofs.Common.{◌≡◌, ℕ, ◌^◌, ◌<◌, true, false, bytes_eq}
 use Rattle.std.proofs.lemmas.Bool.{false_from_ne_true}
 use Rattle.std.proofs.lemmas.Fmt.{decimal_injective}
-use Rattle.cg_lower_def.specs.CTypes.{name}
+use Rattle.cg_cgen_def.specs.Names.{name}
 use Rattle.cg_ctree.proofs.Division.{rest_same as tail_is}
 use Rattle.cg_base.proofs.Sequences.{is_name as name_is}
 

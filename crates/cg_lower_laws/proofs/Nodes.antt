@@ -23,8 +23,9 @@ use Rattle.cg_update.specs.Machines.{is_machine}
 use Rattle.cg_update.specs.Outcomes.{State, gives, bind}
 use Rattle.cg_update.specs.Updates.{Calls, Variables, formed, update, update_shape}
 use Rattle.cg_lower_def.specs.CTypes.{c_type}
-use Rattle.cg_lower_def.specs.Lowered.{Low, Whole, leaf, joined, low, low_shape}
-use Rattle.cg_lower_def.specs.Places.{Place, number}
+use Rattle.cg_cgen_def.specs.Bodies.{Low, leaf}
+use Rattle.cg_lower_def.specs.Lowered.{Whole, joined, low, low_shape}
+use Rattle.cg_cgen_def.specs.Places.{Place, number}
 use Rattle.cg_lower_def.specs.Typed.{IsTyped}
 use Rattle.cg_lower_laws.proofs.Frames.{Fresh, fresh_front, fresh_back, fresh_later, Keeps, Under}
 use Rattle.cg_lower_laws.proofs.Inversions.{Bound, bind_is, pay_is, formed_is, same_scalars, same_state, same_rest}

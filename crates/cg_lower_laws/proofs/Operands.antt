@@ -22,7 +22,7 @@ use Rattle.cg_heap.specs.Reps.{slots}
 use Rattle.cg_heap.specs.Stored.{Stored, cell_at, changed}
 use Rattle.cg_update.specs.Machines.{is_machine, is_number_below, is_address, is_place_of, is_type, part_at, type_of_part, with_part_at}
 use Rattle.cg_lower_def.specs.CTypes.{count, record_struct, variant_struct, IsDeclared}
-use Rattle.cg_lower_def.specs.Places.{Step, step_name, field, payload, tag, Base, base_name, Place, number, held, at, path, arrow_path, operand}
+use Rattle.cg_cgen_def.specs.Places.{Step, step_name, field, payload, tag, Base, base_name, Place, number, held, at, path, arrow_path, operand}
 use Rattle.cg_lower_laws.proofs.Frames.{Is, IsPart, IsNumeral, Keeps}
 use Rattle.cg_lower_laws.proofs.Layouts.{lay, before, part_declared, size_slots, field_leads, tag_leads, payload_leads, part_is, with_part_is, is_within, field_fits, payload_fits, tag_fits, walk_on}
 use Rattle.cg_cmachine_laws.proofs.LayoutLaws.{layout_unfolds}

@@ -5,20 +5,21 @@ use Rattle.cg_base.specs.declared.fun.Lib.TheVariants.{New, Free, Create, FreeAr
 use Rattle.cg_base.specs.declared.kind.Word.{Word}
 use Rattle.cg_base.specs.declared.kind.Word.TheVariants.{U8, U32, U64}
 use Rattle.cg_base.specs.Types.{Tau}
-use Rattle.cg_cgen.specs.Code.{computed_by}
+use Rattle.cg_cgen_def.specs.Code.{computed_by}
 use Rattle.cg_cmachine_def.specs.BuiltIns.{array_call}
 use Rattle.cg_ctree.specs.declared.tree.COp.{COp}
 use Rattle.cg_ctree.specs.declared.tree.COp.TheVariants as cop
 use Rattle.cg_ctree.specs.declared.tree.CRhs.TheVariants.{Call as called}
 use Rattle.cg_ctree.specs.Spells.{IsPrintableBlock, IsPrintableStmt}
 use Rattle.cg_ctree.specs.Trees.{Stmt, to_block, while}
-use Rattle.cg_lib_value.specs.Library.{first_type}
 use Rattle.cg_typing.specs.Library.{library_type}
 use Rattle.cg_typing.specs.Parts.{given_by, taken_by}
-use Rattle.cg_lower_def.specs.IteratorCode.{array_begins, array_goes_on, array_of_argument, array_reads, break_begins, break_ends, break_goes_on, break_stops, break_turn, computing, function_type, loop_begins, loop_goes_on, low_break, low_fold, low_iterator, low_loop, low_map, turn_of_fold, turn_of_map, turn_of_numbers, turning, whole_local}
-use Rattle.cg_lower_def.specs.LibraryCode.{field_of_argument, setting}
-use Rattle.cg_lower_def.specs.Lowered.{Whole, arrow_number, word_of}
-use Rattle.cg_lower_def.specs.Places.{Place, Step, field, held, local, number, operand, path, payload, tag}
+use Rattle.cg_cgen_def.specs.Loops.{Types, array_begins, array_goes_on, array_of_argument, array_reads, break_begins, break_ends, break_goes_on, break_low, break_stops, break_turn, computing, fold_low, fold_turn, loop_begins, loop_goes_on, loop_low, loop_turn, map_low, map_turn, repeating, turning}
+use Rattle.cg_cgen_def.specs.Places.{whole_local, field_of_argument, Place, Step, field, held, local, number, operand, path, payload, tag}
+use Rattle.cg_lower_def.specs.IteratorCode.{function_type, low_iterator, types_in}
+use Rattle.cg_cgen_def.specs.Bodies.{setting}
+use Rattle.cg_lower_def.specs.Lowered.{Whole, arrow_number}
+use Rattle.cg_cgen_def.specs.Names.{dispatch_name}
 use Rattle.cg_lower_laws.proofs.PrintedLibrary.{done_prints, setting_prints}
 use Rattle.cg_lower_laws.proofs.PrintedNames.{FitsPlace, dispatch_named, get_named, length_named, operand_prints, operands_print, path_prints, put_named, type_prints}
 use Rattle.cg_lower_laws.proofs.PrintedNodes.{Print, PrintsLow, all_append, assign_prints, block_prints, inner_is, leaf_prints}
@@ -113,18 +114,18 @@ ends_prints room = (
 
 -- ---- iterators
 
-module _ (whole : Whole) where
-  turning_prints : (room : ℕ) (lib : Lib) (args : List Tau) (to : ℕ) (steps : List Step) (item : ℕ) → IsPrintableStmt room (turning whole lib args to steps item)
-  turning_prints room lib args to steps item =
-      assign_prints room (path (local to) steps) _ (path_prints (local to) steps)
-      (dispatch_named (arrow_number whole.arrows (function_type whole lib args)), operands_print (field_of_argument 3 ∷ whole_local item ∷ []) (tt, (tt, tt)))
+-- Over the number of the arrow type of the function that is called in each turn.
+module _ (j : ℕ) where
+  turning_prints : (room to : ℕ) (steps : List Step) (item : ℕ) → IsPrintableStmt room (turning (dispatch_name j) to steps item)
+  turning_prints room to steps item =
+      assign_prints room (path (local to) steps) _ (path_prints (local to) steps) (dispatch_named j, operands_print (field_of_argument 3 ∷ whole_local item ∷ []) (tt, (tt, tt)))
 
-  break_turn_prints : (room : ℕ) (args : List Tau) → Print (suc (suc room)) (break_turn whole args)
+  break_turn_prints : (room : ℕ) → Print (suc (suc room)) (break_turn (dispatch_name j))
   unfolding IsPrintableStmt
-  break_turn_prints room args = (
+  break_turn_prints room = (
     setting_prints (suc (suc room)) 4 (field 2 ∷ []) (whole_local 0) tt,
     (
-      turning_prints (suc (suc room)) Seq32Break args 5 [] 4,
+      turning_prints (suc (suc room)) 5 [] 4,
       (
         (
           path_prints (local 5) (field 1 ∷ tag ∷ []),
@@ -136,105 +137,110 @@ module _ (whole : Whole) where
     ),
   )
 
-  -- what a loop has between its braces, and the whole
-  fold_turn_prints : (room : ℕ) (args : List Tau) → Print room (turn_of_fold whole args)
-  fold_turn_prints room args = (reads_prints room (word_of (first_type args)), (turning_prints room Fold args 3 (field 1 ∷ []) 3, goes_on_prints room))
+  -- what a loop has between its braces
+  fold_turn_prints : (room : ℕ) (w : Word) → Print room (fold_turn (dispatch_name j) w)
+  fold_turn_prints room w = (reads_prints room w, (turning_prints room 3 (field 1 ∷ []) 3, goes_on_prints room))
 
-  fold_prints : (room : ℕ) (args : List Tau) → PrintsLow (suc room) (low_fold whole args)
-  fold_prints room args = record {
-    value = tt;
-    locals = (tt, (tt, (tt, (type_prints whole.numbered (taken_by (function_type whole Fold args)), tt))));
-    code =
-        all_append (IsPrintableStmt (suc room)) (array_begins (word_of (first_type args))) (while (operand (whole_local 2)) (to_block (turn_of_fold whole args)) ∷ []) (begins_prints room (word_of (first_type args)))
-        (while_prints room (turn_of_fold whole args) (fold_turn_prints room args), tt);
-  }
-
-  map_turn_prints : (room : ℕ) (args : List Tau) → Print room (turn_of_map whole args)
-  map_turn_prints room args = (
-    reads_prints room (word_of (first_type args)),
+  map_turn_prints : (room : ℕ) (w : Word) → Print room (map_turn (dispatch_name j) w)
+  map_turn_prints room w = (
+    reads_prints room w,
     (
-      turning_prints room Map args 4 [] 3,
+      turning_prints room 4 [] 3,
       (
-        (done_prints room (array_call (word_of (first_type args)) (codes "put")) (array_of_argument ∷ whole_local 0 ∷ held (local 4) (field 0 ∷ []) ∷ []) (put_named (word_of (first_type args))) (tt, (tt, (tt, tt)))).0,
+        (done_prints room (array_call w (codes "put")) (array_of_argument ∷ whole_local 0 ∷ held (local 4) (field 0 ∷ []) ∷ []) (put_named w) (tt, (tt, (tt, tt)))).0,
         (setting_prints room 3 (field 1 ∷ []) (held (local 4) (field 1 ∷ [])) tt, goes_on_prints room),
       ),
     ),
   )
 
-  map_prints : (room : ℕ) (args : List Tau) → PrintsLow (suc room) (low_map whole args)
-  map_prints room args = record {
-    value = tt;
-    locals = (
-      tt,
-      (
-        tt,
-        (
-          tt,
-          (
-            type_prints whole.numbered (taken_by (function_type whole Map args)),
-            (type_prints whole.numbered (given_by (function_type whole Map args)), (type_prints whole.numbered (given_by (library_type Map args)), tt)),
-          ),
-        ),
-      ),
-    );
-    code =
-        all_append (IsPrintableStmt (suc room)) (array_begins (word_of (first_type args)))
-        (while (operand (whole_local 2)) (to_block (turn_of_map whole args)) ∷ setting 5 (field 0 ∷ []) array_of_argument ∷ setting 5 (field 1 ∷ []) (held (local 3) (field 1 ∷ [])) ∷ [])
-        (begins_prints room (word_of (first_type args))) (
-          while_prints room (turn_of_map whole args) (map_turn_prints room args),
-          (setting_prints (suc room) 5 (field 0 ∷ []) array_of_argument tt, (setting_prints (suc room) 5 (field 1 ∷ []) (held (local 3) (field 1 ∷ [])) tt, tt)),
-        );
-  }
+  numbers_prints : (room : ℕ) (w : Word) → Print (suc room) (loop_turn (dispatch_name j) w)
+  numbers_prints room w = (setting_prints (suc room) 4 (field 2 ∷ []) (whole_local 0) tt, (turning_prints (suc room) 4 (field 0 ∷ []) 4, loop_goes_on_prints room w))
 
-  numbers_prints : (room : ℕ) (w : Word) (lib : Lib) (args : List Tau) → Print (suc room) (turn_of_numbers whole w lib args)
-  numbers_prints room w lib args = (setting_prints (suc room) 4 (field 2 ∷ []) (whole_local 0) tt, (turning_prints (suc room) lib args 4 (field 0 ∷ []) 4, loop_goes_on_prints room w))
+  -- and the whole, at type arguments
+  module _ (numbered : Tau → ℕ) (lib : Lib) (args : List Tau) where
+    abbrev types : Types
+    types = types_in numbered lib args
 
-  loop_prints : (room : ℕ) (w : Word) (lib : Lib) (args : List Tau) → PrintsLow (suc (suc room)) (low_loop whole w lib args)
-  loop_prints room w lib args = record {
-    value = tt;
-    locals = (tt, (tt, (tt, (tt, (type_prints whole.numbered (taken_by (function_type whole lib args)), tt)))));
-    code =
-        all_append (IsPrintableStmt (suc (suc room))) (loop_begins w) (setting 4 (field 0 ∷ []) (field_of_argument 4) ∷ while (operand (whole_local 2)) (to_block (turn_of_numbers whole w lib args)) ∷ [])
-        (loop_begins_prints (suc (suc room)) w)
-        (setting_prints (suc (suc room)) 4 (field 0 ∷ []) (field_of_argument 4) tt, (while_prints (suc room) (turn_of_numbers whole w lib args) (numbers_prints room w lib args), tt));
-  }
+    fold_prints : (room : ℕ) → PrintsLow (suc room) (fold_low types (dispatch_name j))
+    fold_prints room = record {
+      value = tt;
+      locals = (tt, (tt, (tt, (type_prints numbered (taken_by (function_type lib args)), tt))));
+      code =
+          all_append (IsPrintableStmt (suc room)) (array_begins types.word) (repeating (fold_turn (dispatch_name j) types.word) ∷ []) (begins_prints room types.word)
+          (while_prints room (fold_turn (dispatch_name j) types.word) (fold_turn_prints room types.word), tt);
+    }
 
-  broken_prints : (room : ℕ) (args : List Tau) → PrintsLow (suc (suc (suc room))) (low_break whole args)
-  broken_prints room args = record {
-    value = tt;
-    locals = (
-      tt,
-      (
+    map_prints : (room : ℕ) → PrintsLow (suc room) (map_low types (dispatch_name j))
+    map_prints room = record {
+      value = tt;
+      locals = (
         tt,
         (
           tt,
           (
             tt,
             (
-              type_prints whole.numbered (taken_by (function_type whole Seq32Break args)),
-              (type_prints whole.numbered (given_by (library_type Seq32Break args)), (type_prints whole.numbered (given_by (library_type Seq32Break args)), tt)),
+              type_prints numbered (taken_by (function_type lib args)),
+              (type_prints numbered (given_by (function_type lib args)), (type_prints numbered (given_by (library_type lib args)), tt)),
             ),
           ),
         ),
-      ),
-    );
-    code =
-        all_append (IsPrintableStmt (suc (suc (suc room)))) (loop_begins U32) (break_begins ++ while (operand (whole_local 2)) (to_block (break_turn whole args)) ∷ break_ends) (loop_begins_prints (suc (suc (suc room))) U32)
-        (all_append (IsPrintableStmt (suc (suc (suc room)))) break_begins (while (operand (whole_local 2)) (to_block (break_turn whole args)) ∷ break_ends) (begun_prints (suc (suc (suc room))))
-        (while_prints (suc (suc room)) (break_turn whole args) (break_turn_prints room args), ends_prints (suc (suc room))));
-  }
+      );
+      code =
+          all_append (IsPrintableStmt (suc room)) (array_begins types.word)
+          (repeating (map_turn (dispatch_name j) types.word) ∷ setting 5 (field 0 ∷ []) array_of_argument ∷ setting 5 (field 1 ∷ []) (held (local 3) (field 1 ∷ [])) ∷ [])
+          (begins_prints room types.word) (
+            while_prints room (map_turn (dispatch_name j) types.word) (map_turn_prints room types.word),
+            (setting_prints (suc room) 5 (field 0 ∷ []) array_of_argument tt, (setting_prints (suc room) 5 (field 1 ∷ []) (held (local 3) (field 1 ∷ [])) tt, tt)),
+          );
+    }
 
-  -- an iterator at type arguments
-  pub iterator_prints : (room : ℕ) (lib : Lib) (args : List Tau) → PrintsLow (suc (suc (suc room))) (low_iterator whole lib args)
-  iterator_prints room Map args = map_prints (suc (suc room)) args
-  iterator_prints room Fold args = fold_prints (suc (suc room)) args
-  iterator_prints room Seq32 args = loop_prints (suc room) U32 Seq32 args
-  iterator_prints room Seq64 args = loop_prints (suc room) U64 Seq64 args
-  iterator_prints room Seq32Break args = broken_prints room args
-  iterator_prints room New args = leaf_prints (suc (suc (suc room))) _ (omega arith)
-  iterator_prints room Free args = leaf_prints (suc (suc (suc room))) _ (omega arith)
-  iterator_prints room Create args = leaf_prints (suc (suc (suc room))) _ (omega arith)
-  iterator_prints room FreeArray args = leaf_prints (suc (suc (suc room))) _ (omega arith)
-  iterator_prints room Length args = leaf_prints (suc (suc (suc room))) _ (omega arith)
-  iterator_prints room Get args = leaf_prints (suc (suc (suc room))) _ (omega arith)
-  iterator_prints room Put args = leaf_prints (suc (suc (suc room))) _ (omega arith)
+    loop_prints : (room : ℕ) (w : Word) → PrintsLow (suc (suc room)) (loop_low w types (dispatch_name j))
+    loop_prints room w = record {
+      value = tt;
+      locals = (tt, (tt, (tt, (tt, (type_prints numbered (taken_by (function_type lib args)), tt)))));
+      code =
+          all_append (IsPrintableStmt (suc (suc room))) (loop_begins w) (setting 4 (field 0 ∷ []) (field_of_argument 4) ∷ repeating (loop_turn (dispatch_name j) w) ∷ [])
+          (loop_begins_prints (suc (suc room)) w)
+          (setting_prints (suc (suc room)) 4 (field 0 ∷ []) (field_of_argument 4) tt, (while_prints (suc room) (loop_turn (dispatch_name j) w) (numbers_prints room w), tt));
+    }
+
+    broken_prints : (room : ℕ) → PrintsLow (suc (suc (suc room))) (break_low types (dispatch_name j))
+    broken_prints room = record {
+      value = tt;
+      locals = (
+        tt,
+        (
+          tt,
+          (
+            tt,
+            (
+              tt,
+              (
+                type_prints numbered (taken_by (function_type lib args)),
+                (type_prints numbered (given_by (library_type lib args)), (type_prints numbered (given_by (library_type lib args)), tt)),
+              ),
+            ),
+          ),
+        ),
+      );
+      code =
+          all_append (IsPrintableStmt (suc (suc (suc room)))) (loop_begins U32) (break_begins ++ repeating (break_turn (dispatch_name j)) ∷ break_ends) (loop_begins_prints (suc (suc (suc room))) U32)
+          (all_append (IsPrintableStmt (suc (suc (suc room)))) break_begins (repeating (break_turn (dispatch_name j)) ∷ break_ends) (begun_prints (suc (suc (suc room))))
+          (while_prints (suc (suc room)) (break_turn (dispatch_name j)) (break_turn_prints room), ends_prints (suc (suc room))));
+    }
+
+-- an iterator at type arguments
+pub iterator_prints : (whole : Whole) (room : ℕ) (lib : Lib) (args : List Tau) → PrintsLow (suc (suc (suc room))) (low_iterator whole lib args)
+iterator_prints whole room Map args = map_prints (arrow_number whole.arrows (function_type Map args)) whole.numbered Map args (suc (suc room))
+iterator_prints whole room Fold args = fold_prints (arrow_number whole.arrows (function_type Fold args)) whole.numbered Fold args (suc (suc room))
+iterator_prints whole room Seq32 args = loop_prints (arrow_number whole.arrows (function_type Seq32 args)) whole.numbered Seq32 args (suc room) U32
+iterator_prints whole room Seq64 args = loop_prints (arrow_number whole.arrows (function_type Seq64 args)) whole.numbered Seq64 args (suc room) U64
+iterator_prints whole room Seq32Break args = broken_prints (arrow_number whole.arrows (function_type Seq32Break args)) whole.numbered Seq32Break args room
+iterator_prints whole room New args = leaf_prints (suc (suc (suc room))) _ (omega arith)
+iterator_prints whole room Free args = leaf_prints (suc (suc (suc room))) _ (omega arith)
+iterator_prints whole room Create args = leaf_prints (suc (suc (suc room))) _ (omega arith)
+iterator_prints whole room FreeArray args = leaf_prints (suc (suc (suc room))) _ (omega arith)
+iterator_prints whole room Length args = leaf_prints (suc (suc (suc room))) _ (omega arith)
+iterator_prints whole room Get args = leaf_prints (suc (suc (suc room))) _ (omega arith)
+iterator_prints whole room Put args = leaf_prints (suc (suc (suc room))) _ (omega arith)

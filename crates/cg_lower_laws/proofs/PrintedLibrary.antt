@@ -11,9 +11,10 @@ use Rattle.cg_ctree.specs.Trees.{Stmt, branch, to_block}
 use Rattle.cg_lib_value.specs.Library.{first_type}
 use Rattle.cg_typing.specs.Library.{array, maybe, pair, state}
 use Rattle.cg_typing.specs.Parts.{all_taken}
-use Rattle.cg_lower_def.specs.LibraryCode.{asking, done_by_call, field_of_argument, given_by_call, low_fresh, low_library, setting, whole_argument}
+use Rattle.cg_cgen_def.specs.Places.{field_of_argument, whole_argument, Place, number, held, Step, field, tag, payload, argument, local, operand, path}
+use Rattle.cg_cgen_def.specs.Bodies.{setting}
+use Rattle.cg_lower_def.specs.LibraryCode.{asking, done_by_call, given_by_call, low_fresh, low_library}
 use Rattle.cg_lower_def.specs.Lowered.{Whole, word_of}
-use Rattle.cg_lower_def.specs.Places.{Place, number, held, Step, field, tag, payload, argument, local, operand, path}
 use Rattle.cg_lower_laws.proofs.PrintedNames.{FitsPlace, create_named, free_array_named, free_named, get_named, length_named, operand_prints, operands_print, path_prints, put_named, struct_named, type_prints}
 use Rattle.cg_lower_laws.proofs.PrintedNodes.{leaf_prints, Print, PrintsLow, assign_prints, block_prints}
 

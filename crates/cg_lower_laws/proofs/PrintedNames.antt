@@ -12,8 +12,9 @@ use Rattle.cg_base.specs.Types.{Tau, var, seen, unit, word, bool, arrow, abs, va
 use Rattle.cg_cmachine_def.specs.BuiltIns.{array_call, width_text}
 use Rattle.cg_ctree.specs.Spells.{IsCName, IsPrintableOpnd, IsPrintablePath, IsPrintableType}
 use Rattle.cg_ctree.specs.Tokens.{is_word, letter, part_of_name}
-use Rattle.cg_lower_def.specs.CTypes.{abstract_struct, c_type, element, name, tag_name}
-use Rattle.cg_lower_def.specs.Places.{Base, argument, local, Place, number, held, Step, field, tag, payload, arrow_path, at, base_name, operand, path, step_name}
+use Rattle.cg_cgen_def.specs.Names.{name, tag_name}
+use Rattle.cg_lower_def.specs.CTypes.{abstract_struct, c_type, element}
+use Rattle.cg_cgen_def.specs.Places.{Base, argument, local, Place, number, held, Step, field, tag, payload, arrow_path, at, base_name, operand, path, step_name}
 use Rattle.cg_base.proofs.Counts.{one_digit as is_digit}
 
 -- ---- digits

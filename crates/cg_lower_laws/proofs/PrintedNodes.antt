@@ -7,7 +7,7 @@ use Rattle.cg_base.specs.declared.kind.Sigil.TheVariants.{R, W, U}
 use Rattle.cg_base.specs.declared.kind.Word.{Word}
 use Rattle.cg_base.specs.declared.kind.Word.TheVariants.{U8, U16, U32, U64}
 use Rattle.cg_base.specs.Words.{bits}
-use Rattle.cg_cgen.specs.Code.{inner, op_code}
+use Rattle.cg_cgen_def.specs.Code.{inner, op_code}
 use Rattle.cg_core.specs.declared.op.Op.{Op}
 use Rattle.cg_core.specs.declared.op.Op.TheVariants as ops
 use Rattle.cg_ctree.specs.declared.tree.COpnd.{COpnd}
@@ -18,8 +18,9 @@ use Rattle.cg_ctree.specs.declared.tree.CTy.{CTy}
 use Rattle.cg_ctree.specs.declared.tree.CTy.TheVariants as ty
 use Rattle.cg_ctree.specs.Spells.{IsCName, IsInner, IsPrintableOpnd, IsPrintablePath, IsPrintableRight, IsPrintableStmt, IsPrintableBlock, IsPrintableType, SomeAll}
 use Rattle.cg_ctree.specs.Trees.{Stmt, assign, to_block}
-use Rattle.cg_lower_def.specs.Lowered.{Low, Lows, and_then, arm, as_low, bare, bare_by, before, calling, chosen, converting, copy, fetching, filling, injecting, is_tagged, joined, leaf, low_case, low_cast, low_if, low_member, low_operator, low_put, operating, owned, owned_by, remainder, set}
-use Rattle.cg_lower_def.specs.Places.{Base, argument, local, Place, number, held, Step, field, tag, payload, arrow_path, at, base_of, operand, path}
+use Rattle.cg_cgen_def.specs.Bodies.{Low, leaf}
+use Rattle.cg_lower_def.specs.Lowered.{Lows, and_then, arm, as_low, bare, bare_by, before, calling, chosen, converting, copy, fetching, filling, injecting, is_tagged, joined, low_case, low_cast, low_if, low_member, low_operator, low_put, operating, owned, owned_by, remainder, set}
+use Rattle.cg_cgen_def.specs.Places.{Base, argument, local, Place, number, held, Step, field, tag, payload, arrow_path, at, base_of, operand, path}
 use Rattle.cg_lower_laws.proofs.PrintedNames.{FitsPlace, arrow_prints, at_fits, operand_prints, path_prints}
 
 -- ---- lists

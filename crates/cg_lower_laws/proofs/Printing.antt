@@ -9,7 +9,7 @@ use Rattle.cg_base.specs.declared.kind.Word.TheVariants.{U8, U16, U32, U64}
 use Rattle.cg_base.specs.Same.{same_type}
 use Rattle.cg_base.specs.Types as types
 use Rattle.cg_base.specs.Types.{Tau, Parts, part}
-use Rattle.cg_cgen.specs.Meanings.{takes_two}
+use Rattle.cg_cgen_def.specs.Code.{takes_two}
 use Rattle.cg_core.specs.declared.derivation.Mark.{Mark}
 use Rattle.cg_core.specs.Derivations.{Derivation, Derivations}
 use Rattle.cg_core.specs.Kernels.{Function}
@@ -35,12 +35,15 @@ use Rattle.cg_update.specs.Calls.{Program}
 use Rattle.cg_update.specs.Turns.{field_type, place_in}
 use Rattle.cg_update.specs.Updates.{place_of, sigil_of}
 use Rattle.cg_lower_def.specs.CTypes.{count, IsDeclared}
-use Rattle.cg_lower_def.specs.Functions.{Item, of_arrow, of_instance, body_of, function_maybe, function_of_item, function_of, functions_at, locals_from, low_body, low_instance, low_outside, with_function}
-use Rattle.cg_lower_def.specs.Dispatch.{dispatch_body, dispatch_cases, dispatch_of, second_path, tags_from}
+use Rattle.cg_cgen_def.specs.Bodies.{body_of, locals_from, Low}
+use Rattle.cg_lower_def.specs.Functions.{Item, of_arrow, of_instance, function_maybe, function_of_item, function_of, functions_at, low_body, low_instance, low_outside, with_function}
+use Rattle.cg_cgen_def.specs.Dispatches.{dispatch_body, dispatch_cases, second_path}
+use Rattle.cg_lower_def.specs.Dispatch.{dispatch_of, tags_from}
 use Rattle.cg_lower_def.specs.IteratorCode.{low_iterator}
-use Rattle.cg_lower_def.specs.LibraryCode.{low_library, whole_argument}
-use Rattle.cg_lower_def.specs.Lowered.{Low, Whole, arrow_number, call_operands, callee, calling, function_name, injecting, joined, literal, low, low_fields, low_member, low_shape, remainder, place, typed, word_of}
-use Rattle.cg_lower_def.specs.Places.{Place, argument, held, local, number, path, payload, at, operand}
+use Rattle.cg_cgen_def.specs.Places.{whole_argument, Place, argument, held, local, number, path, payload, at, operand}
+use Rattle.cg_lower_def.specs.LibraryCode.{low_library}
+use Rattle.cg_cgen_def.specs.Names.{function_name}
+use Rattle.cg_lower_def.specs.Lowered.{Whole, arrow_number, call_operands, callee, calling, injecting, joined, literal, low, low_fields, low_member, low_shape, remainder, place, typed, word_of}
 use Rattle.cg_lower_def.specs.Printables.{AreShallow, LoweringIsPrintable, depth, depth_below, depth_of_fields}
 use Rattle.cg_lower_def.specs.Simulated.{IsProgramOf}
 use Rattle.cg_lower_laws.proofs.PrintedNames.{FitsPlace, argument_named, at_fits, dispatch_named, function_named, local_named, operand_prints, path_prints, type_prints}
@@ -380,7 +383,7 @@ cases_print (k ∷ ks) h = (
 )
 
 -- a body has a switch with a case at least, or no statement
-dispatch_body_prints : (whole : Whole) (t : Tau) (ks : List ℕ) → AllByRecursion (λ k. k < 2 ^ 64) ks → IsPrintableBody (Some (dispatch_body whole t ks))
+dispatch_body_prints : (whole : Whole) (t : Tau) (ks : List ℕ) → AllByRecursion (λ k. k < 2 ^ 64) ks → IsPrintableBody (Some (dispatch_body (typed whole (given_by t)) ks))
 unfolding IsPrintableStmt IsPrintableBlock
 dispatch_body_prints whole t [] h = (tt, tt)
 dispatch_body_prints whole t (k ∷ ks) h = (

@@ -31,8 +31,9 @@ use Rattle.cg_update.specs.Outcomes.{State, Outcome, with_store, gives, bind, on
 use Rattle.cg_update.specs.Turns.{fields_in}
 use Rattle.cg_update.specs.Updates.{Calls, cell_slots, row_of, sigil_of, update, update_shape, with_row, write}
 use Rattle.cg_lower_def.specs.CTypes.{c_type, IsDeclared, record_struct}
-use Rattle.cg_lower_def.specs.Lowered.{Low, Whole, and_then, bare, before, copy, low, low_put, low_shape, owned, owned_by, set}
-use Rattle.cg_lower_def.specs.Places.{arrow_path, argument, local, Place, number, held, field, base_name, base_of, local_name, operand, path}
+use Rattle.cg_cgen_def.specs.Bodies.{Low}
+use Rattle.cg_lower_def.specs.Lowered.{Whole, and_then, bare, before, copy, low, low_put, low_shape, owned, owned_by, set}
+use Rattle.cg_cgen_def.specs.Places.{arrow_path, argument, local, Place, number, held, field, base_name, base_of, local_name, operand, path}
 use Rattle.cg_lower_def.specs.Simulated.{as_run}
 use Rattle.cg_lower_laws.proofs.Frames.{Is, set_is, changes_none, changes_set, Fresh, fresh_back, fresh_front, fresh_later, Keeps, is_kept, kept_is, keeps_later, Under, under_more}
 use Rattle.cg_lower_laws.proofs.Inversions.{Bound, bind_is, on_is, pay_is}

@@ -25,9 +25,11 @@ use Rattle.cg_update.specs.Machines.{is_machine, only_at, type_of_part}
 use Rattle.cg_update.specs.Outcomes.{State, gives, bind}
 use Rattle.cg_update.specs.Turns.{place_in, chosen_in}
 use Rattle.cg_update.specs.Updates.{Calls, update, update_shape, update_fields}
-use Rattle.cg_lower_def.specs.CTypes.{c_type, count, field_name, IsDeclared, AreDeclared}
-use Rattle.cg_lower_def.specs.Lowered.{Low, Lows, Whole, as_low, set, injecting, filling, low, low_shape, low_fields}
-use Rattle.cg_lower_def.specs.Places.{Step, step_name, field, tag, payload, local, local_name, Place, number, path, operand}
+use Rattle.cg_cgen_def.specs.Names.{field_name}
+use Rattle.cg_lower_def.specs.CTypes.{c_type, count, IsDeclared, AreDeclared}
+use Rattle.cg_cgen_def.specs.Bodies.{Low}
+use Rattle.cg_lower_def.specs.Lowered.{Lows, Whole, as_low, set, injecting, filling, low, low_shape, low_fields}
+use Rattle.cg_cgen_def.specs.Places.{Step, step_name, field, tag, payload, local, local_name, Place, number, path, operand}
 use Rattle.cg_lower_def.specs.Simulated.{as_run}
 use Rattle.cg_lower_def.specs.Typed.{AreTyped}
 use Rattle.cg_lower_laws.proofs.Frames.{Is, set_is, Changes, changes_none, changes_on, changes_set, Fresh, fresh_front, fresh_back, fresh_later, Keeps, keeps_later, Under, under_more}

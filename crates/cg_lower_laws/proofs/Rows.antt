@@ -17,12 +17,11 @@ use Rattle.cg_ctree.specs.Trees.{assign, branch, stop, to_block, while}
 use Rattle.cg_kinds.specs.Kinds.{bang}
 use Rattle.cg_eval_operations.specs.Positions.{position, position_among}
 use Rattle.cg_update.specs.Machines.{type_of_part}
-use Rattle.cg_lower_def.specs.CTypes.{struct_name}
+use Rattle.cg_cgen_def.specs.Names.{struct_name, dispatch_name}
 use Rattle.cg_lower_def.specs.Dispatch.{tags_from}
 use Rattle.cg_lower_def.specs.IteratorCode.{low_iterator}
-use Rattle.cg_lower_def.specs.LibraryCode.{whole_argument}
-use Rattle.cg_lower_def.specs.Lowered.{Whole, arrow_number, dispatch_name, low, low_fields}
-use Rattle.cg_lower_def.specs.Places.{argument, arrow_path, field, held, local, path, payload, tag}
+use Rattle.cg_cgen_def.specs.Places.{whole_argument, argument, arrow_path, field, held, local, path, payload, tag}
+use Rattle.cg_lower_def.specs.Lowered.{Whole, arrow_number, low, low_fields}
 
 abbrev place : Place
 place = record { line = 1; column = 1 }

@@ -4,7 +4,7 @@ use Rattle.std.proofs.lemmas.Bool.{lt-ltb}
 use Rattle.cg_base.specs.declared.kind.Word.{Word}
 use Rattle.cg_base.specs.Words.{bits}
 use Rattle.cg_base.specs.Types.{Tau}
-use Rattle.cg_cgen.specs.Code.{computed_by, inner}
+use Rattle.cg_cgen_def.specs.Code.{computed_by, inner}
 use Rattle.cg_cmachine_def.specs.Layouts.{Layout, cell, size, spot, walk}
 use Rattle.cg_cmachine_def.specs.Operands.{Frame, word_in}
 use Rattle.cg_cmachine_def.specs.Operations.{computed, word_value}
@@ -20,8 +20,8 @@ use Rattle.cg_ctree.specs.Trees.{Stmt, branch, to_block}
 use Rattle.cg_heap.specs.declared.cell.Scalar.{Scalar}
 use Rattle.cg_heap.specs.declared.cell.Scalar.TheVariants.{Word as NumberScalar}
 use Rattle.cg_heap.specs.Stored.{Stored}
-use Rattle.cg_lower_def.specs.LibraryCode.{setting}
-use Rattle.cg_lower_def.specs.Places.{Place, Step, argument_name, held, local, local_name, number, operand, path, step_name}
+use Rattle.cg_cgen_def.specs.Bodies.{setting}
+use Rattle.cg_cgen_def.specs.Places.{Place, Step, argument_name, held, local, local_name, number, operand, path, step_name}
 use Rattle.cg_lower_laws.proofs.Frames.{Changes, Is, Keeps, changes_set, is_kept, is_later, outside_argument, outside_behind, outside_below, set_is}
 use Rattle.cg_lower_laws.proofs.LibraryAsks.{runs_setting}
 use Rattle.cg_lower_laws.proofs.LibraryParts.{held_read}

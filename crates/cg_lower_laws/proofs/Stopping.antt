@@ -15,8 +15,9 @@ use Rattle.cg_heap.specs.declared.cell.Scalar.TheVariants.{Unset, Word as Number
 use Rattle.cg_heap.specs.Reps.{slots}
 use Rattle.cg_typing.specs.Library.{pair, stopped}
 use Rattle.cg_update.specs.Machines.{is_alternative, is_machine, part_at, type_of_part}
-use Rattle.cg_lower_def.specs.CTypes.{count, field_name, payload_name, tag_name, record_struct, IsDeclared}
-use Rattle.cg_lower_def.specs.Places.{Place, at, field, tag}
+use Rattle.cg_cgen_def.specs.Names.{field_name, payload_name, tag_name}
+use Rattle.cg_lower_def.specs.CTypes.{count, record_struct, IsDeclared}
+use Rattle.cg_cgen_def.specs.Places.{Place, at, field, tag}
 use Rattle.cg_lower_laws.proofs.Bodies.{length_replicate}
 use Rattle.cg_lower_laws.proofs.Frames.{Keeps}
 use Rattle.cg_lower_laws.proofs.Layouts.{lay, field_leads, payload_leads, size_slots, tag_leads, walk_on}

@@ -13,7 +13,8 @@ use Rattle.cg_ctree.specs.declared.tree.CDecl.{CDecl}
 use Rattle.cg_ctree.specs.declared.tree.CStruct.{CStruct}
 use Rattle.cg_ctree.specs.declared.tree.CTy.{CTy}
 use Rattle.cg_ctree.specs.declared.tree.CTy.TheVariants as ty
-use Rattle.cg_lower_def.specs.CTypes.{AreDeclared, c_type, declared, form, form_parts, IsDeclared, members_from, name, record_members, record_struct, struct_name, tag_name, variant_members, variant_struct}
+use Rattle.cg_cgen_def.specs.Names.{declared, name, struct_name, tag_name}
+use Rattle.cg_lower_def.specs.CTypes.{AreDeclared, c_type, form, form_parts, IsDeclared, members_from, record_members, record_struct, variant_members, variant_struct}
 use Rattle.cg_lower_def.specs.Structs.{AreCovered, CoveredAreDeclared, HasBelow, IsCovered, IsTable, is_in, numbered_in, StandBelow, struct_members, structs_from, structs_in}
 use Rattle.cg_lower_laws.proofs.Names.{apart}
 use Rattle.cg_base.proofs.Sequences.{itself}

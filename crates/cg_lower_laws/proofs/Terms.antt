@@ -13,8 +13,9 @@ use Rattle.cg_heap.specs.declared.cell.Scalar.{Scalar}
 use Rattle.cg_update.specs.Machines.{is_machine}
 use Rattle.cg_update.specs.Outcomes.{State}
 use Rattle.cg_lower_def.specs.CTypes.{c_type}
-use Rattle.cg_lower_def.specs.Lowered.{Low, leaf, joined, before, and_then, set}
-use Rattle.cg_lower_def.specs.Places.{local, Place, number, held, local_name, path}
+use Rattle.cg_cgen_def.specs.Bodies.{Low, leaf}
+use Rattle.cg_lower_def.specs.Lowered.{joined, before, and_then, set}
+use Rattle.cg_cgen_def.specs.Places.{local, Place, number, held, local_name, path}
 use Rattle.cg_lower_def.specs.Simulated.{as_run}
 use Rattle.cg_lower_laws.proofs.Frames.{Is, set_is, Changes, changes_none, changes_on, changes_wider, changes_set, Fresh, fresh_back, fresh_later, Keeps, keeps_later, is_kept, Under, under_more}
 use Rattle.cg_lower_laws.proofs.Operands.{write_whole}

@@ -1,14 +1,13 @@
 -- What both kinds of loops are made of: numbers that are compared and added, parts of machine values, and the call of a turn.
-use Rattle.std.proofs.Common.{◌≡◌, ℕ, zero, suc, ◌+◌, ◌-◌, ◌%◌, ◌^◌, ◌<◌, ◌≤◌, Bool, true, false, ◌&&◌, ◌||◌, not, Option, Some, None, List, [], ◌∷◌, ◌++◌, length, length-append, drop, take, map, nat_eq, nat_le, nat_lt, slice_get, append_assoc, refl, sym, ap, ◌∙◌, subst, arith}
+use Rattle.std.proofs.Common.{◌≡◌, ℕ, zero, suc, ◌+◌, ◌-◌, ◌%◌, ◌^◌, ◌<◌, ◌≤◌, Bool, true, false, ◌&&◌, ◌||◌, not, Option, Some, None, List, [], ◌∷◌, ◌++◌, length, length-append, drop, take, map, nat_eq, nat_le, nat_lt, slice_get, append_assoc, refl, ap, ◌∙◌, subst, arith}
 use Rattle.std.proofs.lemmas.Bool.{and_parts, le-leb}
 use Rattle.std.proofs.Math.Seq.{drop-append_seam, take-append_seam}
 use Rattle.std.proofs.Math.Nat.{add-mul-mod_self_right, mod-eq_of_lt}
-use Rattle.cg_base.specs.declared.fun.Lib.{Lib}
 use Rattle.cg_base.specs.declared.kind.Word.{Word}
 use Rattle.cg_base.specs.declared.kind.Word.TheVariants.{U8, U32}
-use Rattle.cg_base.specs.Types.{Tau, arrow, Parts, end, part}
+use Rattle.cg_base.specs.Types.{Tau, Parts, end, part}
 use Rattle.cg_base.specs.Words.{bits}
-use Rattle.cg_cgen.specs.Code.{inner}
+use Rattle.cg_cgen_def.specs.Code.{inner}
 use Rattle.cg_cgen.proofs.Numbers.{cast, difference, flag_is_small, kept, small}
 use Rattle.cg_cmachine_def.specs.Layouts.{Layout, cell, size, spot, walk}
 use Rattle.cg_cmachine_def.specs.Operands.{Frame, typed}
@@ -17,27 +16,22 @@ use Rattle.cg_cmachine_def.specs.Outcomes.{ok}
 use Rattle.cg_cmachine_def.specs.Runs.{Linked}
 use Rattle.cg_cmachine_def.specs.Targets.{spliced, with_scalars, write}
 use Rattle.cg_ctree.specs.declared.tree.COp.TheVariants as cop
-use Rattle.cg_ctree.specs.declared.tree.CRhs.TheVariants.{Call as called}
-use Rattle.cg_ctree.specs.Trees.{assign}
 use Rattle.cg_heap.specs.declared.cell.Scalar.{Scalar}
 use Rattle.cg_heap.specs.Reps.{slots}
 use Rattle.cg_inst.proofs.SameType.{same_is}
-use Rattle.cg_update.specs.Calls.{Program}
 use Rattle.cg_update.specs.Machines.{are_machine, is_machine, is_type, part_at, type_of_part}
 use Rattle.cg_update.specs.Outcomes.{State}
 use Rattle.cg_lower_def.specs.CTypes.{c_type, count}
-use Rattle.cg_lower_def.specs.IteratorCode.{function_type, turning, whole_local}
-use Rattle.cg_lower_def.specs.LibraryCode.{field_of_argument}
-use Rattle.cg_lower_def.specs.Lowered.{Whole, arrow_number, dispatch_name}
-use Rattle.cg_lower_def.specs.Places.{Step, argument, field, local, local_name, number, operand, path, step_name}
+use Rattle.cg_cgen_def.specs.Places.{whole_local, field_of_argument, Step, argument, field, local, local_name, number, operand, path, step_name}
+use Rattle.cg_cgen_def.specs.Loops.{turning}
 use Rattle.cg_lower_def.specs.Simulated.{as_run}
 use Rattle.cg_lower_laws.proofs.Frames.{Keeps}
-use Rattle.cg_lower_laws.proofs.Iterating.{SourceCalled}
+use Rattle.cg_lower_laws.proofs.Iterating.{Price, TurnCalled}
 use Rattle.cg_lower_laws.proofs.Layouts.{machine_slots}
 use Rattle.cg_lower_laws.proofs.LibraryParts.{held_read, two_judged}
 use Rattle.cg_lower_laws.proofs.Operands.{IsReadable, given_typed, write_part}
 use Rattle.cg_lower_laws.proofs.Records.{spliced_next}
-use Rattle.cg_lower_laws.proofs.Runs.{Runs, runs_call}
+use Rattle.cg_lower_laws.proofs.Runs.{runs_call}
 use Rattle.cg_lower_laws.proofs.Standing.{KeepsNumber, Local, Reaches, Scene, replaced, scene_set, scene_whole, stand_at}
 use Rattle.cg_lower_laws.proofs.Terms.{lay_c}
 
@@ -137,30 +131,28 @@ pub type_is : (o : Option Tau) (t : Tau) → is_type o t ≡ true → o ≡ Some
 type_is None t e = absurd (cc)
 type_is (Some u) t e = ap Some (same_is u t e)
 
-module _ (p : Program) (whole : Whole) (q : Linked) (l : Layout) (a : Local) where
+module _ (types : ℕ → Option Tau) (numbered : Tau → ℕ) (q : Linked) (l : Layout) (callee : List ℕ) (price : Price) (a : Local) where
   abbrev lay_of : Tau → Layout
-  lay_of t = lay_c q (c_type whole.numbered t)
+  lay_of t = lay_c q (c_type numbered t)
 
   -- what a turn gives is set to a part of a local
-  pub turn_runs : (fr : Frame) (s s' : State) (lib : Lib) (args : List Tau) (t r : Tau) (to item i : ℕ) (xs : List Local) (x y : Local) (steps : List Step) (tag us ws after : List Scalar) (left rest : ℕ)
-      → function_type whole lib args ≡ arrow t r → Scene a fr xs → slice_get xs to ≡ Some x → slice_get xs item ≡ Some y → y.scalars ≡ us → IsReadable y.layout us
+  pub turn_runs : (fr : Frame) (s s' : State) (r : Tau) (to item i : ℕ) (xs : List Local) (x y : Local) (steps : List Step) (tag us ws after : List Scalar) (left rest : ℕ)
+      → Scene a fr xs → slice_get xs to ≡ Some x → slice_get xs item ≡ Some y → y.scalars ≡ us → IsReadable y.layout us
       → Keeps fr (field_of_argument 3) (cell U32) tag → IsReadable (cell U32) tag
       → walk (map step_name steps) x.layout ≡ Some (spot i (lay_of r)) → spliced (spot i (lay_of r)) ws x.scalars ≡ after → length after ≡ size x.layout → length xs ≤ 2 ^ 64
-      → (c : SourceCalled p whole q t r (typed (cell U32) tag) (typed y.layout us) s s' ws left rest)
-      → Reaches q whole.numbered l a (turning whole lib args to steps item ∷ []) fr (as_run s) (suc c.called.steps) (replaced to after xs) (as_run s')
-  turn_runs fr s s' lib args t r to item i xs x y steps tag us ws after left rest ty f e e' holds readable tag_kept tag_reads leads becomes sized few c =
+      → (c : TurnCalled types numbered q callee price r (typed (cell U32) tag) (typed y.layout us) s s' ws left rest)
+      → Reaches q numbered l a (turning callee to steps item ∷ []) fr (as_run s) (suc c.steps) (replaced to after xs) (as_run s')
+  turn_runs fr s s' r to item i xs x y steps tag us ws after left rest f e e' holds readable tag_kept tag_reads leads becomes sized few c =
       record {
         frame = with_scalars (local_name to) after fr;
         runs =
-            subst (λ z. Runs q l (assign (path (local to) steps) (called (dispatch_name (arrow_number whole.arrows z)) (operand (field_of_argument 3) ∷ operand (whole_local item) ∷ [])) ∷ []) fr (as_run s) (suc c.called.steps) (with_scalars (local_name to) after fr) (as_run s'))
-            (sym ty)
-            (runs_call q l (path (local to) steps) (dispatch_name (arrow_number whole.arrows (arrow t r))) (operand (field_of_argument 3) ∷ operand (whole_local item) ∷ []) fr (as_run s) (as_run s')
-            (typed (cell U32) tag ∷ typed y.layout us ∷ []) (typed (lay_of r) ws) c.called.steps (record { frame = with_scalars (local_name to) after fr; store = s'.store })
+            runs_call q l (path (local to) steps) callee (operand (field_of_argument 3) ∷ operand (whole_local item) ∷ []) fr (as_run s) (as_run s')
+            (typed (cell U32) tag ∷ typed y.layout us ∷ []) (typed (lay_of r) ws) c.steps (record { frame = with_scalars (local_name to) after fr; store = s'.store })
             (two_judged q.program.structs s.store fr (operand (field_of_argument 3)) (operand (whole_local item)) (typed (cell U32) tag) (typed y.layout us)
             (held_read q.program.structs s.store fr argument (field 3 ∷ []) (cell U32) tag tag_kept tag_reads)
             (held_read q.program.structs s.store fr (local item) [] y.layout us (subst (λ z. Keeps fr (whole_local item) y.layout z) holds (scene_whole a fr item xs y e' f)) readable))
-            c.called.answers
+            c.answers
             (subst (λ z. write q.program.structs fr s'.store (path (local to) steps) (typed (lay_of r) ws) ≡ ok (record { frame = with_scalars (local_name to) z fr; store = s'.store })) becomes
-            (write_part whole.numbered q.program.structs s'.store fr (local to) steps x.layout x.scalars ws (spot i (lay_of r)) (typed (lay_of r) ws) (stand_at fr 0 to to xs x (omega arith) e f.locals) leads (given_typed (lay_of r) ws))));
+            (write_part numbered q.program.structs s'.store fr (local to) steps x.layout x.scalars ws (spot i (lay_of r)) (typed (lay_of r) ws) (stand_at fr 0 to to xs x (omega arith) e f.locals) leads (given_typed (lay_of r) ws)));
         scene = scene_set a fr to xs x after e sized few f;
       }

@@ -19,7 +19,8 @@ use Rattle.cg_typing.specs.Instances.{nodes_of, nodes_below, nodes_of_fields}
 use Rattle.cg_typing.specs.Parts.{field_in, alternative_in, held, with_part}
 use Rattle.cg_typing.specs.Rules.{Derives, DerivesShape, DerivesFields, type_at}
 use Rattle.cg_typing.specs.Trees.{strings_of, the_parts}
-use Rattle.cg_lower_def.specs.CTypes.{abstract_struct, c_type, element, form, form_parts, struct_name, IsDeclared}
+use Rattle.cg_cgen_def.specs.Names.{struct_name}
+use Rattle.cg_lower_def.specs.CTypes.{abstract_struct, c_type, element, form, form_parts, IsDeclared}
 use Rattle.cg_lower_def.specs.Typed.{IsTyped, IsTypedShape, AreTyped}
 use Rattle.cg_typing.proofs.Lists.{first_as_many, second_as_many}
 use Rattle.cg_base.proofs.Sequences.{get_front, get_last}

@@ -8,6 +8,7 @@ use Rattle.std.specs.Option.{option_map}
 use Rattle.cg_base.specs.declared.fun.Fun.{Fun}
 use Rattle.cg_base.specs.declared.fun.Fun.TheVariants.{User, Lib as OfLib}
 use Rattle.cg_base.specs.declared.fun.Lib.{Lib}
+use Rattle.cg_base.specs.declared.fun.Lib.TheVariants.{Map, Fold, Seq32, Seq64, Seq32Break}
 use Rattle.cg_base.specs.declared.kind.Word.TheVariants.{U32}
 use Rattle.cg_base.specs.Same.{same_type}
 use Rattle.cg_base.specs.Types.{Tau, arrow}
@@ -39,17 +40,20 @@ use Rattle.cg_typing.specs.Library.{library_type}
 use Rattle.cg_typing.specs.Parts.{given_by, taken_by}
 use Rattle.cg_typing.specs.Rules.{type_at}
 use Rattle.cg_update.specs.Calls.{Program, abstract, answer_of, argument_of, library, types_of}
-use Rattle.cg_update.specs.Machines.{is_machine}
+use Rattle.cg_update.specs.Machines.{is_machine, type_of_part}
 use Rattle.cg_update.specs.Outcomes.{State, starting, Outcome, no_result, gives, where_true, given, pay_for}
 use Rattle.cg_update.specs.Updates as updates
 use Rattle.cg_update.specs.Updates.{Result, calls_within, entered, entered_by, given_outside, outcome, result_of, update, updated}
-use Rattle.cg_lower_def.specs.CTypes.{c_type, declared, IsDeclared}
-use Rattle.cg_lower_def.specs.Functions.{Item, of_arrow, of_instance, body_of, function_maybe, function_of, function_of_item, linked_in, low_body, low_instance, low_outside}
+use Rattle.cg_cgen_def.specs.Names.{declared, dispatch_name, function_name}
+use Rattle.cg_lower_def.specs.CTypes.{c_type, IsDeclared}
+use Rattle.cg_cgen_def.specs.Bodies.{body_of, Low}
+use Rattle.cg_lower_def.specs.Functions.{Item, of_arrow, of_instance, function_maybe, function_of, function_of_item, linked_in, low_body, low_instance, low_outside}
 use Rattle.cg_lower_def.specs.Dispatch.{dispatch_of, tags_from}
 use Rattle.cg_lower_def.specs.IteratorCode.{function_type, low_iterator}
-use Rattle.cg_lower_def.specs.LibraryCode.{low_library, whole_argument}
-use Rattle.cg_lower_def.specs.Lowered.{Low, Whole, arrow_number, dispatch_name, function_name}
-use Rattle.cg_lower_def.specs.Places.{argument, argument_name}
+use Rattle.cg_cgen_def.specs.Places.{whole_argument, argument, argument_name}
+use Rattle.cg_lower_def.specs.LibraryCode.{low_library}
+use Rattle.cg_lower_def.specs.Lowered.{Whole, arrow_number}
+use Rattle.cg_lower_def.specs.Iterated.{tag_in}
 use Rattle.cg_lower_def.specs.Simulated.{as_run, DispatchIsSimulated, IsCallable, IsProgramOf, IsReady, LibraryIsSimulated, LoweringSimulates, Simulates, SimulatesDispatch, SimulatesLibrary}
 use Rattle.cg_lower_def.specs.Typed.{IsTyped}
 use Rattle.cg_lower_laws.proofs.Bodies.{begins, begins_fresh, begins_is, BodyRan, bodied, body_answers, body_runs}
@@ -59,7 +63,7 @@ use Rattle.cg_lower_laws.proofs.Finding.{abstract_called, found_at, item_name, i
 use Rattle.cg_lower_laws.proofs.Frames.{Is, is_kept, Keeps}
 use Rattle.cg_lower_laws.proofs.Inversions.{on_is, pay_for_is, same_rest, same_scalars, same_state, where_is}
 use Rattle.cg_lower_laws.proofs.Layouts.{machine_slots, size_slots}
-use Rattle.cg_lower_laws.proofs.Iterating.{SourceRuns}
+use Rattle.cg_lower_laws.proofs.Iterating.{Does, LoopRan, Price, TurnCalled}
 use Rattle.cg_lower_laws.proofs.Iterators.{iterator_ran}
 use Rattle.cg_lower_laws.proofs.LibraryCalls.{LibraryRan, library_ran}
 use Rattle.cg_lower_laws.proofs.Operands.{IsReadable, given_typed, machine_readable, readable}
@@ -96,6 +100,34 @@ named_arrow whole entries j (Some t) f h = let same : dispatch_of whole entries 
 named_item : (whole : Whole) (entries : List Entry) (i : Item) (f : trees.Function) → function_of_item whole entries i ≡ Some f → f.name ≡ item_name i
 named_item whole entries (of_instance k) f h = named_maybe whole k (slice_get whole.list k) (slice_get entries k) f h
 named_item whole entries (of_arrow j) f h = named_arrow whole entries j (slice_get whole.arrows j) f h
+
+-- ---- functions of iterators
+
+-- a function of the source that is called by its place gives a machine value of its type, and its C does the same with 4 steps more at most
+record SourceCalled (p : Program) (whole : Whole) (q : Linked) (a b : Tau) (tag v : Value) (s s' : State) (ws : List Scalar) (left rest : ℕ) : Type 0 where
+  called : Called q (dispatch_name (arrow_number whole.arrows (arrow a b))) (tag ∷ v ∷ []) s s' (lay_c q (c_type whole.numbered b)) ws 4 left rest
+  machine : is_machine (types_of p) b ws ≡ true
+
+abbrev SourceRuns : Program → Whole → Linked → updates.Calls → Type 0
+SourceRuns p whole q calls =
+    (k : ℕ) (a b : Tau) (us ws : List Scalar) (s s' : State) (left rest : ℕ) (tag v : Value) → list_any (λ u. same_type u (arrow a b)) whole.arrows ≡ true
+    → types_of p k ≡ Some (arrow a b) → updates.calls_source p calls (slice_get p.list k) k us s left ≡ gives ws s' rest → is_machine (types_of p) a us ≡ true
+    → give (cell U32) tag ≡ ok (NumberScalar k ∷ []) → give (lay_c q (c_type whole.numbered a)) v ≡ ok us
+    → SourceCalled p whole q a b tag v s s' ws left rest
+
+-- a cost is worth 32 steps of C
+abbrev steps_of_cost : Price
+steps_of_cost = record { worth = λ n. 32 * n; granted = 4; left_over = 0; pays = λ n. omega arith }
+
+-- the function of an iterator is of an arrow type
+function_arrow : (lib : Lib) (args : List Tau) → is_iterator lib ≡ true → arrow (taken_by (function_type lib args)) (given_by (function_type lib args)) ≡ function_type lib args
+unfolding type_of_part
+function_arrow Map args i = refl
+function_arrow Fold args i = refl
+function_arrow Seq32 args i = refl
+function_arrow Seq64 args i = refl
+function_arrow Seq32Break args i = refl
+function_arrow _ args i = absurd (cc)
 
 -- ---- values
 
@@ -324,20 +356,21 @@ module _ (p : Program) (whole : Whole) (ss : List CStruct) (links : List Link) (
       iterator_ended lib f b one h =
           library_ends (low_iterator whole lib x.types) is_low
           (subst (λ z. LibraryRan q (lay_of result) (low_iterator whole lib x.types) frame s s' (lay_of z) ws left rest) gives_so
-          (iterator_ran lib x.types one (library_many lib f) (library_good lib f) p whole q (lay_of result) calls frame s s' us ws left rest few sources
-          (subst (IsDeclared whole.numbered ss) (sym takes_so) ready.argument) (subst (IsDeclared whole.numbered ss) (sym gives_so) ready.result) callable.argument callable.result callable.listed
-          (subst (λ z. Is frame argument_name (lay_of z) us) (sym takes_so) (begins_is q (c_type whole.numbered taken) us (low_iterator whole lib x.types).locals (sized taken us ready.argument machine)))
-          (begins_fresh q (c_type whole.numbered taken) us (low_iterator whole lib x.types).locals (ready.few (low_iterator whole lib x.types) is_low))
-          (subst (λ z. is_machine types z us ≡ true) (sym takes_so) machine)
-          (subst (λ z. updates.iterated p calls lib x.types (record { ty = z; scalars = us }) s left ≡ gives ws s' rest) (sym takes_so) h)))
+          (record { steps = ran.steps; frame = ran.frame; within = ran.within; runs = ran.runs; keeps = ran.keeps; readable = ran.readable }))
         where
           is_low : low_instance whole x e.body ≡ Some (low_iterator whole lib x.types)
           is_low = library_low lib true f b one
 
+          callee : List ℕ
+          callee = dispatch_name (arrow_number whole.arrows (function_type lib x.types))
+
+          function : ℕ
+          function = tag_in lib x.types us
+
           frame : Frame
           frame = begins q (c_type whole.numbered taken) us (low_iterator whole lib x.types).locals
 
-          callable : IsCallable whole ss (function_type whole lib x.types)
+          callable : IsCallable whole ss (function_type lib x.types)
           callable = ready.turned lib f one
 
           takes_so : taken_by (library_type lib x.types) ≡ taken
@@ -345,6 +378,25 @@ module _ (p : Program) (whole : Whole) (ss : List CStruct) (links : List Link) (
 
           gives_so : given_by (library_type lib x.types) ≡ result
           gives_so = ap given_by (library_is lib f)
+
+          -- its function does what the instance of its number does
+          does : Does types whole.numbered q callee steps_of_cost function (taken_by (function_type lib x.types)) (given_by (function_type lib x.types)) (updates.calls_source p calls (slice_get p.list function) function)
+          does asks gave s s' left rest t h m =
+              let tag = typed (cell U32) (NumberScalar function ∷ []) in
+              let v = typed (lay_of (taken_by (function_type lib x.types))) asks in
+              let c = sources function (taken_by (function_type lib x.types)) (given_by (function_type lib x.types)) asks gave s s' left rest tag v
+              (subst (λ z. list_any (λ u. same_type u z) whole.arrows ≡ true) (sym (function_arrow lib x.types one)) callable.listed) t h m (given_typed (cell U32) (NumberScalar function ∷ [])) (given_typed (lay_of (taken_by (function_type lib x.types))) asks) in
+              subst (λ z. TurnCalled types whole.numbered q (dispatch_name (arrow_number whole.arrows z)) steps_of_cost (given_by (function_type lib x.types)) tag v s s' gave left rest) (function_arrow lib x.types one)
+              (record { steps = c.called.steps; within = let le = c.called.within in omega (arith, le); answers = c.called.answers; machine = c.machine })
+
+          ran : LoopRan steps_of_cost q (lay_of result) (low_iterator whole lib x.types) frame s s' (lay_of (given_by (library_type lib x.types))) ws left rest
+          ran =
+              iterator_ran lib x.types one (library_many lib f) (library_good lib f) types whole.numbered q (lay_of result) callee steps_of_cost (updates.calls_source p calls (slice_get p.list function) function) frame s s' us ws left rest few does
+              (subst (IsDeclared whole.numbered ss) (sym takes_so) ready.argument) (subst (IsDeclared whole.numbered ss) (sym gives_so) ready.result) callable.argument callable.result
+              (subst (λ z. Is frame argument_name (lay_of z) us) (sym takes_so) (begins_is q (c_type whole.numbered taken) us (low_iterator whole lib x.types).locals (sized taken us ready.argument machine)))
+              (begins_fresh q (c_type whole.numbered taken) us (low_iterator whole lib x.types).locals (ready.few (low_iterator whole lib x.types) is_low))
+              (subst (λ z. is_machine types z us ≡ true) (sym takes_so) machine)
+              (subst (λ z. updates.iterated p calls lib x.types (record { ty = z; scalars = us }) s left ≡ gives ws s' rest) (sym takes_so) h)
 
       -- ---- an abstract function
 

@@ -1,4 +1,5 @@
 // The laws of lowering.
+ghost use Rattle.cg_lower_def.specs.Iterated.{IteratorsRun};
 ghost use Rattle.cg_lower_def.specs.Printables.{LoweringIsPrintable};
 ghost use Rattle.cg_lower_def.specs.Simulated.{DispatchIsSimulated, LibraryIsSimulated, LoweringSimulates};
 ghost use Rattle.cg_lower_def.specs.Structs.{CoveredAreDeclared};
@@ -18,6 +19,13 @@ pub fn library_is_simulated()
 /// function of that instance gives.
 pub fn dispatch_is_simulated()
     ensures { DispatchIsSimulated }
+{}
+
+/// The C function of an iterator, in every program in which it is the first of its name and which declares the structs of its types, does what
+/// the library says, whatever the function that it calls does: it calls this once a turn, in the order of the indices, each turn going on from
+/// what the one before it gave, and takes at most 24 steps a turn and 24 beside those and beside the steps of what it calls.
+pub fn iterators_run()
+    ensures { IteratorsRun }
 {}
 
 /// The C of a list of instances can be printed, where no body is deeper than 2,048 and its structs can.

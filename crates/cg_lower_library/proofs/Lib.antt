@@ -1,2 +1,3 @@
+mod IteratorSteps
 mod CodeSteps
 mod TypeSteps

@@ -8,17 +8,16 @@ ghost use Rattle.cg_cmachine_def.specs.BuiltIns.{array_call};
 ghost use Rattle.cg_ctree.specs.declared.tree.CRhs.TheVariants.{Call as call_of};
 ghost use Rattle.cg_ctree.specs.declared.tree.CTy.TheVariants.{Word as word_type};
 ghost use Rattle.cg_ctree.specs.Trees.{assign as assign_of, call};
-ghost use Rattle.cg_lower_def.specs.LibraryCode.{done_by_call, field_of_argument, given_by_call, whole_argument};
+ghost use Rattle.cg_cgen_def.specs.Places.{field_of_argument, whole_argument, held, local, path as path_of};
+ghost use Rattle.cg_lower_def.specs.LibraryCode.{done_by_call, given_by_call};
 ghost use Rattle.cg_lower_def.specs.Lowered.{word_of as word_of_type};
-ghost use Rattle.cg_lower_def.specs.Places.{held, local, path as path_of};
 ghost use Rattle.cg_lower_library.specs.Codes.{IsLow};
 
-use crate::code::{
-    Code, argument_field, array_name, push_local, three_operands, two_operands, whole_operands,
-};
+use crate::code::{Code, argument_field, push_local, three_operands, two_operands, whole_operands};
 use cg_base::{Items, Memory, Name, Ty, Word};
+use cg_cgen_lines::{Base, array_name};
 use cg_ctree::{COpnd, CRhs, CStmt, CTy};
-use cg_lower_nodes::{Base, Place, assign, word_of};
+use cg_lower_nodes::{Place, assign, word_of};
 use std::alloc::Global;
 
 // A call that gives a word.

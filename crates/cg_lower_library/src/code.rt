@@ -2,16 +2,17 @@
 #![tactic(auto, using(crate::proofs::CodeSteps::code_steps))]
 
 ghost use Rattle.std.specs.Prelude.{◌≡◌, ◌++◌, [], ◌∷◌, IfOk, OnOk, length, map};
-ghost use Rattle.cg_cmachine_def.specs.BuiltIns.{array_call};
 ghost use Rattle.cg_ctree.specs.Trees.{stmt_of};
-ghost use Rattle.cg_lower_def.specs.LibraryCode.{field_of_argument, setting, whole_argument};
-ghost use Rattle.cg_lower_def.specs.CTypes.{declared};
-ghost use Rattle.cg_lower_def.specs.Places.{local_name, operand};
-ghost use Rattle.cg_lower_nodes.specs.Views.{place_of, step_of};
+ghost use Rattle.cg_cgen_def.specs.Places.{field_of_argument, whole_argument, local_name, operand};
+ghost use Rattle.cg_cgen_def.specs.Bodies.{setting};
+ghost use Rattle.cg_cgen_def.specs.Names.{declared};
+ghost use Rattle.cg_cgen_lines.specs.Views.{step_of};
+ghost use Rattle.cg_lower_nodes.specs.Views.{place_of};
 
-use cg_base::{Items, Memory, Name, Word};
+use cg_base::{Items, Memory};
+use cg_cgen_lines::{Base, Step, numbered};
 use cg_ctree::{CDecl, COpnd, CRhs, CStmt, CTy};
-use cg_lower_nodes::{Base, Place, Step, assign, numbered};
+use cg_lower_nodes::{Place, assign};
 use std::alloc::Global;
 
 // Where the value of a body is kept, its locals, and its statements.
@@ -62,28 +63,6 @@ pub(crate) fn three_operands(alloc: Global) -> Result<Items<COpnd>, Memory>
     let mut operands = two_operands(alloc)?;
     push_field(alloc, &mut operands, 2)?;
     Ok(operands)
-}
-
-// What the names of the built-ins on arrays of a word begin with.
-fn prefix(word: Word) -> &'static [u8]
-    ensures { result.now ≡ array_call word [] }
-{
-    match word {
-        Word::U8 => b"cg_w8_",
-        Word::U16 => b"cg_w16_",
-        Word::U32 => b"cg_w32_",
-        Word::U64 => b"cg_w64_",
-    }
-}
-
-// The name of a built-in on arrays of a word.
-pub(crate) fn array_name(alloc: Global, word: Word, action: &[u8]) -> Result<Name, Memory>
-    ensures { IfOk result (λ name. name ≡ array_call word action.now) }
-{
-    let mut bytes = Vec::new(alloc);
-    bytes.extend_from_slice(prefix(word))?;
-    bytes.extend_from_slice(action)?;
-    Name::new(alloc, bytes.as_slice())
 }
 
 // One local more, of a type of C.

@@ -6,16 +6,17 @@ ghost use Rattle.cg_base.specs.declared.kind.Word.TheVariants.{U8 as word_8};
 ghost use Rattle.cg_ctree.specs.declared.tree.CRhs.TheVariants.{IsNull};
 ghost use Rattle.cg_ctree.specs.declared.tree.CTy.TheVariants.{Word as word_type};
 ghost use Rattle.cg_ctree.specs.Trees.{assign as assign_of, block_of, branch, stmt_of, to_block};
-ghost use Rattle.cg_lower_def.specs.Functions.{locals_from};
-ghost use Rattle.cg_lower_def.specs.LibraryCode.{asking, setting};
-ghost use Rattle.cg_lower_def.specs.Places.{field, held, local, number, operand, path as path_of, payload, tag};
+ghost use Rattle.cg_cgen_def.specs.Bodies.{locals_from, setting};
+ghost use Rattle.cg_lower_def.specs.LibraryCode.{asking};
+ghost use Rattle.cg_cgen_def.specs.Places.{field, held, local, number, operand, path as path_of, payload, tag};
 ghost use Rattle.cg_lower_nodes.specs.Views.{place_of};
 ghost use Rattle.cg_lower_library.specs.Codes.{IsLow};
 
 use crate::code::{Code, push_local, set};
 use cg_base::{Items, Memory, Word};
+use cg_cgen_lines::{Base, Step};
 use cg_ctree::{CDecl, CRhs, CStmt, CTy};
-use cg_lower_nodes::{Base, Place, Step, assign};
+use cg_lower_nodes::{Place, assign};
 use std::alloc::Global;
 
 // The second field of the result is the alternative at a place, with what is kept at another.

@@ -5,8 +5,9 @@ use Rattle.cg_base.specs.Types.{Tau}
 use Rattle.cg_ctree.specs.declared.tree.CTy.{CTy}
 use Rattle.cg_ctree.specs.Trees.{Stmt, stmt_of}
 use Rattle.cg_lower_def.specs.CTypes.{c_type}
-use Rattle.cg_lower_def.specs.Lowered.{Low, joined, before, and_then, set}
-use Rattle.cg_lower_def.specs.Places as places
+use Rattle.cg_cgen_def.specs.Bodies.{Low}
+use Rattle.cg_lower_def.specs.Lowered.{joined, before, and_then, set}
+use Rattle.cg_cgen_def.specs.Places as places
 use Rattle.cg_lower_nodes.specs.declared.place.Place.{Place}
 use Rattle.cg_lower_nodes.specs.declared.state.Lowering.{Lowering}
 use Rattle.cg_lower_nodes.specs.Grown.{After, Adds, Sets}

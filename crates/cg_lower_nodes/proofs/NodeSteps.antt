@@ -7,8 +7,9 @@ use Rattle.cg_ctree.specs.declared.tree.CRhs.TheVariants.{Opnd}
 use Rattle.cg_ctree.specs.declared.tree.CTy.{CTy}
 use Rattle.cg_ctree.specs.declared.tree.CTy.TheVariants as ty
 use Rattle.cg_ctree.specs.Trees.{Stmt, assign}
-use Rattle.cg_lower_def.specs.Lowered.{Low, bare, bare_by, owned, owned_by, set, copy, converting, before, low_cast}
-use Rattle.cg_lower_def.specs.Places as places
+use Rattle.cg_cgen_def.specs.Bodies.{Low}
+use Rattle.cg_lower_def.specs.Lowered.{bare, bare_by, owned, owned_by, set, copy, converting, before, low_cast}
+use Rattle.cg_cgen_def.specs.Places as places
 use Rattle.cg_lower_nodes.specs.declared.place.Place.{Place}
 use Rattle.cg_lower_nodes.specs.declared.state.Lowering.{Lowering}
 use Rattle.cg_lower_nodes.specs.Grown.{After, Adds, Bares, Casts, Operates, Owns, Puts, Sets}

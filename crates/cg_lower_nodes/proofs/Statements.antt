@@ -7,7 +7,7 @@ use Rattle.cg_ctree.specs.declared.tree.CStmt as statement
 use Rattle.cg_ctree.specs.declared.tree.CStmt.{CStmt}
 use Rattle.cg_ctree.specs.Trees.{Stmt, assign, stmt_of}
 use Rattle.cg_lower_def.specs.Lowered.{filling}
-use Rattle.cg_lower_def.specs.Places as places
+use Rattle.cg_cgen_def.specs.Places as places
 use Rattle.cg_lower_nodes.specs.declared.place.Place.{Place}
 use Rattle.cg_lower_nodes.specs.Views.{place_of}
 

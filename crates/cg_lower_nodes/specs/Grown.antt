@@ -5,8 +5,9 @@ use Rattle.cg_base.specs.declared.kind.Word.{Word}
 use Rattle.cg_ctree.specs.declared.tree.CStmt.{CStmt}
 use Rattle.cg_ctree.specs.declared.tree.CTy.{CTy}
 use Rattle.cg_ctree.specs.Trees.{Stmt, stmt_of}
-use Rattle.cg_lower_def.specs.Lowered.{Low, bare, before as first, copy, low_cast, low_member, low_operator, low_put, owned, remainder}
-use Rattle.cg_lower_def.specs.Places as places
+use Rattle.cg_cgen_def.specs.Bodies.{Low}
+use Rattle.cg_lower_def.specs.Lowered.{bare, before as first, copy, low_cast, low_member, low_operator, low_put, owned, remainder}
+use Rattle.cg_cgen_def.specs.Places as places
 use Rattle.cg_lower_nodes.specs.declared.place.Place.{Place}
 use Rattle.cg_lower_nodes.specs.declared.state.Lowering.{Lowering}
 use Rattle.cg_lower_nodes.specs.Kept.{kept_of}

@@ -1,21 +1,9 @@
 -- Where the compiler keeps the value of a term, and what that stands for.
 use Rattle.std.specs.Prelude.{ℕ, Bool, true, false, nat_le, [], map}
-use Rattle.cg_lower_def.specs.Places as places
-use Rattle.cg_lower_nodes.specs.declared.place.Base.{Base}
-use Rattle.cg_lower_nodes.specs.declared.place.Base.TheVariants as base
+use Rattle.cg_cgen_def.specs.Places as places
+use Rattle.cg_cgen_lines.specs.Views.{base_of, step_of}
 use Rattle.cg_lower_nodes.specs.declared.place.Place.{Place}
 use Rattle.cg_lower_nodes.specs.declared.place.Place.TheVariants as place
-use Rattle.cg_lower_nodes.specs.declared.place.Step.{Step}
-use Rattle.cg_lower_nodes.specs.declared.place.Step.TheVariants as step
-
-abbrev pub step_of : Step → places.Step
-step_of (step.Field i) = places.field i
-step_of step.Tag = places.tag
-step_of (step.Payload i) = places.payload i
-
-abbrev pub base_of : Base → places.Base
-base_of base.Argument = places.argument
-base_of (base.Local j) = places.local j
 
 abbrev pub place_of : Place → places.Place
 place_of (place.Number n) = places.number n

@@ -17,5 +17,5 @@ pub use nodes::{
     tagged,
 };
 pub use parts::{alternative_place, field_at, word_of};
-pub use place::{Base, Place, Step, numbered, path};
+pub use place::Place;
 pub use state::{Lowering, assign};

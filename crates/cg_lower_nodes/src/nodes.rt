@@ -5,22 +5,24 @@ ghost use Rattle.std.specs.Prelude.{◌≡◌, ◌++◌, [], ◌∷◌, not, IfO
 ghost use Rattle.cg_base.specs.declared.kind.Sigil.TheVariants.{R, U};
 ghost use Rattle.cg_base.specs.declared.kind.Word.TheVariants.{U8};
 ghost use Rattle.cg_base.specs.Types.{type_of};
-ghost use Rattle.cg_cgen.specs.Meanings.{takes_two as is_binary};
+ghost use Rattle.cg_cgen_def.specs.Code.{takes_two as is_binary};
 ghost use Rattle.cg_ctree.specs.declared.tree.CTy.TheVariants.{Word as word_type};
 ghost use Rattle.cg_ctree.specs.Trees.{block_of, branch, stmt_of};
 ghost use Rattle.cg_update.specs.Turns.{field_type};
 ghost use Rattle.cg_update.specs.Updates.{sigil_of};
 ghost use Rattle.cg_lower_def.specs.Lowered as lowered;
-ghost use Rattle.cg_lower_def.specs.Places as places;
+ghost use Rattle.cg_cgen_def.specs.Places as places;
 ghost use Rattle.cg_lower_nodes.specs.Grown.{Adds, Bares, Casts, Operates, Owns, Puts, Reads, Sets};
 ghost use Rattle.cg_lower_nodes.specs.Kept.{c_type_in};
-ghost use Rattle.cg_lower_nodes.specs.Views.{base_of, place_of};
+ghost use Rattle.cg_cgen_lines.specs.Views.{base_of};
+ghost use Rattle.cg_lower_nodes.specs.Views.{place_of};
 
 use crate::parts::{field_at, sigil};
-use crate::place::{Base, Place, Step, arrow_path, path};
+use crate::place::Place;
 use crate::state::{Lowering, append, assign};
 use cg_base::{Items, Memory, Name, Sigil, Ty, Word};
 use cg_cgen::op_stmts;
+use cg_cgen_lines::{Base, Step, arrow_path, path};
 use cg_core::Op;
 use cg_ctree::{COp, COpnd, CRhs, CStmt, CTy};
 use std::alloc::Global;

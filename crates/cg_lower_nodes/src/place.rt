@@ -1,31 +1,16 @@
 // Where the value of a term is kept.
 #![tactic(auto)]
 
-ghost use Rattle.std.specs.Prelude.{◌≡◌, IfOk, map};
+ghost use Rattle.std.specs.Prelude.{◌≡◌, IfOk};
 ghost use Rattle.cg_ctree.specs.declared.tree.COpnd.TheVariants.{Path};
-ghost use Rattle.cg_lower_def.specs.CTypes.{name as name_of};
-ghost use Rattle.cg_lower_def.specs.Places as places;
-ghost use Rattle.cg_lower_nodes.specs.Views.{base_of, is_bare as is_bare_place, is_number as is_number_place, is_own as is_own_place, place_of, step_of};
+ghost use Rattle.cg_cgen_def.specs.Places as places;
+ghost use Rattle.cg_cgen_lines.specs.Views.{base_of, step_of};
+ghost use Rattle.cg_lower_nodes.specs.Views.{is_bare as is_bare_place, is_number as is_number_place, is_own as is_own_place, place_of};
 
-use cg_base::{Items, Memory, Name};
-use cg_ctree::{COpnd, CPath};
-use itoa::Buffer;
+use cg_base::{Items, Memory};
+use cg_cgen_lines::{Base, Step, path};
+use cg_ctree::COpnd;
 use std::alloc::Global;
-
-/// A part of a value: a field of a record, the tag of a variant, or one of its payloads.
-#[derive(Clone, Copy)]
-pub enum Step {
-    Field(usize),
-    Tag,
-    Payload(usize),
-}
-
-/// A variable: the function's argument, or a local.
-#[derive(Clone, Copy)]
-pub enum Base {
-    Argument,
-    Local(usize),
-}
 
 /// A number, or the part of a variable that steps lead to (docs/LANGUAGE.md, "The C of instances", values).
 pub enum Place {
@@ -40,71 +25,6 @@ impl Drop for Place {
             Place::Held(_, steps) => drop(steps),
         }
     }
-}
-
-/// A letter and a number.
-pub fn numbered(alloc: Global, letter: u8, number: usize) -> Result<Name, Memory>
-    ensures { IfOk result (λ x. x ≡ name_of letter number) }
-{
-    let mut buffer = Buffer::new();
-    let mut bytes = Vec::new(alloc);
-    bytes.push(letter)?;
-    bytes.extend_from_slice(buffer.format(number).as_bytes())?;
-    Name::new(alloc, bytes.as_slice())
-}
-
-// The name of a member.
-fn member(alloc: Global, step: Step) -> Result<Name, Memory>
-    ensures { IfOk result (λ x. x ≡ places.step_name (step_of step)) }
-{
-    match step {
-        Step::Field(at) => numbered(alloc, b'm', at),
-        Step::Tag => Name::new(alloc, b"t"),
-        Step::Payload(at) => numbered(alloc, b'a', at),
-    }
-}
-
-// The name of a variable.
-fn variable(alloc: Global, base: Base) -> Result<Name, Memory>
-    ensures { IfOk result (λ x. x ≡ places.base_name (base_of base)) }
-{
-    match base {
-        Base::Argument => numbered(alloc, b'a', 0),
-        Base::Local(at) => numbered(alloc, b'x', at),
-    }
-}
-
-// The names of members.
-fn members(alloc: Global, steps: &[Step]) -> Result<Items<Name>, Memory>
-    ensures { IfOk result (λ xs. xs ≡ map places.step_name (map step_of steps.now)) }
-{
-    let mut names = Items::new(alloc);
-    for step in steps {
-        names.push(member(alloc, *step)?)?;
-    }
-    Ok(names)
-}
-
-/// The path to a part of a variable. The one error is want of memory, here and in what stands below.
-pub fn path(alloc: Global, base: Base, steps: &[Step]) -> Result<CPath, Memory>
-    ensures { IfOk result (λ p. p ≡ places.path (base_of base) (map step_of steps.now)) }
-{
-    Ok(CPath {
-        base: variable(alloc, base)?,
-        arrow: false,
-        members: members(alloc, steps)?,
-    })
-}
-
-/// The path to a part of the cell that a variable points to.
-pub(crate) fn arrow_path(alloc: Global, base: Base, steps: &[Step]) -> Result<CPath, Memory>
-    ensures { IfOk result (λ p. p ≡ places.arrow_path (base_of base) (map step_of steps.now)) }
-{
-    Ok(CPath {
-        base: variable(alloc, base)?,
-        arrow: true,
-        members: members(alloc, steps)?,
-    })
 }
 
 // Equal steps.

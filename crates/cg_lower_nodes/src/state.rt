@@ -5,13 +5,15 @@ ghost use Rattle.std.specs.Prelude.{◌≡◌, ◌++◌, [], ◌∷◌, IfOk, On
 ghost use Rattle.cg_base.specs.Types.{type_of};
 ghost use Rattle.cg_ctree.specs.declared.tree.CRhs.TheVariants.{Opnd};
 ghost use Rattle.cg_ctree.specs.Trees.{assign as assign_of, stmt_of};
-ghost use Rattle.cg_lower_def.specs.Places.{local, operand, path as path_of};
+ghost use Rattle.cg_cgen_def.specs.Places.{local, operand, path as path_of};
 ghost use Rattle.cg_lower_nodes.specs.Grown.{Adds, Begins, Binds, Ends, HasLocal, Sets, Unbinds};
 ghost use Rattle.cg_lower_nodes.specs.Kept.{c_type_in};
-ghost use Rattle.cg_lower_nodes.specs.Views.{place_of, step_of};
+ghost use Rattle.cg_cgen_lines.specs.Views.{step_of};
+ghost use Rattle.cg_lower_nodes.specs.Views.{place_of};
 
-use crate::place::{Base, Place, Step, path};
+use crate::place::Place;
 use cg_base::{Items, Memory, Ty};
+use cg_cgen_lines::{Base, Step, path};
 use cg_ctree::{COpnd, CPath, CRhs, CStmt, CTy};
 use cg_lower_tables::{Places, Structs};
 use std::alloc::Global;

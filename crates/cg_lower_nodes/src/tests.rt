@@ -2,10 +2,11 @@
 #![tactic(auto)]
 
 use crate::{
-    Lowering, Place, called, cast, choose, filled, injected, numbered, operated_both,
-    operated_once, put, read_at, tagged,
+    Lowering, Place, called, cast, choose, filled, injected, operated_both, operated_once, put,
+    read_at, tagged,
 };
 use cg_base::{Items, Memory, Name, Part, Sigil, Ty, Word};
+use cg_cgen_lines::numbered;
 use cg_core::Op;
 use cg_lower_tables::{Places, Structs};
 use std::alloc::Global;

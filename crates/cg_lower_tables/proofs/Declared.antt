@@ -9,7 +9,7 @@ use Rattle.cg_ctree.specs.declared.tree.CDecl.{CDecl}
 use Rattle.cg_ctree.specs.declared.tree.CStruct.{CStruct}
 use Rattle.cg_ctree.specs.declared.tree.CTy.{CTy}
 use Rattle.cg_ctree.specs.declared.tree.CTy.TheVariants as ty
-use Rattle.cg_lower_def.specs.CTypes.{declared, name, struct_name, tag_name}
+use Rattle.cg_cgen_def.specs.Names.{declared, name, struct_name, tag_name}
 use Rattle.cg_lower_def.specs.Structs.{numbered_in, struct_members, structs_from, structs_in}
 use Rattle.cg_inst_types.specs.Places.{type_at}
 use Rattle.cg_lower_tables.specs.declared.members.Member.{Member}

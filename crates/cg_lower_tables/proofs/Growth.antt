@@ -2,7 +2,8 @@
 use Rattle.std.proofs.Common.{◌≡◌, ℕ, zero, suc, ◌+◌, List, [], ◌∷◌, ◌++◌, length, slice_get, Some, refl, sym, ap, ◌∙◌, subst, arith}
 use Rattle.cg_base.specs.Types.{Tau, variant, fields, Parts, end, part, Piece, to_parts}
 use Rattle.cg_ctree.specs.declared.tree.CTy.TheVariants as ty
-use Rattle.cg_lower_def.specs.CTypes.{declared, form, members_from, name, struct_name}
+use Rattle.cg_cgen_def.specs.Names.{declared, name, struct_name}
+use Rattle.cg_lower_def.specs.CTypes.{form, members_from}
 use Rattle.cg_lower_def.specs.Structs.{HasBelow}
 use Rattle.cg_inst.proofs.Standing.{stays_at}
 use Rattle.cg_inst_types.specs.Places.{Keeps, type_at}

@@ -6,7 +6,8 @@ use Rattle.cg_base.specs.declared.kind.Sigil.TheVariants.{R, W, U}
 use Rattle.cg_base.specs.declared.kind.Word.TheVariants.{U8, U16, U32, U64}
 use Rattle.cg_base.specs.Types.{Tau, word, abs, variant, fields, none, Parts, end, part}
 use Rattle.cg_ctree.specs.declared.tree.CTy.TheVariants as ty
-use Rattle.cg_lower_def.specs.CTypes.{c_type, form, form_parts, struct_name}
+use Rattle.cg_cgen_def.specs.Names.{struct_name}
+use Rattle.cg_lower_def.specs.CTypes.{c_type, form, form_parts}
 use Rattle.cg_lower_tables.specs.declared.host.Host.{Host}
 use Rattle.cg_lower_tables.specs.declared.host.Host.TheVariants as host
 use Rattle.cg_lower_tables.specs.Plain.{host_of, host_plain, host_struct, plain, plain_parts}

@@ -12,7 +12,8 @@ use Rattle.cg_base.proofs.Views.{piece_of}
 use Rattle.cg_ctree.specs.declared.tree.CTy.TheVariants as ty
 use Rattle.cg_kinds.specs.Kinds.{subst as subst_of}
 use Rattle.cg_inst.proofs.Standing.{stays_at}
-use Rattle.cg_lower_def.specs.CTypes.{c_type, count, form, form_parts, struct_name}
+use Rattle.cg_cgen_def.specs.Names.{struct_name}
+use Rattle.cg_lower_def.specs.CTypes.{c_type, count, form, form_parts}
 use Rattle.cg_lower_def.specs.Structs.{AreCovered, HasBelow, IsCovered, is_in, numbered_in, StandBelow}
 use Rattle.cg_inst_types.specs.Places.{Keeps, type_at}
 use Rattle.cg_lower_tables.specs.declared.host.Host.{Host}

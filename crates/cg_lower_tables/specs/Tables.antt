@@ -6,7 +6,8 @@ use Rattle.cg_ctree.specs.declared.tree.CDecl.{CDecl}
 use Rattle.cg_ctree.specs.declared.tree.CStruct.{CStruct}
 use Rattle.cg_ctree.specs.declared.tree.CTy.{CTy}
 use Rattle.cg_ctree.specs.declared.tree.CTy.TheVariants as ty
-use Rattle.cg_lower_def.specs.CTypes.{c_type, declared, form, name, struct_name}
+use Rattle.cg_cgen_def.specs.Names.{declared, name, struct_name}
+use Rattle.cg_lower_def.specs.CTypes.{c_type, form}
 use Rattle.cg_lower_def.specs.Structs.{HasBelow, struct_members}
 use Rattle.cg_inst_types.specs.Places.{type_at}
 use Rattle.cg_lower_tables.specs.declared.members.Kind.{Kind}

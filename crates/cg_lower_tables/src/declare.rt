@@ -6,15 +6,16 @@ ghost use Rattle.cg_base.specs.declared.kind.Word.TheVariants.{U32};
 ghost use Rattle.cg_base.specs.Types.{type_of, Parts, Tau};
 ghost use Rattle.cg_ctree.specs.declared.tree.CTy.TheVariants as ty;
 ghost use Rattle.cg_inst_types.specs.Places.{Keeps};
-ghost use Rattle.cg_lower_def.specs.CTypes.{c_type as c_type_of, declared, tag_name};
+ghost use Rattle.cg_cgen_def.specs.Names.{declared, tag_name};
+ghost use Rattle.cg_lower_def.specs.CTypes.{c_type as c_type_of};
 ghost use Rattle.cg_lower_def.specs.Structs.{IsCovered, numbered_in, struct_members, structs_in};
 ghost use Rattle.cg_lower_tables.specs.Added.{added};
 ghost use Rattle.cg_lower_tables.specs.Tables.{AreMembers, declared_from, IsFor, IsPlainAt, PointsTo, shown as shown_as};
 
 use crate::host::struct_of;
-use crate::name::numbered_name;
 use crate::{Member, Row, Shape, Structs};
 use cg_base::{Items, Memory, Name, Ty, Word};
+use cg_cgen_lines::numbered;
 use cg_ctree::{CDecl, CStruct, CTy};
 use std::alloc::Global;
 
@@ -61,10 +62,8 @@ impl Structs {
         match member.shape {
             Shape::Word(word) => Ok(CTy::Word(word)),
             Shape::Abstract(host) => Ok(CTy::Pointer(struct_of(alloc, host)?)),
-            Shape::Struct => {
-                Ok(CTy::Struct(numbered_name(alloc, b's', self.number(member.at))?))
-            }
-            Shape::Pointer(to) => Ok(CTy::Pointer(numbered_name(alloc, b's', self.number(to))?)),
+            Shape::Struct => { Ok(CTy::Struct(numbered(alloc, b's', self.number(member.at))?)) }
+            Shape::Pointer(to) => Ok(CTy::Pointer(numbered(alloc, b's', self.number(to))?)),
         }
     }
 
@@ -81,7 +80,7 @@ impl Structs {
     {
         for i in 0..members.len() {
             let ty = self.shown(alloc, members[i])?;
-            let name = numbered_name(alloc, letter, i)?;
+            let name = numbered(alloc, letter, i)?;
             decls.push(CDecl { ty, name })?;
         }
         Ok(())

@@ -12,7 +12,6 @@ mod host;
 mod keys;
 mod layer;
 mod members;
-mod name;
 mod places;
 #[cfg(test)]
 mod places_tests;

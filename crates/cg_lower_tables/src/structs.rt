@@ -9,8 +9,8 @@ ghost use Rattle.cg_lower_tables.specs.Added.{with_struct};
 ghost use Rattle.cg_lower_tables.specs.Tables.{IsFor, IsPlainAt, struct_at};
 
 use crate::Row;
-use crate::name::numbered_name;
 use cg_base::{Memory, Ty};
+use cg_cgen_lines::numbered;
 use cg_ctree::CStruct;
 use cg_inst_types::TypeTable;
 use indexmap::IndexMap;
@@ -149,7 +149,7 @@ impl Structs {
         match self.rows.get_index(number) {
             Some((_, row)) => Ok(CStruct {
                 members: self.members(alloc, row)?,
-                name: numbered_name(alloc, b's', number)?,
+                name: numbered(alloc, b's', number)?,
             }),
             None => Err(Memory),
         }

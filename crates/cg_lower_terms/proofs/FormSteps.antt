@@ -6,7 +6,7 @@ use Rattle.std.proofs.Math.Seq.{take-append_seam}
 use Rattle.cg_base.specs.declared.kind.Word.{Word}
 use Rattle.cg_base.specs.declared.kind.Word.TheVariants.{U8}
 use Rattle.cg_base.specs.Types.{Tau}
-use Rattle.cg_cgen.specs.Meanings.{takes_two}
+use Rattle.cg_cgen_def.specs.Code.{takes_two}
 use Rattle.cg_core.specs.declared.at.At.{At}
 use Rattle.cg_core.specs.declared.op.Op.{Op}
 use Rattle.cg_core.specs.declared.term.FieldTerm.{FieldTerm}
@@ -19,8 +19,9 @@ use Rattle.cg_ctree.specs.declared.tree.CStmt.{CStmt}
 use Rattle.cg_ctree.specs.declared.tree.CTy.{CTy}
 use Rattle.cg_ctree.specs.declared.tree.CTy.TheVariants as ty
 use Rattle.cg_ctree.specs.Trees.{Stmt, block_of, branch, stmt_of, to_block}
-use Rattle.cg_lower_def.specs.Lowered.{Low, Lows, Whole, arm, as_low, calling, callee, call_operands, chosen, copy, is_tagged, joined, low, low_fields, low_member, low_operator, low_put, low_shape, operating, remainder, set, word_of, before}
-use Rattle.cg_lower_def.specs.Places as places
+use Rattle.cg_cgen_def.specs.Bodies.{Low}
+use Rattle.cg_lower_def.specs.Lowered.{Lows, Whole, arm, as_low, calling, callee, call_operands, chosen, copy, is_tagged, joined, low, low_fields, low_member, low_operator, low_put, low_shape, operating, remainder, set, word_of, before}
+use Rattle.cg_cgen_def.specs.Places as places
 use Rattle.cg_eval_operations.specs.Positions.{position}
 use Rattle.cg_typing.specs.Rules.{type_at}
 use Rattle.cg_update.specs.Turns.{field_type, place_in}

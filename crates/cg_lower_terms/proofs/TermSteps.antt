@@ -6,8 +6,9 @@ use Rattle.cg_core.specs.declared.term.Form.{the_lemmas}
 use Rattle.cg_core.specs.Terms.{Note, Tree}
 use Rattle.cg_ctree.specs.declared.tree.CTy.{CTy}
 use Rattle.cg_ctree.specs.Trees.{stmt_of}
-use Rattle.cg_lower_def.specs.Lowered.{Low, leaf, low}
-use Rattle.cg_lower_def.specs.Places as places
+use Rattle.cg_cgen_def.specs.Bodies.{Low, leaf}
+use Rattle.cg_lower_def.specs.Lowered.{low}
+use Rattle.cg_cgen_def.specs.Places as places
 use Rattle.cg_lower_nodes.specs.declared.place.Place.{Place}
 use Rattle.cg_lower_nodes.specs.declared.state.Lowering.{Lowering}
 use Rattle.cg_lower_nodes.specs.Grown.{After, Binds, Unbinds}

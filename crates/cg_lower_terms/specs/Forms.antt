@@ -5,8 +5,9 @@ use Rattle.cg_core.specs.declared.at.At.{At}
 use Rattle.cg_core.specs.Terms.{Named, Note, Shape, Tree}
 use Rattle.cg_ctree.specs.declared.tree.CStmt.{CStmt}
 use Rattle.cg_ctree.specs.Trees.{stmt_of}
-use Rattle.cg_lower_def.specs.Lowered.{Low, Lows, arm, call_operands, joined, low, low_case, low_fields, low_member, low_put, low_shape, remainder}
-use Rattle.cg_lower_def.specs.Places as places
+use Rattle.cg_cgen_def.specs.Bodies.{Low}
+use Rattle.cg_lower_def.specs.Lowered.{Lows, arm, call_operands, joined, low, low_case, low_fields, low_member, low_put, low_shape, remainder}
+use Rattle.cg_cgen_def.specs.Places as places
 use Rattle.cg_eval_operations.specs.Positions.{position}
 use Rattle.cg_typing.specs.Rules.{type_at}
 use Rattle.cg_update.specs.Turns.{field_type, place_in}

@@ -5,14 +5,15 @@ ghost use Rattle.std.specs.Prelude.{◌≡◌, [], ◌∷◌, IfOk, map};
 ghost use Rattle.cg_core.specs.Kernels.{the_core};
 ghost use Rattle.cg_core.specs.Terms.{arg_of};
 ghost use Rattle.cg_lower_def.specs.Lowered as lowered;
-ghost use Rattle.cg_lower_def.specs.Places as places;
+ghost use Rattle.cg_cgen_def.specs.Places as places;
 ghost use Rattle.cg_lower_nodes.specs.Kept.{whole_of};
 ghost use Rattle.cg_lower_nodes.specs.Views.{place_of};
 ghost use Rattle.cg_lower_terms.specs.Forms.{operands_in};
 
 use cg_base::{Fun, Items, Memory, Name};
+use cg_cgen_lines::numbered;
 use cg_core::{Form, Term, TyArg, Typed};
-use cg_lower_nodes::{Lowering, Place, numbered};
+use cg_lower_nodes::{Lowering, Place};
 use std::alloc::Global;
 
 /// The value of a function that is named: the place of its instance.

@@ -5,7 +5,7 @@ ghost use Rattle.std.specs.Prelude.{◌≡◌, ◌||◌, [], ◌∷◌, IfOk, Is
 ghost use Rattle.cg_base.specs.Types.{type_of};
 ghost use Rattle.cg_core.specs.Kernels.{the_core, the_core_field, the_core_form};
 ghost use Rattle.cg_core.specs.Terms.{app as app_of, con as con_of, if_else, member as member_of, more, none, op as op_of, struct as struct_of, cast as cast_of, to_named, to_trees};
-ghost use Rattle.cg_lower_def.specs.Places as places;
+ghost use Rattle.cg_cgen_def.specs.Places as places;
 ghost use Rattle.cg_lower_nodes.specs.Grown.{After};
 ghost use Rattle.cg_lower_terms.specs.Forms.{AfterFields, Arms, ArmsBoth, Lowers, LowersNode, low_choice, low_esac, low_in, low_let, low_put_in, low_record, low_take, low_within};
 ghost use Rattle.cg_core.specs.Groups.{is_data, is_leaf};
@@ -13,12 +13,13 @@ ghost use Rattle.cg_lower_nodes.specs.Views.{place_of};
 
 use crate::calls::{callee, named, operands};
 use cg_base::{Items, Memory, Name, Ty};
+use cg_cgen_lines::{Base, Step};
 use cg_core::{At, FieldTerm, Form, Op, Term, Typed};
 use cg_ctree::CStmt;
 use cg_eval_operations::{position, truth};
 use cg_lower_nodes::{
-    Base, Lowering, Place, Step, alternative_place, called, cast, choose, filled, injected,
-    operated_both, operated_once, put, read, read_at, tagged, word_of,
+    Lowering, Place, alternative_place, called, cast, choose, filled, injected, operated_both,
+    operated_once, put, read, read_at, tagged, word_of,
 };
 use std::alloc::Global;
 

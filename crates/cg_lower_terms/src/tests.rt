@@ -3,8 +3,9 @@
 
 use crate::lower_term;
 use cg_base::{Items, Memory, Place as Spot, Ty, Word};
+use cg_cgen_lines::Base;
 use cg_core::{Form, Term, Typed};
-use cg_lower_nodes::{Base, Lowering, Place};
+use cg_lower_nodes::{Lowering, Place};
 use cg_lower_tables::{Places, Structs};
 use std::alloc::Global;
 use std::test::Fail;

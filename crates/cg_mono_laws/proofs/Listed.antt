@@ -1,5 +1,5 @@
 -- Instances of a list: where one stands, and that it is found there.
-use Rattle.std.proofs.Common.{◌≡◌, ℕ, zero, suc, Bool, true, false, ◌||◌, Some, List, [], ◌∷◌, refl, sym, ap, ◌∙◌}
+use Rattle.std.proofs.Common.{◌≡◌, ℕ, zero, suc, true, ◌||◌, Some, List, [], ◌∷◌, sym, ap, ◌∙◌}
 use Rattle.std.specs.List.{list_any}
 use Rattle.std.specs.Prelude.{slice_get, if◌then◌else◌}
 use Rattle.cg_inst.specs.Lists.{same_instance}
@@ -8,6 +8,7 @@ use Rattle.cg_typing.specs.Instances.{Instance, IsIn}
 use Rattle.cg_inst.proofs.Names.{by_cases}
 use Rattle.cg_inst.proofs.SameInstance.{instance_is, instance_same}
 use Rattle.cg_base.proofs.Counts.{no_steps as never}
+use Rattle.cg_base.proofs.Truths.{second_holds}
 
 -- ---- where an instance stands
 
@@ -23,11 +24,7 @@ found_at_place (y ∷ ys) x h =
 pub is_found : (list : List Instance) (i : ℕ) (x : Instance) → slice_get list i ≡ Some x → list_any (same_instance x) list ≡ true
 is_found [] i x e = absurd (cc)
 is_found (y ∷ ys) zero x e = let q : y ≡ x = cc in ap (λ b. b || list_any (same_instance x) ys) (ap (same_instance x) q ∙ instance_same x)
-is_found (y ∷ ys) (suc i) x e = or_right (same_instance x y) _ (is_found ys i x e)
-  where
-    or_right : (a b : Bool) → b ≡ true → (a || b) ≡ true
-    or_right true b h = refl
-    or_right false b h = h
+is_found (y ∷ ys) (suc i) x e = second_holds (same_instance x y) _ (is_found ys i x e)
 
 -- and so is what is in the list
 pub is_in_found : (list : List Instance) (x : Instance) → IsIn list x → list_any (same_instance x) list ≡ true

@@ -1,5 +1,5 @@
 -- What evaluation asks of noted types is the same with type arguments in the place of type variables.
-use Rattle.std.proofs.Common.{◌≡◌, ℕ, zero, suc, Bool, true, false, ◌||◌, IsTrue, List, [], ◌∷◌, map, refl, ap, ◌∙◌}
+use Rattle.std.proofs.Common.{◌≡◌, ℕ, zero, suc, Bool, ◌||◌, IsTrue, List, [], ◌∷◌, map, refl, ap, ◌∙◌}
 use Rattle.std.specs.Prelude.{if◌then◌else◌}
 use Rattle.std.specs.Str.{bytes_eq}
 use Rattle.cg_base.specs.Types.{Tau, word, bool, fields, Parts, end, part}
@@ -14,15 +14,8 @@ use Rattle.cg_typing.specs.Rules.{type_at}
 use Rattle.cg_typing.specs.Subst.{subst_arg, subst_core}
 use Rattle.std.specs.List.{list_all}
 use Rattle.cg_inst_laws.proofs.Closed.{given_stay}
+use Rattle.cg_base.proofs.Truths.{first_holds, second_holds}
 use Rattle.cg_base.proofs.Counts.{no_steps as never}
-
-or_left : (a b : Bool) → IsTrue a → IsTrue (a || b)
-or_left true b h = refl
-or_left false b h = never h
-
-or_right : (a b : Bool) → IsTrue b → IsTrue (a || b)
-or_right true b h = refl
-or_right false b h = h
 
 -- a word or a truth value
 abbrev is_scalar : Tau → Bool
@@ -30,10 +23,10 @@ is_scalar t = is_word t || is_bool t
 
 -- what an operator takes is one
 operand_scalar : (s : Sort) (t : Tau) → IsTrue (takes s t) → IsTrue (is_scalar t)
-operand_scalar arithmetic t h = or_left (is_word t) (is_bool t) h
+operand_scalar arithmetic t h = first_holds (is_word t) (is_bool t) h
 operand_scalar equality t h = h
-operand_scalar order t h = or_left (is_word t) (is_bool t) h
-operand_scalar logic t h = or_right (is_word t) (is_bool t) h
+operand_scalar order t h = first_holds (is_word t) (is_bool t) h
+operand_scalar logic t h = second_holds (is_word t) (is_bool t) h
 
 module _ (given : List Tau) where
   -- the type that a copy notes

@@ -38,12 +38,17 @@ world_among p among = world_over p.foreign p.on_heaps (instances_among p among)
 
 -- ---- the law
 
--- At some places of a list of instances, in which none stands twice, there are bodies without cells, which mention only instances at these
--- places, and iterators over numbers.
+-- At some places of a list of instances there are bodies without cells, which mention only instances at these places, and iterators over
+-- numbers.
+abbrev pub AreWithoutCells : Program → (ℕ → Bool) → Type 0
+AreWithoutCells p among =
+    (k : ℕ) (x : Instance) (e : Entry) → among k ≡ true → slice_get p.list k ≡ Some x → slice_get p.entries k ≡ Some e → IsTrue (is_unboxed_entry p.list among x e)
+
+-- They are, in a list of instances in which none stands twice.
 pub record AreUnboxed (p : Program) (among : ℕ → Bool) : Type 0 where
   pub instances : AreInstances p.functions p.list p.entries
   pub apart : (i j : ℕ) (x : Instance) → slice_get p.list i ≡ Some x → slice_get p.list j ≡ Some x → i ≡ j
-  pub unboxed : (k : ℕ) (x : Instance) (e : Entry) → among k ≡ true → slice_get p.list k ≡ Some x → slice_get p.entries k ≡ Some e → IsTrue (is_unboxed_entry p.list among x e)
+  pub unboxed : AreWithoutCells p among
 
 -- An instance is updated to what it is evaluated to: at the same cost, with the heap as it was, and nothing made or freed.
 pub record IsUpdated (p : Program) (among : ℕ → Bool) (n k : ℕ) (us : List Scalar) (m : Stored) (t : Tau) (v : Val) (cost : ℕ) : Type 0 where

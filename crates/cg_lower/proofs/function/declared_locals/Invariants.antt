@@ -1,5 +1,5 @@
 use Rattle.std.proofs.Common.{◌≡◌, drop, take}
-use Rattle.cg_lower_def.specs.Functions.{locals_from}
+use Rattle.cg_cgen_def.specs.Bodies.{locals_from}
 use Rattle.cg_lower.proofs.function.declared_locals.Given as goal
 
 abbrev pub invariant-loop-ty : goal.invariant-loop-ty

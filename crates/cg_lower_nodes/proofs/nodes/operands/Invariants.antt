@@ -1,5 +1,5 @@
 use Rattle.std.proofs.Common.{◌≡◌, map, take}
-use Rattle.cg_lower_def.specs.Places.{operand}
+use Rattle.cg_cgen_def.specs.Places.{operand}
 use Rattle.cg_lower_nodes.specs.Views.{place_of}
 use Rattle.cg_lower_nodes.proofs.nodes.operands.Given as goal
 

@@ -1,6 +1,6 @@
 use Rattle.std.proofs.Common.{[], ◌∷◌, ap, ◌∙◌}
 use Rattle.cg_base.specs.Types.{type_of}
-use Rattle.cg_lower_def.specs.Places as places
+use Rattle.cg_cgen_def.specs.Places as places
 use Rattle.cg_lower_nodes.specs.Kept.{c_type_in}
 use Rattle.cg_lower_nodes.specs.Views.{place_of}
 use Rattle.cg_lower_nodes.proofs.NodeSteps.{puts_row}

@@ -4,12 +4,13 @@ use Rattle.cg_base.specs.Types.{type_of}
 use Rattle.cg_core.specs.Kernels.{the_core}
 use Rattle.cg_core.specs.Terms.{op, to_trees}
 use Rattle.cg_lower_def.specs.Lowered.{word_of}
-use Rattle.cg_lower_def.specs.Places as places
+use Rattle.cg_cgen_def.specs.Places as places
 use Rattle.cg_update.specs.Turns.{place_in}
-use Rattle.cg_lower_nodes.specs.declared.place.Base.TheVariants as base
+use Rattle.cg_cgen_lines.specs.declared.paths.Base.TheVariants as base
 use Rattle.cg_lower_nodes.specs.declared.place.Place.TheVariants as place
 use Rattle.cg_lower_terms.specs.Forms.{LowersNode}
-use Rattle.cg_lower_nodes.specs.Views.{place_of, step_of}
+use Rattle.cg_cgen_lines.specs.Views.{step_of}
+use Rattle.cg_lower_nodes.specs.Views.{place_of}
 use Rattle.cg_core.proofs.Forms.{one_term, two_terms}
 use Rattle.cg_lower_terms.proofs.FormSteps.{after_app, after_case, after_if, after_many, after_one, after_put, after_take, after_two, arm_made, arm_within, arms_both, fields_more, fields_none}
 use Rattle.cg_core.proofs.FormGroups.{is_rest, no_data}

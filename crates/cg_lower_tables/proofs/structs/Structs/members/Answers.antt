@@ -2,7 +2,7 @@ use Rattle.std.proofs.Common.{◌≡◌, ◌∷◌, zero, ◌∙◌, ap}
 use Rattle.cg_base.specs.declared.kind.Word.TheVariants.{U32}
 use Rattle.cg_base.specs.Types.{Tau}
 use Rattle.cg_ctree.specs.declared.tree.CTy.TheVariants as ty
-use Rattle.cg_lower_def.specs.CTypes.{declared, tag_name}
+use Rattle.cg_cgen_def.specs.Names.{declared, tag_name}
 use Rattle.cg_lower_def.specs.Structs.{numbered_in, struct_members}
 use Rattle.cg_lower_tables.specs.Tables.{declared_from, IsFor}
 use Rattle.cg_lower_tables.proofs.Declared.{members_of, of_record, of_variant}

@@ -1,0 +1,12 @@
+use Rattle.std.proofs.Common.{◌≡◌, [], ◌∷◌, map, subst}
+use Rattle.std.specs.Prelude.{IfOk}
+use Rattle.cg_cgen_def.specs.Bodies.{setting}
+use Rattle.cg_cgen_def.specs.Loops.{turning}
+use Rattle.cg_cgen_def.specs.Places.{field, whole_local}
+use Rattle.cg_ctree.specs.Trees.{stmt_of}
+use Rattle.cg_cgen.proofs.loops.loop_turn.Goals as goal
+
+pub returns : goal.returns
+returns c =
+    subst (λ z. IfOk c.written.result (λ ss. map stmt_of ss ≡ setting 4 (field 2 ∷ []) (whole_local 0) ∷ turning c.args.callee.now 4 (field 0 ∷ []) 4 ∷ z))
+    (c.goes_on.ensures c.args.callee.now) c.written.ensures

@@ -1,2 +1,0 @@
-mod Typed
-pub mod Written

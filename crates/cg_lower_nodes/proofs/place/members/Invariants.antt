@@ -1,7 +1,0 @@
-use Rattle.std.proofs.Common.{◌≡◌, map, take}
-use Rattle.cg_lower_def.specs.Places.{step_name}
-use Rattle.cg_lower_nodes.specs.Views.{step_of}
-use Rattle.cg_lower_nodes.proofs.place.members.Given as goal
-
-abbrev pub invariant-loop-step : goal.invariant-loop-step
-invariant-loop-step l = l.names ≡ map step_name (map step_of (take l.step-index l.steps))
