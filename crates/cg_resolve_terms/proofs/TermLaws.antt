@@ -19,7 +19,7 @@ use Rattle.cg_resolve_sites.specs.Answers.{Says}
 use Rattle.cg_resolve_sites.specs.Frames.{around_all}
 use Rattle.cg_resolve_sites.specs.Sites.{entry_of, scope_of, scope_in, inside, level, Fits, Moved, IsTooDeep, Refuses, Binds}
 use Rattle.cg_resolve_sites.specs.Stands.{under, HasRoom}
-use Rattle.cg_resolve_sites.proofs.FrameLaws.{depth_inside, inside_deep, no_frames}
+use Rattle.cg_resolve_sites.proofs.FrameLaws.{inside_deep, no_frames}
 use Rattle.cg_resolve_sites.proofs.ScopeSteps.{scope_push, scope_long}
 use Rattle.cg_resolve_sites.proofs.SiteLaws.{weaker, no_room, err_binds, binds_then, first_deep}
 use Rattle.cg_resolve_sites.proofs.StandLaws.{bound_under, bound_alike}

@@ -1,16 +1,16 @@
 // Kernel terms of expressions (docs/LANGUAGE.md, "Desugaring").
 #![tactic(auto, using(std::proofs::lemmas::Grind::common_steps, crate::proofs::TermSteps::term_steps, crate::proofs::TermSteps::err_says))]
 
-ghost use Rattle.std.specs.Prelude.{◌≡◌, ◌+◌, ◌*◌, ◌<◌, ◌≤◌, [], map, Option, Some, None, MatchOption, length, ⊤, IfOk, OnOk};
+ghost use Rattle.std.specs.Prelude.{◌≡◌, ◌+◌, ◌*◌, ◌<◌, ◌≤◌, map, Option, Some, None, MatchOption, length, ⊤, IfOk};
 ghost use Rattle.cg_core.specs.Kernels.{the_term};
 ghost use Rattle.cg_core.specs.Terms.{term, unit, op as op_shape, more, none as no_terms, app, if_else as if_shape, con, member as member_shape, cast, annot, struct, to_named};
 ghost use Rattle.cg_resolve_def.specs.Desugar.{depth_of, term_limit};
-ghost use Rattle.cg_resolve_def.specs.Terms.{its_name, first_place, bind, last_bound, observed, mention, variable};
+ghost use Rattle.cg_resolve_def.specs.Terms.{its_name, first_place, bind, observed, variable};
 ghost use Rattle.cg_surface.specs.Exprs.{expr_of, bind_of, alt_of, field_of, to_fields, to_binds, to_alts, lets, if_else, match_of};
 ghost use Rattle.cg_surface.specs.Patterns.{pattern_of};
 ghost use Rattle.cg_surface.specs.Written.{written_of, to_types};
 ghost use Rattle.cg_resolve_sites.specs.Answers.{Says};
-ghost use Rattle.cg_resolve_sites.specs.Sites.{entry_of, scope_of, scope_in, inside, level, Fits, Moved, Binds, scope_limit};
+ghost use Rattle.cg_resolve_sites.specs.Sites.{entry_of, scope_of, scope_in, inside, level, Fits, Binds, scope_limit};
 ghost use Rattle.cg_resolve_sites.specs.Stands.{under, under_last, under_choices, HasRoom};
 ghost use Rattle.cg_resolve_binders.specs.Parts.{seen_made};
 ghost use Rattle.cg_resolve_nodes.specs.Names.{AreNames, written_in};
