@@ -19,8 +19,8 @@ use Rattle.cg_resolve_takes.specs.declared.fault.TakeFault.TheVariants as take_f
 use Rattle.cg_resolve_written.specs.Answers.{SynonymsSay}
 use Rattle.cg_resolve_written.specs.declared.oversize.Oversize.{Oversize}
 use Rattle.cg_resolve_written.specs.declared.oversize.Oversize.TheVariants as sizes
-use Rattle.cg_resolve_terms.specs.declared.fault.TermFault.{TermFault}
-use Rattle.cg_resolve_terms.specs.declared.fault.TermFault.TheVariants as terms
+use Rattle.cg_resolve_sites.specs.declared.fault.TermFault.{TermFault}
+use Rattle.cg_resolve_sites.specs.declared.fault.TermFault.TheVariants as terms
 use Rattle.cg_resolve.specs.Answers.{Answers, OrderSays, CountsSay, KernelSays}
 use Rattle.cg_resolve.specs.Faults.{of_naming, of_take, of_oversize, of_term}
 use Rattle.cg_resolve.specs.declared.fault.Fault.{Fault}

@@ -22,8 +22,8 @@ use Rattle.cg_resolve_def.specs.Desugar.{function_of as signed}
 use Rattle.cg_resolve_def.specs.Expand.{Bodies, bodies, expanded}
 use Rattle.cg_resolve_def.specs.Faults.{var_names}
 use Rattle.cg_resolve_takes.proofs.HeadSteps.{place_at}
-use Rattle.cg_resolve_terms.specs.declared.fault.TermFault.{TermFault}
-use Rattle.cg_resolve_terms.specs.declared.fault.TermFault.TheVariants.{TooDeep, Memory}
+use Rattle.cg_resolve_sites.specs.declared.fault.TermFault.{TermFault}
+use Rattle.cg_resolve_sites.specs.declared.fault.TermFault.TheVariants.{TooDeep, Memory}
 use Rattle.cg_resolve.specs.Answers.{IsTooDeep, MaybeBodySays, FunctionSays, KernelSays}
 
 deepest-append : (fs gs : List Function) → deepest_body (fs ++ gs) ≡ max (deepest_body fs) (deepest_body gs)

@@ -18,8 +18,8 @@ use Rattle.cg_resolve_names.specs.Says.{IsFirst}
 use Rattle.cg_resolve_takes.specs.Says as takes
 use Rattle.cg_resolve.specs.declared.fault.Fault.{Fault}
 use Rattle.cg_resolve.specs.declared.fault.Fault.TheVariants.{N1, N2, N3, N4, N5, Limit, Memory}
-use Rattle.cg_resolve_terms.specs.declared.fault.TermFault.{TermFault}
-use Rattle.cg_resolve_terms.specs.declared.fault.TermFault.TheVariants as terms
+use Rattle.cg_resolve_sites.specs.declared.fault.TermFault.{TermFault}
+use Rattle.cg_resolve_sites.specs.declared.fault.TermFault.TheVariants as terms
 
 -- the name of the item at this position stands at this place
 abbrev pub IsPlaceAt : List Entry → ℕ → Place → Type 0

@@ -6,8 +6,8 @@ use Rattle.cg_resolve.specs.declared.fault.Fault.{Fault}
 use Rattle.cg_resolve.specs.declared.fault.Fault.TheVariants.{N1, N2, N4, N5, Limit, Memory}
 use Rattle.cg_resolve_takes.specs.declared.fault.TakeFault.{TakeFault}
 use Rattle.cg_resolve_takes.specs.declared.fault.TakeFault.TheVariants as takes
-use Rattle.cg_resolve_terms.specs.declared.fault.TermFault.{TermFault}
-use Rattle.cg_resolve_terms.specs.declared.fault.TermFault.TheVariants as terms
+use Rattle.cg_resolve_sites.specs.declared.fault.TermFault.{TermFault}
+use Rattle.cg_resolve_sites.specs.declared.fault.TermFault.TheVariants as terms
 use Rattle.cg_resolve_written.specs.declared.oversize.Oversize.{Oversize}
 use Rattle.cg_resolve_written.specs.declared.oversize.Oversize.TheVariants as sizes
 

@@ -9,15 +9,16 @@ ghost use Rattle.cg_resolve_declared.specs.Declarations.{entries_of, IsIndexed};
 ghost use Rattle.cg_resolve_declared.specs.Tables.{texts};
 ghost use Rattle.cg_resolve_def.specs.Declared.{definition_named};
 ghost use Rattle.cg_resolve_def.specs.Desugar.{functions_of, function_of_entry, body_of, function_of as signed};
-ghost use Rattle.cg_resolve_written.specs.Answers.{AreBodies};
+ghost use Rattle.cg_resolve_expand.specs.Known.{AreBodies};
 ghost use Rattle.cg_resolve.specs.Answers.{KernelSays, FunctionsSay, FunctionSays, MaybeBodySays};
 
 use crate::copies::{copy_bounds, names_of};
 use cg_base::{Bound, Items, Memory};
 use cg_core::{At, KBody, KFun, Kernel, TyArg};
 use cg_resolve_declared::Declarations;
-use cg_resolve_terms::{TermFault, body};
-use cg_resolve_written::{Synonyms, written_type};
+use cg_resolve_expand::{Synonyms, written_type};
+use cg_resolve_sites::TermFault;
+use cg_resolve_terms::body;
 use cg_surface::{Item, STy};
 use std::alloc::Global;
 

@@ -5,9 +5,9 @@ use Rattle.cg_base.specs.declared.place.Place.{Place}
 use Rattle.cg_core.specs.declared.kernel.KBody.{KBody}
 use Rattle.cg_resolve_def.specs.Desugar.{depth_of, term_limit}
 use Rattle.cg_resolve_def.specs.Terms.{Term}
-use Rattle.cg_resolve_terms.specs.declared.fault.TermFault.{TermFault}
+use Rattle.cg_resolve_sites.specs.declared.fault.TermFault.{TermFault}
+use Rattle.cg_resolve_sites.specs.Sites.{Refuses}
 use Rattle.cg_resolve_terms.specs.Answers.{BodySays}
-use Rattle.cg_resolve_terms.specs.Sites.{Refuses}
 
 -- an answer handed on
 pub body_err : (t : Term) (param : Place) (fault : TermFault) (r : Result KBody TermFault) → IsErrAnd r (λ e. e ≡ fault) → Refuses fault (term_limit < depth_of t) → BodySays t param r

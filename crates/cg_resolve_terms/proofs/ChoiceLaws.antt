@@ -10,17 +10,17 @@ use Rattle.cg_surface.specs.Exprs.{OneAlt, alt_of, expr_of}
 use Rattle.cg_surface.specs.Patterns.{pattern_of}
 use Rattle.cg_resolve_def.specs.Desugar.{depth_of, term_limit}
 use Rattle.cg_resolve_def.specs.Terms.{Term}
-use Rattle.cg_resolve_terms.specs.declared.fault.TermFault.{TermFault}
-use Rattle.cg_resolve_terms.specs.declared.frames.Site.{Site}
-use Rattle.cg_resolve_terms.specs.declared.names.Names.{Names}
-use Rattle.cg_resolve_terms.specs.Answers.{Says}
-use Rattle.cg_resolve_terms.specs.Names.{payload_in, case_in, last_in, choices_in}
-use Rattle.cg_resolve_terms.specs.Parts.{case_made}
-use Rattle.cg_resolve_terms.specs.Sites.{scope_of, scope_in, inside, level, Fits, Moved, IsTooDeep, Refuses, Binds}
-use Rattle.cg_resolve_terms.specs.Stands.{under, under_last, under_choices, HasRoom}
-use Rattle.cg_resolve_terms.proofs.BinderSteps.{variable_room, drop_next}
-use Rattle.cg_resolve_terms.proofs.ScopeSteps.{scope_long}
-use Rattle.cg_resolve_terms.proofs.SiteLaws.{weaker, no_room, err_binds}
+use Rattle.cg_resolve_sites.specs.declared.fault.TermFault.{TermFault}
+use Rattle.cg_resolve_sites.specs.declared.frames.Site.{Site}
+use Rattle.cg_resolve_sites.specs.Answers.{Says}
+use Rattle.cg_resolve_sites.specs.Sites.{scope_of, scope_in, inside, level, Fits, Moved, IsTooDeep, Refuses, Binds}
+use Rattle.cg_resolve_sites.specs.Stands.{under, under_last, under_choices, HasRoom}
+use Rattle.cg_resolve_sites.proofs.ScopeSteps.{scope_long}
+use Rattle.cg_resolve_sites.proofs.SiteLaws.{weaker, no_room, err_binds}
+use Rattle.cg_resolve_binders.specs.Parts.{case_made}
+use Rattle.cg_resolve_binders.proofs.BinderSteps.{variable_room, drop_next}
+use Rattle.cg_resolve_nodes.specs.declared.names.Names.{Names}
+use Rattle.cg_resolve_terms.specs.Terms.{payload_in, case_in, last_in, choices_in}
 use Rattle.cg_resolve_terms.proofs.TermSteps.{err_says}
 use Rattle.cg_surface.proofs.Views.{alternative_is as alt_is}
 use denote.Ref.{Bor}

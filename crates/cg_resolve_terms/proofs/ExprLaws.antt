@@ -4,14 +4,13 @@ use Rattle.cg_base.specs.declared.place.Place.{Place}
 use Rattle.cg_core.specs.Terms.{term, put, esac, to_named, end}
 use Rattle.cg_surface.specs.Patterns.{Pattern}
 use Rattle.cg_surface.specs.Exprs.{Expr, Exprs, FieldExprs, Binds, Alts, OneField, OneBind, OneAlt, to_exprs, to_fields, to_binds, to_alts, exprs_behind, fields_behind, binds_behind, alts_behind, no_exprs, and_expr, no_fields, and_field, no_binds, and_bind, no_alts, and_alt, fields_push}
-use Rattle.cg_surface.specs.Written.{Written, Writtens, types_behind, to_types, no_types, and_type}
 use Rattle.cg_surface.specs.Programs.{Entry}
 use Rattle.cg_resolve_def.specs.Desugar.{depth_of}
 use Rattle.cg_resolve_def.specs.Expand.{Bodies}
-use Rattle.cg_resolve_def.specs.Terms.{Scope, Term, Rest, bindings, alternatives, cases, components_of, fields_of, list_length, written, all_written, puts, term_of, inner_place}
+use Rattle.cg_resolve_def.specs.Terms.{Scope, Term, Rest, bindings, alternatives, cases, components_of, fields_of, list_length, puts, term_of, inner_place}
+use Rattle.cg_resolve_sites.specs.Stands.{under, under_last, under_choices}
+use Rattle.cg_resolve_sites.proofs.StandLaws.{bound_under, bound_alike}
 use Rattle.cg_resolve_terms.specs.Parts.{binds_from, cases_from, choices_from, one_last, components_from, field_from}
-use Rattle.cg_resolve_terms.specs.Stands.{under, under_last, under_choices}
-use Rattle.cg_resolve_terms.proofs.StandLaws.{bound_under, bound_alike}
 
 fields_join : (before : FieldExprs) (xs ys : List OneField) → fields_behind before (xs ++ ys) ≡ fields_behind (fields_behind before xs) ys
 fields_join before [] ys = refl
@@ -57,14 +56,6 @@ module _ (entries : List Entry) (known : Bodies) (vars : List (List ℕ)) where
   pub fields_are : (scope : Scope) (fs : List OneField) → fields_of entries known vars scope (to_fields fs) end ≡ to_named (map (field_from entries known vars scope) fs)
   unfolding to_fields
   fields_are scope fs = values_more scope no_fields fs
-
-  types_more : (before : Writtens) (ts : List Written) → all_written entries known vars (types_behind before ts) [] ≡ all_written entries known vars before (map (written entries known vars) ts)
-  types_more before [] = refl
-  types_more before (t ∷ ts) = types_more (and_type before t) ts
-
-  pub types_are : (ts : List Written) → all_written entries known vars (to_types ts) [] ≡ map (written entries known vars) ts
-  unfolding to_types
-  types_are ts = types_more no_types ts
 
   -- ---- puts
 

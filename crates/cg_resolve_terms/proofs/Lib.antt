@@ -1,17 +1,7 @@
-pub mod BinderSteps
 pub mod BodySteps
 pub mod ChoiceLaws
-pub mod ChoiceSteps
 pub mod ExprLaws
-pub mod FrameLaws
 pub mod LookLaws
-pub mod NameSteps
-pub mod NodeSteps
-pub mod PartLaws
-pub mod PatternSteps
-pub mod ScopeSteps
-pub mod SiteLaws
-pub mod StandLaws
 pub mod TermForms
 pub mod TermLaws
 pub mod TermLists

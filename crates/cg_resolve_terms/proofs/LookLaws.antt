@@ -8,18 +8,18 @@ use Rattle.cg_core.specs.Kernels.{the_term}
 use Rattle.cg_core.specs.Terms.{term, var, if_else}
 use Rattle.cg_resolve_def.specs.Desugar.{depth_of, term_limit}
 use Rattle.cg_resolve_def.specs.Terms.{Scope, Term, observed}
-use Rattle.cg_resolve_terms.specs.declared.fault.TermFault.{TermFault}
-use Rattle.cg_resolve_terms.specs.declared.frames.Site.{Site}
-use Rattle.cg_resolve_terms.specs.Answers.{Says, StandingSays, Looked, LooksInto}
-use Rattle.cg_resolve_terms.specs.Frames.{around_all}
-use Rattle.cg_resolve_terms.specs.Parts.{seen_made}
-use Rattle.cg_resolve_terms.specs.Sites.{scope_in, inside, level, Fits, Moved, IsTooDeep, Refuses}
-use Rattle.cg_resolve_terms.specs.Stands.{HasRoom, Uses}
-use Rattle.cg_resolve_terms.proofs.BinderSteps.{variable_room}
-use Rattle.cg_resolve_terms.proofs.FrameLaws.{depth_pos, inside_deep, no_frames}
-use Rattle.cg_resolve_terms.proofs.ScopeSteps.{scope_long}
-use Rattle.cg_resolve_terms.proofs.SiteLaws.{weaker}
-use Rattle.cg_resolve_terms.proofs.TermLaws.{inside_says}
+use Rattle.cg_resolve_sites.specs.declared.fault.TermFault.{TermFault}
+use Rattle.cg_resolve_sites.specs.declared.frames.Site.{Site}
+use Rattle.cg_resolve_sites.specs.Answers.{Says}
+use Rattle.cg_resolve_sites.specs.Frames.{around_all}
+use Rattle.cg_resolve_sites.specs.Sites.{scope_in, inside, level, Fits, Moved, IsTooDeep, Refuses}
+use Rattle.cg_resolve_sites.specs.Stands.{HasRoom, Uses}
+use Rattle.cg_resolve_sites.proofs.FrameLaws.{depth_pos, inside_deep, no_frames}
+use Rattle.cg_resolve_sites.proofs.ScopeSteps.{scope_long}
+use Rattle.cg_resolve_sites.proofs.SiteLaws.{weaker, inside_says}
+use Rattle.cg_resolve_binders.specs.Parts.{seen_made}
+use Rattle.cg_resolve_binders.proofs.BinderSteps.{variable_room}
+use Rattle.cg_resolve_terms.specs.Answers.{StandingSays, Looked, LooksInto}
 
 -- no variables, or some
 observed_none : (p q : Place) (e : Term) (seen : List At) (scope : Scope) (go : Term → Scope → Term) → length seen ≡ 0 → observed p q e seen scope go ≡ go e scope

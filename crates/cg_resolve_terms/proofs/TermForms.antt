@@ -17,17 +17,19 @@ use Rattle.cg_surface.specs.Exprs.{Expr, expr_of, bind_of, alt_of, field_of, to_
 use Rattle.cg_resolve_def.specs.Desugar.{depth_of, term_limit}
 use Rattle.cg_resolve_def.specs.Expand.{bodies}
 use Rattle.cg_resolve_def.specs.Terms.{Scope, Term, first_place, observed}
-use Rattle.cg_resolve_terms.specs.declared.fault.TermFault.{TermFault}
-use Rattle.cg_resolve_terms.specs.declared.frames.Site.{Site}
-use Rattle.cg_resolve_terms.specs.declared.names.Names.{Names}
-use Rattle.cg_resolve_terms.specs.Answers.{Says, Looked}
-use Rattle.cg_resolve_terms.specs.Names.{entries_in, vars_in, term_in, binds_in, puts_in, choices_in}
-use Rattle.cg_resolve_terms.specs.Sites.{scope_of, scope_in, inside, level, Moved, IsTooDeep, Refuses}
-use Rattle.cg_resolve_terms.specs.Stands.{under_choices, Uses}
+use Rattle.cg_resolve_sites.specs.declared.fault.TermFault.{TermFault}
+use Rattle.cg_resolve_sites.specs.declared.frames.Site.{Site}
+use Rattle.cg_resolve_sites.specs.Answers.{Says}
+use Rattle.cg_resolve_sites.specs.Sites.{scope_of, scope_in, inside, level, Moved, IsTooDeep, Refuses}
+use Rattle.cg_resolve_sites.specs.Stands.{under_choices, Uses}
+use Rattle.cg_resolve_sites.proofs.FrameLaws.{inside_deep}
+use Rattle.cg_resolve_sites.proofs.SiteLaws.{weaker}
+use Rattle.cg_resolve_nodes.specs.declared.names.Names.{Names}
+use Rattle.cg_resolve_nodes.specs.Names.{entries_in, vars_in}
+use Rattle.cg_resolve_terms.specs.Answers.{Looked}
+use Rattle.cg_resolve_terms.specs.Terms.{term_in, binds_in, puts_in, choices_in}
 use Rattle.cg_resolve_terms.proofs.ExprLaws.{bindings_are, alternatives_are, puts_none, puts_deep, choices_under, choices_alike}
-use Rattle.cg_resolve_terms.proofs.FrameLaws.{inside_deep}
 use Rattle.cg_resolve_terms.proofs.LookLaws.{branched, branched_uses, looked_says, looked_over}
-use Rattle.cg_resolve_terms.proofs.SiteLaws.{weaker}
 use Rattle.cg_resolve_terms.proofs.TermLaws.{made_says, made_over}
 use Rattle.cg_resolve_terms.proofs.TermSteps.{err_says}
 use denote.Ref.{Bor}

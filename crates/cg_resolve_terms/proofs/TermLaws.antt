@@ -13,19 +13,20 @@ use Rattle.cg_surface.specs.Exprs.{Expr, OneBind, bind_of, expr_of}
 use Rattle.cg_surface.specs.Patterns.{Pattern, pattern_of}
 use Rattle.cg_resolve_def.specs.Desugar.{depth_of, deepest_named, term_limit}
 use Rattle.cg_resolve_def.specs.Terms.{Scope, Term, Rest, its_name, inner_place, first_place, bind, bound_to, let_bound, seen_bound, payload_bound}
-use Rattle.cg_resolve_terms.specs.declared.fault.TermFault.{TermFault}
-use Rattle.cg_resolve_terms.specs.declared.frames.Site.{Site}
-use Rattle.cg_resolve_terms.specs.declared.names.Names.{Names}
-use Rattle.cg_resolve_terms.specs.Names.{term_in, bind_in, observed_in, payload_in}
-use Rattle.cg_resolve_terms.specs.Answers.{Says, StandingSays}
-use Rattle.cg_resolve_terms.specs.Frames.{around_all}
-use Rattle.cg_resolve_terms.specs.Parts.{seen_made, later_bound}
-use Rattle.cg_resolve_terms.specs.Sites.{entry_of, scope_of, scope_in, inside, level, Fits, Moved, IsTooDeep, Refuses, Binds}
-use Rattle.cg_resolve_terms.specs.Stands.{under, HasRoom}
-use Rattle.cg_resolve_terms.proofs.FrameLaws.{depth_inside, inside_deep, no_frames}
-use Rattle.cg_resolve_terms.proofs.ScopeSteps.{scope_push, scope_long}
-use Rattle.cg_resolve_terms.proofs.SiteLaws.{weaker, no_room, err_binds, binds_then, first_deep}
-use Rattle.cg_resolve_terms.proofs.StandLaws.{bound_under, bound_alike}
+use Rattle.cg_resolve_sites.specs.declared.fault.TermFault.{TermFault}
+use Rattle.cg_resolve_sites.specs.declared.frames.Site.{Site}
+use Rattle.cg_resolve_sites.specs.Answers.{Says}
+use Rattle.cg_resolve_sites.specs.Frames.{around_all}
+use Rattle.cg_resolve_sites.specs.Sites.{entry_of, scope_of, scope_in, inside, level, Fits, Moved, IsTooDeep, Refuses, Binds}
+use Rattle.cg_resolve_sites.specs.Stands.{under, HasRoom}
+use Rattle.cg_resolve_sites.proofs.FrameLaws.{inside_deep, no_frames}
+use Rattle.cg_resolve_sites.proofs.ScopeSteps.{scope_push, scope_long}
+use Rattle.cg_resolve_sites.proofs.SiteLaws.{weaker, no_room, err_binds, binds_then, first_deep}
+use Rattle.cg_resolve_sites.proofs.StandLaws.{bound_under, bound_alike}
+use Rattle.cg_resolve_binders.specs.Parts.{seen_made, later_bound}
+use Rattle.cg_resolve_nodes.specs.declared.names.Names.{Names}
+use Rattle.cg_resolve_terms.specs.Terms.{term_in, bind_in, observed_in, payload_in}
+use Rattle.cg_resolve_terms.specs.Answers.{StandingSays}
 use Rattle.cg_resolve_terms.proofs.TermSteps.{err_says}
 use Rattle.cg_surface.proofs.Views.{bind_is}
 use denote.Ref.{Bor}
@@ -47,9 +48,6 @@ named_deep [] gs f = omega arith
 named_deep (g ∷ fs) gs f = omega (arith, named_deep fs gs f)
 
 -- ---- a term where a site goes on
-
-pub inside_says : (a : Site) (t : Term) → Fits a → level a + depth_of t ≤ term_limit → a.above + depth_of (inside a t) ≤ term_limit
-inside_says a t fits room = omega (arith, depth_inside a.frames.items t, fits.depth, room)
 
 pub inside_over : (a : Site) (t : Term) → term_limit < level a + depth_of t → term_limit < a.above + depth_of (inside a t)
 inside_over a t over = omega (arith, inside_deep a.frames.items t, over)

@@ -16,12 +16,13 @@ use Rattle.cg_surface.specs.Exprs as exprs
 use Rattle.cg_resolve_def.specs.Desugar.{depth_of, deepest_named, term_limit}
 use Rattle.cg_resolve_def.specs.Expand.{bodies, component}
 use Rattle.cg_resolve_def.specs.Terms.{Scope, Term}
-use Rattle.cg_resolve_terms.specs.declared.fault.TermFault.{TermFault}
-use Rattle.cg_resolve_terms.specs.declared.names.Names.{Names}
-use Rattle.cg_resolve_terms.specs.Answers.{Says}
-use Rattle.cg_resolve_terms.specs.Names.{entries_in, vars_in, term_in, puts_in, components_in, field_in}
-use Rattle.cg_resolve_terms.specs.Sites.{Refuses}
-use Rattle.cg_resolve_terms.proofs.BinderSteps.{drop_next}
+use Rattle.cg_resolve_sites.specs.declared.fault.TermFault.{TermFault}
+use Rattle.cg_resolve_sites.specs.Answers.{Says}
+use Rattle.cg_resolve_sites.specs.Sites.{Refuses}
+use Rattle.cg_resolve_binders.proofs.BinderSteps.{drop_next}
+use Rattle.cg_resolve_nodes.specs.declared.names.Names.{Names}
+use Rattle.cg_resolve_nodes.specs.Names.{entries_in, vars_in}
+use Rattle.cg_resolve_terms.specs.Terms.{term_in, puts_in, components_in, field_in}
 use Rattle.cg_resolve_terms.proofs.ExprLaws.{puts_push, puts_deep}
 use Rattle.cg_resolve_terms.proofs.TermLaws.{named_none, named_more, named_deep}
 use Rattle.cg_resolve_terms.proofs.TermSteps.{err_says}

@@ -7,12 +7,12 @@ use Rattle.cg_core.specs.declared.term.Term.{the_lemmas as term_lemmas}
 use Rattle.cg_surface.specs.declared.expr.SExpr.{the_lemmas as expr_lemmas}
 use Rattle.cg_resolve_def.specs.Desugar.{depth_of, term_limit}
 use Rattle.cg_resolve_def.specs.Terms.{Term}
-use Rattle.cg_resolve_terms.specs.declared.fault.TermFault.{TermFault}
-use Rattle.cg_resolve_terms.specs.Answers.{Says}
-use Rattle.cg_resolve_terms.specs.Sites.{Refuses}
+use Rattle.cg_resolve_sites.specs.declared.fault.TermFault.{TermFault}
+use Rattle.cg_resolve_sites.specs.Answers.{Says}
+use Rattle.cg_resolve_sites.specs.Sites.{Refuses}
+use Rattle.cg_resolve_sites.proofs.SiteLaws.{weaker}
+use Rattle.cg_resolve_sites.proofs.ScopeSteps.{scope_push, scope_long}
 use Rattle.cg_resolve_terms.proofs.ExprLaws.{components_are, fields_are, bindings_are, puts_none}
-use Rattle.cg_resolve_terms.proofs.SiteLaws.{weaker}
-use Rattle.cg_resolve_terms.proofs.ScopeSteps.{scope_push, scope_long}
 
 pub ruleset term_steps = (scope_push, scope_long, components_are, fields_are, bindings_are, puts_none, term_lemmas, expr_lemmas)
 

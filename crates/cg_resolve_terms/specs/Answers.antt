@@ -1,4 +1,4 @@
--- The whole answer of a call that makes a term with so many nodes above it.
+-- The whole answers of calls that make terms at a site, and the body of a definition.
 use Rattle.std.specs.Prelude.{◌≡◌, ℕ, ◌+◌, ◌<◌, ◌≤◌, Option, Some, None, Result, Ok, Err, ⊤}
 use Rattle.cg_base.specs.declared.place.Place.{Place}
 use Rattle.cg_core.specs.declared.kernel.KBody.{KBody}
@@ -6,15 +6,11 @@ use Rattle.cg_core.specs.declared.term.Term as code
 use Rattle.cg_core.specs.Kernels.{the_term, body_of}
 use Rattle.cg_resolve_def.specs.Desugar.{depth_of, term_limit}
 use Rattle.cg_resolve_def.specs.Terms.{Scope, Term}
-use Rattle.cg_resolve_terms.specs.declared.fault.TermFault.{TermFault}
-use Rattle.cg_resolve_terms.specs.declared.frames.Site.{Site}
-use Rattle.cg_resolve_terms.specs.Sites.{scope_in, inside, level, Fits, Refuses}
-use Rattle.cg_resolve_terms.specs.Stands.{HasRoom, Uses}
-
--- this term, where it is within the limit
-abbrev pub Says : ℕ → Term → Result (code.Term Place) TermFault → Type 0
-Says above t (Ok made) = (the_term made ≡ t) × (above + depth_of t ≤ term_limit)
-Says above t (Err fault) = Refuses fault (term_limit < above + depth_of t)
+use Rattle.cg_resolve_sites.specs.declared.fault.TermFault.{TermFault}
+use Rattle.cg_resolve_sites.specs.declared.frames.Site.{Site}
+use Rattle.cg_resolve_sites.specs.Answers.{Says}
+use Rattle.cg_resolve_sites.specs.Sites.{scope_in, inside, level, Fits, Refuses}
+use Rattle.cg_resolve_sites.specs.Stands.{HasRoom, Uses}
 
 -- a term that stands that far down from here, or any where it is left out
 abbrev pub StandingSays : Option ℕ → ℕ → Term → Result (code.Term Place) TermFault → Type 0

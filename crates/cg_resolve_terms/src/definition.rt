@@ -1,5 +1,5 @@
 // The kernel body of a definition.
-#![tactic(auto, using(std::proofs::lemmas::Grind::common_steps, crate::proofs::BodySteps::body_err), unfolding(crate::specs::Names::entries_in, crate::specs::Names::vars_in, crate::specs::Names::AreNames))]
+#![tactic(auto, using(std::proofs::lemmas::Grind::common_steps, crate::proofs::BodySteps::body_err), unfolding(cg_resolve_nodes::specs::Names::entries_in, cg_resolve_nodes::specs::Names::vars_in, cg_resolve_nodes::specs::Names::AreNames))]
 
 ghost use Rattle.cg_resolve_declared.specs.Declarations.{IsIndexed, entries_of};
 ghost use Rattle.cg_resolve_declared.specs.Tables.{texts};
@@ -7,16 +7,15 @@ ghost use Rattle.cg_resolve_def.specs.Expand.{bodies};
 ghost use Rattle.cg_resolve_def.specs.Terms.{body_term, inner_place};
 ghost use Rattle.cg_surface.specs.Exprs.{expr_of};
 ghost use Rattle.cg_surface.specs.Patterns.{pattern_of};
-ghost use Rattle.cg_resolve_written.specs.Answers.{AreBodies};
+ghost use Rattle.cg_resolve_expand.specs.Known.{AreBodies};
 ghost use Rattle.cg_resolve_terms.specs.Answers.{BodySays};
 
-use crate::TermFault;
-use crate::names::Names;
-use crate::patterns::inner_place;
 use crate::terms::payload;
 use cg_core::KBody;
 use cg_resolve_declared::{Declarations, Definition};
-use cg_resolve_written::Synonyms;
+use cg_resolve_expand::Synonyms;
+use cg_resolve_nodes::Names;
+use cg_resolve_sites::{TermFault, inner_place};
 use std::alloc::Global;
 
 /// The kernel body of a definition, where its term is at most 512 deep (docs/LANGUAGE.md, "Desugaring" and "Limits"). It answers

@@ -1,34 +1,35 @@
 // Kernel terms of expressions (docs/LANGUAGE.md, "Desugaring").
 #![tactic(auto, using(std::proofs::lemmas::Grind::common_steps, crate::proofs::TermSteps::term_steps, crate::proofs::TermSteps::err_says))]
 
-ghost use Rattle.std.specs.Prelude.{◌≡◌, ◌+◌, ◌*◌, ◌<◌, ◌≤◌, [], map, Option, Some, None, MatchOption, length, ⊤, IfOk, OnOk};
+ghost use Rattle.std.specs.Prelude.{◌≡◌, ◌+◌, ◌*◌, ◌<◌, ◌≤◌, map, Option, Some, None, MatchOption, length, ⊤, IfOk};
 ghost use Rattle.cg_core.specs.Kernels.{the_term};
 ghost use Rattle.cg_core.specs.Terms.{term, unit, op as op_shape, more, none as no_terms, app, if_else as if_shape, con, member as member_shape, cast, annot, struct, to_named};
 ghost use Rattle.cg_resolve_def.specs.Desugar.{depth_of, term_limit};
-ghost use Rattle.cg_resolve_def.specs.Terms.{its_name, first_place, bind, last_bound, observed, mention, variable};
+ghost use Rattle.cg_resolve_def.specs.Terms.{its_name, first_place, bind, observed, variable};
 ghost use Rattle.cg_surface.specs.Exprs.{expr_of, bind_of, alt_of, field_of, to_fields, to_binds, to_alts, lets, if_else, match_of};
 ghost use Rattle.cg_surface.specs.Patterns.{pattern_of};
 ghost use Rattle.cg_surface.specs.Written.{written_of, to_types};
-ghost use Rattle.cg_resolve_terms.specs.Answers.{Says, StandingSays, LooksInto};
-ghost use Rattle.cg_resolve_terms.specs.Names.{AreNames, name_in, term_in, written_in, puts_in, bind_in, observed_in, binds_in, components_in, field_in, payload_in, case_in, last_in, choices_in};
-ghost use Rattle.cg_resolve_terms.specs.Parts.{seen_made};
-ghost use Rattle.cg_resolve_terms.specs.Sites.{entry_of, scope_of, scope_in, inside, level, Fits, Moved, Binds, scope_limit};
-ghost use Rattle.cg_resolve_terms.specs.Stands.{under, under_last, under_choices, HasRoom};
+ghost use Rattle.cg_resolve_sites.specs.Answers.{Says};
+ghost use Rattle.cg_resolve_sites.specs.Sites.{entry_of, scope_of, scope_in, inside, level, Fits, Binds, scope_limit};
+ghost use Rattle.cg_resolve_sites.specs.Stands.{under, under_last, under_choices, HasRoom};
+ghost use Rattle.cg_resolve_binders.specs.Parts.{seen_made};
+ghost use Rattle.cg_resolve_nodes.specs.Names.{AreNames, written_in};
+ghost use Rattle.cg_resolve_terms.specs.Answers.{StandingSays, LooksInto};
+ghost use Rattle.cg_resolve_terms.specs.Terms.{name_in, term_in, puts_in, bind_in, observed_in, binds_in, components_in, field_in, payload_in, case_in, last_in, choices_in};
 
-use crate::binders::{bind_later, bound_to};
-use crate::choices::{bind_last, close_with, push_case, under_choices};
-use crate::components::component;
-use crate::frames::{Frame, Site};
-use crate::names::{Names, function_term, written_arg};
-use crate::nodes::{
-    annotated, application, binary, condition, constructed, formed, member, put, unary, unit_term,
-    widened,
-};
-use crate::patterns::{inner_place, its_name, under};
-use crate::scopes::{positions, variable, variable_term};
-use crate::{TERM_LIMIT, TermFault};
 use cg_base::{Items, Memory, Name, Place};
 use cg_core::{At, FieldTerm, Form, Op, Term};
+use cg_resolve_binders::{
+    bind_last, bind_later, bound_to, close_with, push_case, push_seen, under_choices,
+};
+use cg_resolve_nodes::{
+    Names, annotated, application, binary, condition, constructed, formed, function_term, member,
+    put, unary, unit_term, widened, written_arg,
+};
+use cg_resolve_sites::{
+    Site, TERM_LIMIT, TermFault, component, inner_place, its_name, new_site, under, variable,
+    variable_term,
+};
 use cg_surface::{Alt, Bind, FExpr, Pat, SExpr, SForm, STy};
 use std::alloc::Global;
 
@@ -41,24 +42,6 @@ fn first_place(expr: &SExpr) -> Place
         SForm::Binary(_op, left, _right) => first_place(left),
         _ => expr.place,
     }
-}
-
-// A site where nothing is done.
-fn new_site<'a>(alloc: Global, scope: &[Option<&'a [u8]>], above: usize) -> Result<Site<'a>, Memory>
-    requires above { above ≤ term_limit }
-    requires scope { length scope.now ≤ 2 * above + 1 }
-    ensures fits { IfOk result Fits }
-    ensures above { IfOk result (λ made. made.above ≡ above) }
-    ensures frames { IfOk result (λ made. made.frames.items ≡ []) }
-    ensures scope { IfOk result (λ made. made.scope.items ≡ scope.now) }
-{
-    let mut entries = Vec::new(alloc);
-    entries.extend_from_slice(scope)?;
-    Ok(Site {
-        above,
-        frames: Vec::new(alloc),
-        scope: entries,
-    })
 }
 
 // The term of a name: a variable, or a function.
@@ -79,26 +62,6 @@ fn name_term(
         Some(at) => Ok(variable_term(place, at)),
         None => function_term(alloc, names, place, name, types),
     }
-}
-
-// Observes variables in a term, and makes an entry for it.
-fn push_seen<'a>(
-    alloc: Global,
-    site: &mut Site<'a>,
-    node: Place,
-    seen: &Items<At>,
-    place: Place,
-    value: Term<Place>,
-    entry: Option<&'a [u8]>,
-) -> Result<(), Memory>
-    requires fits { Fits site.now }
-    requires value { level site.now + 1 + depth_of (the_term value) ≤ term_limit }
-    ensures { OnOk result (Moved site.old (seen_made node seen.now place (the_term value) (entry_of entry.entry) (scope_in site.old)) site.new (λ rest. rest (scope_in site.new))) }
-{
-    let seen = positions(alloc, site.scope.as_slice(), seen)?;
-    site.frames.push(Frame::LetBang(node, seen, place, value))?;
-    site.scope.push(entry)?;
-    Ok(())
 }
 
 // A constructor alone, of `()`.

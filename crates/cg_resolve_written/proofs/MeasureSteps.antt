@@ -14,8 +14,8 @@ use Rattle.cg_resolve_def.specs.Expand.{Bodies}
 use Rattle.cg_resolve_written.specs.Measures.{greatest_in, greatest_list, greatest_values, greatest_binds, greatest_alts, greatest_entry, greatest_part}
 use Rattle.cg_resolve_written.proofs.ExprLists.{exprs_at, values_at, binds_at, alts_at}
 use Rattle.cg_surface.proofs.Views.{value_is, bind_is, alternative_is, exprs_none, values_none, choices_none}
+use Rattle.cg_resolve_expand.proofs.TypeLists.{types_at}
 use Rattle.cg_resolve_written.proofs.SizeSteps.{type_within}
-use Rattle.cg_resolve_written.proofs.TypeLists.{types_at}
 
 module _ (known : Bodies) where
   exprs_le : (before : Exprs) (es : List Expr) → greatest_list known before ≤ greatest_list known (exprs_behind before es)

@@ -8,8 +8,8 @@ use Rattle.cg_surface.specs.declared.written.SAlt.{SAlt, out-SAlt}
 use Rattle.cg_surface.specs.Written.{Written, Writtens, WrittenFields, WrittenAlts, written_of, field_of, alt_of, OneAlt, OneField, and_one, and_type, and_field, types_behind, fields_behind, alts_behind, to_types, to_fields, to_alts, types_none, fields_none, alts_none}
 use Rattle.cg_surface.specs.Written as types
 use Rattle.cg_resolve_def.specs.Expand.{Bodies}
+use Rattle.cg_resolve_expand.proofs.TypeLists.{types_at, fields_at, alts_at}
 use Rattle.cg_resolve_written.specs.Sizes.{greatest, greatest_alt, greatest_field, greatest_of, greatest_payload, payload_size, size, total_alts}
-use Rattle.cg_resolve_written.proofs.TypeLists.{types_at, fields_at, alts_at}
 use Rattle.cg_surface.proofs.Views.{type_field_is, type_alt_is}
 
 pub size-greatest : (known : Bodies) (t : Written) → size known t ≤ greatest known t

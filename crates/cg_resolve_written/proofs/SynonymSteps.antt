@@ -12,11 +12,11 @@ use Rattle.cg_base.specs.declared.ty.Ty.{Ty}
 use Rattle.cg_resolve_def.specs.Desugar.{type_limit}
 use Rattle.cg_resolve_def.specs.Takes.{largest_type}
 use Rattle.cg_surface.specs.Programs.{Entry}
+use Rattle.cg_resolve_expand.specs.Known.{known_of}
+use Rattle.cg_resolve_expand.specs.declared.table.Synonyms.{Synonyms}
 use Rattle.cg_resolve_written.specs.Answers.{SynonymsSay}
-use Rattle.cg_resolve_written.specs.Known.{known_of}
 use Rattle.cg_resolve_written.specs.declared.oversize.Oversize.{Oversize}
 use Rattle.cg_resolve_written.specs.declared.oversize.Oversize.TheVariants.{TooLarge, Memory}
-use Rattle.cg_resolve_written.specs.declared.table.Synonyms.{Synonyms}
 
 -- nothing is known of names in an empty table
 pub known_none : (synonyms : Synonyms) → tree.IsEmpty synonyms.bodies → (n : List ℕ) → known_of synonyms n ≡ None

@@ -1,10 +1,6 @@
-pub mod Alternatives
 pub mod Answers
 pub mod Capped
 pub mod Keeps
-pub mod Known
 pub mod Measures
-pub mod Pieces
 pub mod Sizes
-pub mod Taken
 pub mod Wide

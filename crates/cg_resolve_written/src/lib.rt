@@ -1,20 +1,15 @@
-//! Stage: names. Written types: how wide and how large they are, and what they become in a kernel.
+//! Stage: names. How wide and how large written types are, and so what the synonyms of a program are for.
 //! Role: part of `cg_resolve`.
-//! Promises: `is_too_wide`, `synonyms`, `written_type`, exactly as defined.
+//! Promises: `is_too_wide`, `synonyms`, exactly as defined.
 //! May cite: anything below it, of its stage and of those below; no crate above.
 //! docs/LANGUAGE.md, "Synonyms" and "Limits", says what they mean.
 #![tactic(auto)]
 
 mod build;
-mod expand;
 mod measure;
-mod named;
 mod named_size;
-mod order;
 mod oversize;
 mod size;
-mod table;
-mod take;
 mod weigh;
 mod wide;
 mod wide_exprs;
@@ -22,7 +17,5 @@ mod wide_patterns;
 mod wide_types;
 
 pub use build::synonyms;
-pub use expand::written_type;
 pub use oversize::Oversize;
-pub use table::Synonyms;
 pub use wide::is_too_wide;

@@ -6,14 +6,15 @@ ghost use Rattle.cg_surface.specs.Exprs.{expr_of, field_of, bind_of, alt_of, to_
 ghost use Rattle.cg_surface.specs.Programs.{entry_of};
 ghost use Rattle.cg_surface.specs.Written.{written_of, to_types};
 ghost use Rattle.cg_resolve_def.specs.Desugar.{type_limit};
-ghost use Rattle.cg_resolve_written.specs.Known.{known_of};
+ghost use Rattle.cg_resolve_expand.specs.Known.{known_of};
 ghost use Rattle.cg_resolve_written.specs.Measures.{greatest_in, greatest_list, greatest_values, greatest_binds, greatest_alts, greatest_entry, greatest_part};
 ghost use Rattle.cg_resolve_written.specs.Sizes.{greatest, greatest_of};
 ghost use Rattle.cg_resolve_written.specs.declared.oversize.Oversize.TheVariants.{TooLarge};
 
+use crate::Oversize;
 use crate::size::size;
-use crate::{Oversize, Synonyms};
 use cg_base::Items;
+use cg_resolve_expand::Synonyms;
 use cg_surface::{Alt, Bind, FExpr, Item, SExpr, SForm, STy};
 use std::alloc::Global;
 

@@ -4,14 +4,14 @@
 ghost use Rattle.std.specs.Prelude.{◌≡◌, ◌+◌, None, sum};
 ghost use Rattle.std.specs.Option.{option_map, option_copied};
 ghost use Rattle.cg_base.specs.Types.{type_of};
+ghost use Rattle.cg_resolve_expand.specs.Known.{known_of};
 ghost use Rattle.cg_resolve_written.specs.Capped.{capped};
-ghost use Rattle.cg_resolve_written.specs.Known.{known_of};
 ghost use Rattle.cg_resolve_written.specs.Sizes.{named_size, applied_size};
 
-use crate::Synonyms;
 use crate::weigh::weigh;
 use cg_base::Ty;
 use cg_resolve_declared::{is_variable, plain_type};
+use cg_resolve_expand::Synonyms;
 
 /// How many nodes the type of this name has with arguments of these sizes; a `u32`'s most where there are more. It takes no
 /// memory.

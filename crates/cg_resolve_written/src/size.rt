@@ -5,14 +5,15 @@ ghost use Rattle.std.specs.Prelude.{◌≡◌, ◌≤◌, ◌<◌, map, IfOk, If
 ghost use Rattle.std.specs.Option.{option_map};
 ghost use Rattle.cg_surface.specs.Written.{written_of, field_of, alt_of, to_types, to_fields, to_alts};
 ghost use Rattle.cg_resolve_def.specs.Desugar.{type_limit};
+ghost use Rattle.cg_resolve_expand.specs.Known.{known_of};
 ghost use Rattle.cg_resolve_written.specs.Capped.{capped};
-ghost use Rattle.cg_resolve_written.specs.Known.{known_of};
 ghost use Rattle.cg_resolve_written.specs.Sizes.{named_size, size, sizes, total, total_fields, total_alts, payload_size, greatest, greatest_of, greatest_field, greatest_alt, greatest_payload};
 ghost use Rattle.cg_resolve_written.specs.declared.oversize.Oversize.TheVariants.{TooLarge};
 
+use crate::Oversize;
 use crate::named_size::named_size;
-use crate::{Oversize, Synonyms};
 use cg_base::Items;
+use cg_resolve_expand::Synonyms;
 use cg_surface::{SAlt, SPart, STy, STyForm};
 use std::alloc::Global;
 

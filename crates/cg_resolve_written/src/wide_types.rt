@@ -1,5 +1,5 @@
 // How wide written types are.
-#![tactic(auto, using(std::proofs::lemmas::Grind::common_steps, crate::proofs::TypeLists::type_lists))]
+#![tactic(auto, using(std::proofs::lemmas::Grind::common_steps, crate::proofs::TypeCounts::type_counts))]
 
 ghost use Rattle.std.specs.Prelude.{◌≡◌, map};
 ghost use Rattle.std.specs.Option.{option_map};

@@ -6,7 +6,7 @@ use Rattle.cg_resolve_def.specs.Declared.{definition_named}
 use Rattle.cg_resolve_def.specs.Desugar.{body_of}
 use Rattle.cg_resolve_def.specs.Expand.{expanded}
 use Rattle.cg_surface.specs.Written.{written_of}
-use Rattle.cg_resolve_written.specs.Known.{known_of}
+use Rattle.cg_resolve_expand.specs.Known.{known_of}
 use Rattle.cg_resolve.specs.Answers.{MaybeBodySays}
 use Rattle.cg_resolve.proofs.FunctionSteps.{function_made}
 use Rattle.cg_resolve.proofs.functions.function.Goals as goal

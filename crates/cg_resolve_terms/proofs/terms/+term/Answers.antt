@@ -5,11 +5,11 @@ use Rattle.cg_surface.specs.Exprs.{expr_of, alt_of, field_of}
 use Rattle.cg_surface.specs.Patterns.{pattern_of}
 use Rattle.cg_resolve_def.specs.Desugar.{depth_of}
 use Rattle.cg_resolve_def.specs.Terms.{first_place}
-use Rattle.cg_resolve_terms.specs.declared.frames.Site.{Site}
-use Rattle.cg_resolve_terms.specs.Names.{term_in, payload_in, components_in, field_in}
-use Rattle.cg_resolve_terms.specs.Sites.{entry_of, scope_of, scope_in}
+use Rattle.cg_resolve_sites.specs.declared.frames.Site.{Site}
+use Rattle.cg_resolve_sites.specs.Sites.{entry_of, scope_of, scope_in}
+use Rattle.cg_resolve_sites.proofs.FrameLaws.{depth_pos}
+use Rattle.cg_resolve_terms.specs.Terms.{term_in, payload_in, components_in, field_in}
 use Rattle.cg_resolve_terms.proofs.ChoiceLaws.{turn_room, turn_more, turn_err, case_err_of}
-use Rattle.cg_resolve_terms.proofs.FrameLaws.{depth_pos}
 use Rattle.cg_resolve_terms.proofs.LookLaws.{look_plain, look_err_at, branches_say}
 use Rattle.cg_resolve_terms.proofs.TermForms.{let_says, let_err, put_err, if_says, test_err, branch_deep, other_deep, match_says, match_err}
 use Rattle.cg_resolve_terms.proofs.TermLaws.{finish_ok, finish_err, observe_err, plain_ok, plain_err, observed_ok, observed_err, let_observed, small_more, payload_says, payload_err, payload_scope}

@@ -7,8 +7,8 @@ use Rattle.cg_surface.specs.declared.expr.FExpr.{size-FExpr}
 use Rattle.cg_surface.specs.declared.expr.Bind.{size-Bind}
 use Rattle.cg_surface.specs.declared.expr.Alt.{size-Alt}
 use Rattle.cg_surface.specs.Exprs.{expr_of, field_of, bind_of, alt_of, to_fields}
-use Rattle.cg_resolve_terms.specs.Names.{components_in, field_in, binds_in, puts_in}
-use Rattle.cg_resolve_terms.specs.Sites.{scope_of, scope_in, Moved}
+use Rattle.cg_resolve_sites.specs.Sites.{scope_of, scope_in, Moved}
+use Rattle.cg_resolve_terms.specs.Terms.{components_in, field_in, binds_in, puts_in}
 use Rattle.cg_resolve_terms.proofs.ChoiceLaws.{Matching}
 use denote.Param.Weighed.{most}
 use Rattle.cg_resolve_terms.proofs.terms.+term.Given as goal

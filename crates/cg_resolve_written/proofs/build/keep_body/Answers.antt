@@ -4,7 +4,7 @@ use Rattle.cg_resolve_declared.specs.Tables.{texts}
 use Rattle.cg_resolve_def.specs.Expand.{expanded}
 use Rattle.cg_resolve_def.specs.Faults.{names_of}
 use Rattle.cg_surface.specs.Written.{written_of}
-use Rattle.cg_resolve_written.specs.Known.{known_of}
+use Rattle.cg_resolve_expand.specs.Known.{known_of}
 use Rattle.cg_resolve_written.proofs.SynonymSteps.{known_more}
 use Rattle.cg_resolve_written.proofs.build.keep_body.Goals as goal
 

@@ -4,7 +4,7 @@ use Rattle.cg_resolve_def.specs.Desugar.{type_limit}
 use Rattle.cg_resolve_def.specs.Expand.{bodies}
 use Rattle.cg_resolve_def.specs.Takes.{largest_type}
 use Rattle.cg_surface.specs.Programs.{entry_of}
-use Rattle.cg_resolve_written.specs.Known.{known_of}
+use Rattle.cg_resolve_expand.specs.Known.{known_of}
 use Rattle.cg_resolve_written.specs.declared.oversize.Oversize.TheVariants.{TooLarge}
 use Rattle.cg_resolve_written.proofs.Builds.{built_all, built_more, built_none, built_over, measured}
 use Rattle.cg_resolve_written.proofs.SynonymSteps.{known_none, says_error}

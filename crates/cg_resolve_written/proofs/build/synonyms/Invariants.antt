@@ -1,6 +1,6 @@
 use Rattle.std.proofs.Common.{map}
 use Rattle.cg_surface.specs.Programs.{entry_of}
-use Rattle.cg_resolve_written.specs.Known.{known_of}
+use Rattle.cg_resolve_expand.specs.Known.{known_of}
 use Rattle.cg_resolve_written.proofs.Builds.{IsBuilt}
 use Rattle.cg_resolve_written.proofs.build.synonyms.Given as goal
 

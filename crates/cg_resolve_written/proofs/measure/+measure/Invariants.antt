@@ -6,7 +6,7 @@ use Rattle.cg_surface.specs.declared.expr.Alt.{size-Alt}
 use denote.Param.Weighed.{most}
 use Rattle.cg_surface.specs.Exprs.{expr_of, field_of, bind_of, alt_of, to_exprs, to_fields, to_binds, to_alts}
 use Rattle.cg_resolve_def.specs.Desugar.{type_limit}
-use Rattle.cg_resolve_written.specs.Known.{known_of}
+use Rattle.cg_resolve_expand.specs.Known.{known_of}
 use Rattle.cg_resolve_written.specs.Measures.{greatest_list, greatest_values, greatest_binds, greatest_alts}
 use Rattle.cg_resolve_written.proofs.measure.+measure.Given as goal
 

@@ -1,7 +1,7 @@
 use Rattle.std.proofs.Common.{ap, arith}
 use Rattle.cg_surface.specs.Programs.{entry_of}
 use Rattle.cg_surface.specs.declared.program.Item.{Item}
-use Rattle.cg_resolve_written.specs.Known.{known_of}
+use Rattle.cg_resolve_expand.specs.Known.{known_of}
 use Rattle.cg_resolve_written.specs.Measures.{greatest_entry}
 use Rattle.cg_resolve_written.proofs.MeasureSteps.{entry_at}
 use Rattle.cg_resolve_written.proofs.measure.measure.Goals as goal

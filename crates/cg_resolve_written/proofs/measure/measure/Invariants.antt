@@ -1,7 +1,7 @@
 use Rattle.std.proofs.Common.{◌≤◌, map, take}
 use Rattle.cg_surface.specs.Programs.{entry_of}
 use Rattle.cg_resolve_def.specs.Desugar.{type_limit}
-use Rattle.cg_resolve_written.specs.Known.{known_of}
+use Rattle.cg_resolve_expand.specs.Known.{known_of}
 use Rattle.cg_resolve_written.specs.Measures.{greatest_part}
 use Rattle.cg_resolve_written.proofs.measure.measure.Given as goal
 

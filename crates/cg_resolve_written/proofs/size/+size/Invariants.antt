@@ -1,8 +1,8 @@
 use Rattle.std.proofs.Common.{◌≡◌, ◌≤◌, map, take}
 use Rattle.cg_surface.specs.Written.{written_of, field_of, alt_of, to_types, to_fields, to_alts}
 use Rattle.cg_resolve_def.specs.Desugar.{type_limit}
+use Rattle.cg_resolve_expand.specs.Known.{known_of}
 use Rattle.cg_resolve_written.specs.Capped.{capped}
-use Rattle.cg_resolve_written.specs.Known.{known_of}
 use Rattle.cg_resolve_written.specs.Sizes.{sizes, total, total_fields, total_alts, greatest_of, greatest_field, greatest_alt}
 use Rattle.cg_resolve_written.proofs.size.+size.Given as goal
 

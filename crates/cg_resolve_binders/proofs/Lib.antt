@@ -1,0 +1,3 @@
+pub mod BinderSteps
+pub mod ChoiceSteps
+pub mod PartLaws

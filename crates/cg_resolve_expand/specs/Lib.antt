@@ -1,0 +1,4 @@
+pub mod Alternatives
+pub mod Known
+pub mod Pieces
+pub mod Taken
