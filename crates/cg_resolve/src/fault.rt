@@ -5,8 +5,8 @@ ghost use Rattle.cg_resolve.specs.declared.fault.Fault.TheVariants.{Memory};
 
 use cg_base::{Limit, Place};
 use cg_resolve_names::NamingFault;
-use cg_resolve_takes::TakeFault;
 use cg_resolve_sites::TermFault;
+use cg_resolve_takes::TakeFault;
 use cg_resolve_written::Oversize;
 use std::alloc::AllocFailed;
 

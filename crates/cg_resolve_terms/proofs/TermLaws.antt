@@ -21,7 +21,7 @@ use Rattle.cg_resolve_sites.specs.Sites.{entry_of, scope_of, scope_in, inside, l
 use Rattle.cg_resolve_sites.specs.Stands.{under, HasRoom}
 use Rattle.cg_resolve_sites.proofs.FrameLaws.{inside_deep, no_frames}
 use Rattle.cg_resolve_sites.proofs.ScopeSteps.{scope_push, scope_long}
-use Rattle.cg_resolve_sites.proofs.SiteLaws.{weaker, no_room, err_binds, binds_then, first_deep}
+use Rattle.cg_resolve_sites.proofs.SiteLaws.{weaker, no_room, err_binds, binds_then, first_deep, inside_says}
 use Rattle.cg_resolve_sites.proofs.StandLaws.{bound_under, bound_alike}
 use Rattle.cg_resolve_binders.specs.Parts.{seen_made, later_bound}
 use Rattle.cg_resolve_nodes.specs.declared.names.Names.{Names}

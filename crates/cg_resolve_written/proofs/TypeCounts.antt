@@ -1,5 +1,5 @@
 -- How many items lists of written types of the code have, and the widest of them.
-use Rattle.std.proofs.Common.{◌≡◌, ℕ, ◌+◌, max, List, [], ◌∷◌, length, map, Option, Some, None, refl, ap, ◌∙◌, arith}
+use Rattle.std.proofs.Common.{◌≡◌, ◌+◌, max, List, [], ◌∷◌, length, map, Option, Some, None, refl, ap, ◌∙◌, arith}
 use Rattle.std.proofs.lemmas.List.{length-map}
 use Rattle.cg_core.specs.declared.at.At.{At}
 use Rattle.cg_surface.specs.declared.written.STy.{the_lemmas}
