@@ -1,6 +1,7 @@
 pub mod ComponentSteps
 pub mod ExprSteps
 pub mod FieldSteps
+pub mod GoesOn
 pub mod HeadSteps
 pub mod KeepSteps
 pub mod Ordered
@@ -8,3 +9,4 @@ pub mod Places
 pub mod Same
 pub mod SaySteps
 pub mod Tops
+pub mod TypeSteps

@@ -107,6 +107,19 @@ abbrev pub chosen : Option ℕ → ℕ → Option (List ℕ → Bool) → Option
 chosen None position before here = before
 chosen (Some at) position before here = if at == position then here else before
 
+-- which argument a type has the fields of, whose synonym has this head, and its fields, where these are those of that argument
+abbrev pub wanted_by : Option Head → Option ℕ
+wanted_by None = None
+wanted_by (Some (parameter i)) = Some i
+wanted_by (Some (record_of test)) = None
+wanted_by (Some other) = None
+
+abbrev pub with_head : Option Head → Option (List ℕ → Bool) → Option (List ℕ → Bool)
+with_head None given = given
+with_head (Some (parameter i)) given = given
+with_head (Some (record_of test)) given = Some test
+with_head (Some other) given = given
+
 -- the heads of these bodies
 abbrev pub head_of_body : Option Tau → Option Head
 head_of_body None = None

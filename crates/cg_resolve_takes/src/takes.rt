@@ -41,9 +41,9 @@ fn check_item<'a>(alloc: Global, table: &HeadTable<'a>, item: &'a Item) -> Resul
     ensures { TakesSay (absent_item (heads_in table.now) (entry_of item.now)) result }
 {
     match item {
-        Item::Synonym { body, .. } => check_alone(alloc, table, body),
+        Item::Synonym { body, .. } => check_alone(alloc, table, Ok(()), body),
         Item::Abstract { .. } => Ok(()),
-        Item::Signature { ty, .. } => check_alone(alloc, table, ty),
+        Item::Signature { ty, .. } => check_alone(alloc, table, Ok(()), ty),
         Item::Define { body, .. } => check_expr(alloc, table, body),
     }
 }
