@@ -31,14 +31,14 @@ use Rattle.cg_cmachine_values.specs.declared.fault.RunFault.TheVariants.{Stuck, 
 use Rattle.cg_cmachine.specs.Abstracts.{Answers}
 use Rattle.cg_cmachine.specs.Answering.{Tells, started, sum_sizes}
 use Rattle.cg_cmachine.specs.Answers.{Runs}
-use Rattle.cg_cmachine.specs.Machine.{Asked, Ends, IsFrame, IsKont, IsState, block, calls, framed, program, said}
+use Rattle.cg_cmachine_running.specs.Machine.{Asked, Ends, IsFrame, IsKont, IsState, block, calls, framed, program, said}
 use Rattle.cg_cmachine.specs.declared.answer.Ran.{Ran}
-use Rattle.cg_cmachine.specs.declared.machine.Frame.{Frame}
-use Rattle.cg_cmachine.specs.declared.machine.Machine.{Machine}
-use Rattle.cg_cmachine.specs.declared.machine.Next.TheVariants.{Goes}
+use Rattle.cg_cmachine_running.specs.declared.machine.Frame.{Frame}
+use Rattle.cg_cmachine_running.specs.declared.machine.Machine.{Machine}
+use Rattle.cg_cmachine_running.specs.declared.machine.Next.TheVariants.{Goes}
 use Rattle.cg_cmachine.proofs.Asking.{answered_gives, answered_needs, answered_refused, answered_sized}
-use Rattle.cg_cmachine.proofs.Entries.{at_place, begun, begun_at, fresh, laid, none_is, some_is, unset_is}
-use Rattle.cg_cmachine.proofs.Steps.{waits_none, waits_stuck}
+use Rattle.cg_cmachine_running.proofs.Entries.{at_place, begun, begun_at, fresh, laid, none_is, some_is, unset_is}
+use Rattle.cg_cmachine_running.proofs.Steps.{waits_none, waits_stuck}
 
 -- ---- slots of parameters
 

@@ -26,21 +26,21 @@ use Rattle.cg_cmachine_values.specs.Values.{Tries, slots_from}
 use Rattle.cg_cmachine_values.specs.declared.fault.RunFault.{RunFault}
 use Rattle.cg_cmachine_values.specs.declared.fault.RunFault.TheVariants.{Stuck, Budget, Memory}
 use Rattle.std.specs.Prelude.{Err, IfOk, Ok, Result, ◌*◌}
-use Rattle.cg_cmachine.specs.declared.machine.Machine.{Machine}
-use Rattle.cg_cmachine.specs.declared.machine.Next.{Next}
+use Rattle.cg_cmachine_running.specs.declared.machine.Machine.{Machine}
+use Rattle.cg_cmachine_running.specs.declared.machine.Next.{Next}
 use Rattle.cg_base.specs.Words.{bits}
 use Rattle.std.specs.Prelude.{◌^◌}
 use Rattle.cg_heap.specs.Calls.{Answer}
 use Rattle.cg_heap.specs.declared.cell.Scalar.{Scalar}
 use Rattle.cg_heap.specs.declared.cell.Scalar.TheVariants.{Word}
 use Rattle.cg_heap.specs.Stored.{Stored}
-use Rattle.cg_cmachine.specs.declared.machine.Frame.{Frame}
-use Rattle.cg_cmachine.specs.declared.machine.Kont.{Kont}
+use Rattle.cg_cmachine_running.specs.declared.machine.Frame.{Frame}
+use Rattle.cg_cmachine_running.specs.declared.machine.Kont.{Kont}
 use Rattle.cg_cmachine.specs.Abstracts.{Answers, IsAdded, answered_value, read_whole}
-use Rattle.cg_cmachine.specs.Machine.{Asked, abstract_call, function_at, gathered, landed, waits, weight}
-use Rattle.cg_cmachine.proofs.Entries.{at_place, laid}
-use Rattle.cg_cmachine.proofs.Steps.{Fails, waits_astray, waits_stuck}
-use Rattle.cg_cmachine.proofs.Tops.{Under, astray_under, bind_under, done_under, plain_under, spend_under, under_done}
+use Rattle.cg_cmachine_running.specs.Machine.{Asked, abstract_call, function_at, gathered, landed, waits, weight}
+use Rattle.cg_cmachine_running.proofs.Entries.{at_place, laid}
+use Rattle.cg_cmachine_running.proofs.Steps.{Fails, waits_astray, waits_stuck}
+use Rattle.cg_cmachine_running.proofs.Tops.{Under, astray_under, bind_under, done_under, plain_under, spend_under, under_done}
 use Rattle.cg_cmachine_builtins.proofs.Creating.{few}
 
 -- ---- arguments

@@ -1,13 +1,2 @@
 pub mod Answering
 pub mod Asking
-pub mod Assigning
-pub mod Callees
-pub mod Entries
-pub mod Forms
-pub mod Landing
-pub mod Layers
-pub mod Stands
-pub mod Steps
-pub mod Tops
-pub mod Whole
-pub mod Within

@@ -3,7 +3,7 @@ use Rattle.std.specs.Prelude.{◌≡◌, ℕ, ◌+◌, List, [], ◌∷◌, Opti
 use Rattle.std.specs.Option.{option_map}
 use Rattle.cg_cmachine_builtins.specs.declared.changes.Changes.{Changes}
 use Rattle.cg_cmachine.specs.declared.answer.Ran.{Ran}
-use Rattle.cg_cmachine.specs.Machine.{Asked, function_at, program}
+use Rattle.cg_cmachine_running.specs.Machine.{Asked, function_at, program}
 use Rattle.cg_cmachine_resolve.specs.Resolutions.{Resolution}
 use Rattle.cg_cmachine_def.specs.Layouts.{Layout, size}
 use Rattle.cg_cmachine_def.specs.Outcomes.{Outcome}

@@ -5,19 +5,17 @@ ghost use Rattle.std.specs.Prelude.{◌≡◌, ◌<◌, ◌≤◌, ◌+◌, ◌^
 ghost use Rattle.cg_cmachine_builtins.specs.Called.{Ends, state_of};
 ghost use Rattle.cg_cmachine_layout.specs.Kinds.{layout_of};
 ghost use Rattle.cg_cmachine.specs.Abstracts.{Answers, answered_value, read_whole};
-ghost use Rattle.cg_cmachine.specs.declared.machine.Next.TheVariants.{Ask, Goes};
-ghost use Rattle.cg_cmachine.specs.Machine.{IsLow, abstract_call, function_at, gathered, IsNext, IsState, Went, slack, said, weight};
+ghost use Rattle.cg_cmachine_running.specs.declared.machine.Next.TheVariants.{Ask, Goes};
+ghost use Rattle.cg_cmachine_running.specs.Machine.{IsLow, abstract_call, function_at, gathered, IsNext, IsState, Went, slack, said, weight};
 ghost use Rattle.cg_cmachine_def.specs.Outcomes.{IsCalm};
 ghost use Rattle.cg_cmachine_values.specs.declared.fault.RunFault.TheVariants.{Memory as Wanting};
 ghost use Rattle.cg_cmachine_values.specs.Values.{Tries, value_of};
 ghost use Rattle.cg_heap.specs.Calls.{Answer};
 
-use crate::calls::gather;
-use crate::machine::{Machine, Next, Run};
-use crate::running::land;
 use cg_base::{Items, Memory, Name};
 use cg_cmachine_builtins::Changes;
 use cg_cmachine_layout::Kind;
+use cg_cmachine_running::{Machine, Next, Run, gather, land};
 use cg_cmachine_values::{CValue, RunFault, read_local};
 use cg_ctree::Why;
 use cg_heap::{Called, ExternHeap, Scalar, Store};

@@ -5,8 +5,8 @@ ghost use Rattle.std.specs.Prelude.{◌≡◌, ◌<◌, ◌≤◌, ◌^◌, [], 
 ghost use Rattle.cg_cmachine_layout.specs.Kinds.{layout_of};
 ghost use Rattle.cg_cmachine.specs.Answers.{Runs};
 ghost use Rattle.cg_cmachine.specs.Answering.{Tells, none_asked, started, sum_sizes};
-ghost use Rattle.cg_cmachine.specs.declared.machine.Next.TheVariants.{Goes};
-ghost use Rattle.cg_cmachine.specs.Machine.{IsLow, IsState, said};
+ghost use Rattle.cg_cmachine_running.specs.declared.machine.Next.TheVariants.{Goes};
+ghost use Rattle.cg_cmachine_running.specs.Machine.{IsLow, IsState, said};
 ghost use Rattle.cg_cmachine_resolve.specs.Lines.{IsAt, linked};
 ghost use Rattle.cg_cmachine_resolve.specs.Resolutions.{IsFirst, IsHead, blocks_in};
 ghost use Rattle.cg_cmachine_def.specs.Operands.{scalars_of};
@@ -18,13 +18,12 @@ ghost use Rattle.cg_cmachine_values.specs.Values.{value_of};
 
 use crate::RunFault;
 use crate::abstracts::{call_table, listed};
-use crate::calls::begin;
-use crate::machine::{Machine, Run};
-use crate::running::go_on;
+use crate::going::go_on;
 use cg_base::{Items, Name};
 use cg_cmachine_builtins::Changes;
 use cg_cmachine_layout::Kind;
 use cg_cmachine_resolve::{Head, Resolved};
+use cg_cmachine_running::{Machine, Run, begin};
 use cg_cmachine_values::{CValue, push_scalars};
 use cg_ctree::{CProgram, Why};
 use cg_heap::{ExternHeap, Link, Scalar, Store};

@@ -7,10 +7,7 @@
 
 mod abstracts;
 mod answer;
-mod calls;
-mod machine;
-mod running;
-mod statements;
+mod going;
 #[cfg(test)]
 mod tests;
 

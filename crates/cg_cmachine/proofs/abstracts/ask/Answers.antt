@@ -7,11 +7,11 @@ use Rattle.cg_cmachine_def.specs.Operands.{Value}
 use Rattle.cg_cmachine_def.specs.Outcomes.{IsCalm, Outcome, done}
 use Rattle.cg_cmachine_values.specs.declared.value.CValue.{CValue}
 use Rattle.cg_cmachine_values.specs.Values.{value_of}
-use Rattle.cg_cmachine.specs.Machine.{Follows, abstract_call, block, function_at, landed}
+use Rattle.cg_cmachine_running.specs.Machine.{Follows, abstract_call, block, function_at, landed}
 use Rattle.cg_cmachine.proofs.Asking as asking
-use Rattle.cg_cmachine.proofs.Entries.{value_whole}
-use Rattle.cg_cmachine.proofs.Steps as steps
-use Rattle.cg_cmachine.proofs.Tops.{under_done}
+use Rattle.cg_cmachine_running.proofs.Entries.{value_whole}
+use Rattle.cg_cmachine_running.proofs.Steps as steps
+use Rattle.cg_cmachine_running.proofs.Tops.{under_done}
 use Rattle.cg_cmachine.proofs.abstracts.ask.Goals as goal
 use Rattle.cg_heap.proofs.Tables.{rises_little}
 

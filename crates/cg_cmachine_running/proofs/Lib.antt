@@ -1,0 +1,11 @@
+pub mod Assigning
+pub mod Callees
+pub mod Entries
+pub mod Forms
+pub mod Landing
+pub mod Layers
+pub mod Stands
+pub mod Steps
+pub mod Tops
+pub mod Whole
+pub mod Within

@@ -1,0 +1,3 @@
+pub mod Flat
+pub mod Machine
+pub mod Statements
