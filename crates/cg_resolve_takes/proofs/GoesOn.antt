@@ -60,12 +60,4 @@ nothing ys (Err fault) = tt
 pub goes_end : {A T : Type 0} (xs : List Place) (so_far : Result ⊤ TakeFault) (found : Result A TakeFault) (result : Result T TakeFault) → GoesOn so_far xs found → GoesFrom found (λ a. []) result → GoesOn so_far xs result
 goes_end xs so_far found result goes more = subst (λ l. GoesOn so_far l result) (append-nil xs) (goes_from xs [] (λ a. []) so_far found result goes (nothing [] found) more)
 
--- what is known of what was found, and of what came of it
-pub from_ok : {A T : Type 0} (P : A → Type 0) (R : T → Type 0) (places : A → List Place) (found : Result A TakeFault) (result : Result T TakeFault) (Q : A → T → Type 0) → ((a : A) (t : T) → P a → Q a t → R t) → GoesFrom found places result
-    → IfOk found P → IfOk found (λ a. IfOk result (Q a)) → IfOk result R
-from_ok P R places (Ok a) (Ok t) Q f goes p q = f a t p q
-from_ok P R places (Ok a) (Err fault) Q f goes p q = tt
-from_ok P R places (Err fault) (Ok t) Q f goes p q = absurd (cc)
-from_ok P R places (Err fault) (Err old) Q f goes p q = tt
-
 pub ruleset go_steps = (goes_none, goes_both, goes_more, goes_done, goes_last, goes_end)

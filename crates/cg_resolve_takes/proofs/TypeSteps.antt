@@ -1,29 +1,13 @@
 -- Steps over the fields of types.
-use Rattle.std.proofs.Common.{◌≡◌, ℕ, Bool, true, false, cond, List, [], Option, Some, None, Result, Ok, Err, refl, sym, ap, ◌∙◌, subst}
+use Rattle.std.proofs.Common.{◌≡◌, ℕ, Bool, List, Option, Result, Ok, Err, sym, ap, ◌∙◌, subst}
 use Rattle.std.specs.Prelude.{⊤, IfOk}
 use Rattle.std.specs.Option.{option_map}
-use Rattle.cg_base.specs.Types.{Tau}
 use Rattle.cg_base.specs.declared.place.Place.{Place}
-use Rattle.cg_resolve_def.specs.Declared.{is_variable, looked_up, plain_types}
-use Rattle.cg_resolve_def.specs.Expand.{position_of}
-use Rattle.cg_resolve_takes.specs.Heads.{Head, Heads, record_of, parameter, other, fields_in, named_head, unless_plain, shape_at, shape_by_name, synonym_head, wanted_by, with_head, chosen}
+use Rattle.cg_resolve_takes.specs.Heads.{chosen}
 use Rattle.cg_resolve_takes.specs.Says.{GoesOn, IsChosen, told}
 use Rattle.cg_resolve_takes.specs.Views.{test_of}
 use Rattle.cg_resolve_takes.specs.declared.head.Fields.{Fields}
 use Rattle.cg_resolve_takes.specs.declared.fault.TakeFault.{TakeFault}
-
--- the fields of a type by its name are those of the argument that it has them of, or those of its synonym
-pub named_shape : (heads : Heads) (n : List ℕ) (args : List Head) → with_head (synonym_head heads n) (shape_at args (wanted_by (synonym_head heads n))) ≡ shape_by_name heads n args
-named_shape heads n args = pick (is_variable n) (looked_up plain_types n) (heads n)
-  where
-    pick : (b : Bool) (plain : Option Tau) (known : Option Head)
-        → with_head (cond b None (unless_plain plain known)) (shape_at args (wanted_by (cond b None (unless_plain plain known)))) ≡ fields_in (cond b (parameter (position_of [] n)) (named_head plain known args))
-    pick true plain known = refl
-    pick false (Some t) known = refl
-    pick false None None = refl
-    pick false None (Some (record_of test)) = refl
-    pick false None (Some (parameter i)) = refl
-    pick false None (Some other) = refl
 
 -- what comes of a type, behind those before it
 module _ (wanted : Option ℕ) (position : ℕ) (before here result : Result (Option Fields) TakeFault) (is : IsChosen wanted position before here result) (ys : List Place) (goes : GoesOn (told before) ys here) where
