@@ -14,9 +14,9 @@ use Rattle.cg_parser_patterns.specs.Plain as plain_patterns
 use Rattle.cg_parser_patterns.proofs.Laws as pattern_laws
 use Rattle.cg_parser_patterns.proofs.Follow as pattern_follows
 use Rattle.cg_parser_build.specs.Bounded.{within as expr_within}
-use Rattle.cg_parser_exprs.specs.Laws.{ExprStage, expr_reader}
-use Rattle.cg_parser_exprs.proofs.Exactly as exprs_exactly
-use Rattle.cg_parser_exprs.proofs.Viable as expr_ends
+use Rattle.cg_parser_exprs_def.specs.Read.{ExprStage, expr_reader}
+use Rattle.cg_parser_exprs_laws.proofs.Exactly as exprs_exactly
+use Rattle.cg_parser_exprs_laws.proofs.Viable as expr_ends
 use Rattle.cg_parser.specs.Bounded.{bounded, within_program}
 use Rattle.cg_parser.specs.Grammar.{SpellsTokens, SpellsExpr}
 use Rattle.cg_parser.specs.Machine.{State}

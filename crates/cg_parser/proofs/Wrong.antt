@@ -6,12 +6,12 @@ use Rattle.cg_parser_types.specs.Grammar.{SpellsType}
 use Rattle.cg_parser_types.specs.Plain as plain_types
 use Rattle.cg_parser_patterns.specs.Grammar.{SpellsPattern}
 use Rattle.cg_parser_patterns.specs.Plain as plain_patterns
-use Rattle.cg_parser_exprs.specs.Machine.{WrongBar}
-use Rattle.cg_parser_exprs.specs.State.{is_wrong_bar}
-use Rattle.cg_parser_exprs.specs.Unfinished.{IsWrongBar}
-use Rattle.cg_parser_exprs.specs.Laws.{ExprStage, expr_reader}
-use Rattle.cg_parser_exprs.proofs.Exactly.{asked}
-use Rattle.cg_parser_exprs.proofs.Wrong as exprs_wrong
+use Rattle.cg_parser_exprs_def.specs.Machine.{WrongBar}
+use Rattle.cg_parser_exprs_def.specs.Held.{is_wrong_bar}
+use Rattle.cg_parser_exprs_def.specs.Unfinished.{IsWrongBar}
+use Rattle.cg_parser_exprs_def.specs.Read.{ExprStage, expr_reader}
+use Rattle.cg_parser_exprs_laws.proofs.Exactly.{asked}
+use Rattle.cg_parser_exprs_laws.proofs.Wrong as exprs_wrong
 use Rattle.cg_parser.specs.Answers.{IsWrongBarIn}
 use Rattle.cg_parser.specs.Grammar.{SpellsExpr}
 use Rattle.cg_parser.specs.Machine.{InBody}

@@ -16,7 +16,7 @@ use Rattle.cg_parser_symbols.specs.Symbols.{lower, equals, Seen, seen, is_first}
 use Rattle.cg_parser_symbols.specs.Readings.{◌then◌, head, inner_sign, IsPart}
 use Rattle.cg_parser_types.specs.Grammar.{SpellsType}
 use Rattle.cg_parser_patterns.specs.Grammar.{SpellsPattern}
-use Rattle.cg_parser_exprs.specs.Unfinished.{IsWrongBar}
+use Rattle.cg_parser_exprs_def.specs.Unfinished.{IsWrongBar}
 use Rattle.cg_parser.specs.Grammar.{ReadsProgram, SpellsExpr, SpellsTokens, Spells}
 use Rattle.cg_parser.specs.declared.fault.ParseFault.{ParseFault}
 use Rattle.cg_parser.specs.declared.fault.ParseFault.TheVariants.{S1, S2, S3, S4, Nesting, Memory}

@@ -14,7 +14,7 @@ use Rattle.cg_parser_symbols.specs.Symbols.{Symbol, lower, upper, type_word, all
 use Rattle.cg_parser_symbols.specs.Readings.{Reading, ◌then◌, head, inner, inner_sign, IsPart}
 use Rattle.cg_parser_types.specs.Grammar.{SpellsType}
 use Rattle.cg_parser_patterns.specs.Grammar.{SpellsPattern}
-use Rattle.cg_parser_exprs.specs.Grammar as exprs
+use Rattle.cg_parser_exprs_def.specs.Grammar as exprs
 
 -- the letters of kinds: D, S and E
 abbrev pub is_letter : ℕ → Bool

@@ -13,7 +13,8 @@ use Rattle.cg_parser_types.specs.Bounded as bounded_types
 use Rattle.cg_parser_types.specs.States as type_state
 use Rattle.cg_parser_patterns.specs.Bounded as bounded_patterns
 use Rattle.cg_parser_patterns.specs.State as pattern_state
-use Rattle.cg_parser_exprs.specs.Bounded as bounded_exprs
+use Rattle.cg_parser_exprs_def.specs.Bounded as bounded_exprs
+use Rattle.cg_parser_exprs_def.specs.Held.{is_wrong_bar}
 use Rattle.cg_parser_exprs.specs.State as expr_state
 use Rattle.cg_parser_types.specs.declared.reader.TypeEnd.{TypeEnd}
 use Rattle.cg_parser_exprs.specs.declared.reader.ExprEnd.{ExprEnd}
@@ -92,5 +93,5 @@ state_of before Failed r = machine.Failed
 
 -- whether it stopped at a bar at a wrong column
 abbrev pub is_wrong : Held → Bool
-is_wrong (machine.InBody before at x s) = expr_state.is_wrong_bar s
+is_wrong (machine.InBody before at x s) = is_wrong_bar s
 is_wrong m = false

@@ -7,11 +7,11 @@ use Rattle.cg_surface.specs.Written.{Writtens}
 use Rattle.cg_parser_symbols.specs.Views.{symbol_view}
 use Rattle.cg_parser_symbols.specs.declared.symbol.Symbol.{Symbol}
 use Rattle.cg_parser_symbols.specs.declared.symbol.Symbol.TheVariants.{Dot, Brace, Bracket}
-use Rattle.cg_parser_exprs.specs.Machine as machine
+use Rattle.cg_parser_exprs_def.specs.Machine as machine
 use Rattle.cg_parser_build.specs.Bounded.{bounded}
-use Rattle.cg_parser_exprs.specs.Stack.{Held, Within, types, patterns}
-use Rattle.cg_parser_exprs.specs.Walk.{behind}
-use Rattle.cg_parser_exprs.specs.declared.frame.Mode.{Mode}
+use Rattle.cg_parser_exprs_def.specs.Held.{Held, Within, types, patterns}
+use Rattle.cg_parser_exprs.specs.Behind.{behind}
+use Rattle.cg_parser_exprs_frames.specs.declared.frame.Mode.{Mode}
 
 -- behind an atom, at neither a dot nor a brace
 pub default : (s : Symbol) (p : Place) (e : Option Expr) (fs : List Within) → (s ≡ Dot → ⊥) → (s ≡ Brace → ⊥) → machine.have types patterns bounded (symbol_view s) p e fs ≡ behind (symbol_view s) p e fs

@@ -1,11 +1,2 @@
-pub mod Asked
-pub mod Bars
-pub mod Bounded
-pub mod Grammar
-pub mod Laws
-pub mod Machine
-pub mod Plain
-pub mod Stack
+pub mod Behind
 pub mod State
-pub mod Unfinished
-pub mod Walk

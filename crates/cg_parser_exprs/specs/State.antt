@@ -1,19 +1,13 @@
 -- The reader of the code as the machine over bounded trees.
-use Rattle.std.specs.Prelude.{List, Bool, true, false, Option, Some, None}
-use Rattle.cg_base.specs.Reader.{Reader}
+use Rattle.std.specs.Prelude.{List, Option, Some, None}
 use Rattle.cg_surface.specs.Exprs.{Expr, expr_of}
-use Rattle.cg_parser_symbols.specs.Symbols.{Seen}
 use Rattle.cg_parser_build.specs.Bounded.{bounded}
-use Rattle.cg_parser_exprs.specs.Bounded.{bounded_reader}
-use Rattle.cg_parser_exprs.specs.Machine as machine
-use Rattle.cg_parser_exprs.specs.Stack.{Held, Within, types, patterns, stack_of, stage_of}
+use Rattle.cg_parser_exprs_def.specs.Machine as machine
+use Rattle.cg_parser_exprs_def.specs.Held.{Held, Within, types, patterns}
+use Rattle.cg_parser_exprs_frames.specs.Stack.{stack_of, stage_of}
 use Rattle.cg_parser_exprs.specs.declared.reader.ExprEnd.{ExprEnd}
 use Rattle.cg_parser_exprs.specs.declared.reader.ExprEnd.TheVariants.{Unfinished, TooDeep, Whole}
 use Rattle.cg_parser_exprs.specs.declared.reader.ExprReader.{ExprReader}
-
--- the machine over the bounded readers of types and patterns
-abbrev pub bounded_exprs : Reader Held Seen (Option Expr)
-bounded_exprs = bounded_reader types patterns
 
 -- what ends there: no expression, one that is too deep, or an expression
 abbrev pub end_of : ExprEnd → Option (Option Expr)
@@ -28,8 +22,3 @@ end_whole e fs = let r = machine.closed types patterns bounded 12 e fs in machin
 -- where the reader stands
 unfoldable pub reader_state : ExprReader → Held
 reader_state r = stage_of r.mode r.parts (stack_of r.stack)
-
--- whether it stands at a bar at a wrong column
-abbrev pub is_wrong_bar : Held → Bool
-is_wrong_bar machine.WrongBar = true
-is_wrong_bar m = false

@@ -1,75 +1,28 @@
 // Behind an expression.
-ghost use Rattle.std.specs.Prelude.{◌≡◌, List, [], IfOk, if◌then◌else◌};
+ghost use Rattle.std.specs.Prelude.{◌≡◌, List, IfOk};
+ghost use Rattle.cg_parser_exprs_def.specs.Machine as machine;
 ghost use Rattle.cg_parser_symbols.specs.Views.{symbol_view};
 ghost use Rattle.cg_parser_build.specs.Bounded.{bounded};
-ghost use Rattle.cg_parser_exprs.specs.Machine as machine;
-ghost use Rattle.cg_parser_exprs.specs.Stack.{types, patterns, Types, Patterns, Within, angle_of, stack_of, mode_of, stage_of};
+ghost use Rattle.cg_parser_exprs_def.specs.Held.{types, patterns, Types, Patterns, Within};
+ghost use Rattle.cg_parser_exprs_frames.specs.Stack.{stack_of, mode_of, stage_of};
+ghost use Rattle.cg_parser_exprs.specs.Behind.{behind};
 ghost use Rattle.cg_parser_build.specs.Views.{view_of};
-ghost use Rattle.cg_parser_exprs.specs.Walk.{behind};
 
-use crate::close::{close, room};
-use crate::ends::{on_and, on_end, on_in, on_then};
-use crate::frame::{Angle, Frame, Mode, Owner};
-use crate::matches::on_bar;
-use crate::operators::{alone_op, is_second, left_of, level, operator, shift_op, starts_atom};
-use crate::readers::Parts;
-use crate::start::start;
 use cg_base::{Items, Memory, Name, Place};
-use cg_core::{At, Op};
+use cg_core::At;
 use cg_parser_build::{BuiltExpr, build, lists};
+use cg_parser_exprs_bars::matches::on_bar;
+use cg_parser_exprs_ends::ends::{on_and, on_end, on_in, on_then};
+use cg_parser_exprs_frames::close::close;
+use cg_parser_exprs_frames::frame::{Angle, Frame, Mode, Owner};
+use cg_parser_exprs_frames::levels::left_of;
+use cg_parser_exprs_frames::readers::Parts;
+use cg_parser_exprs_start::operands::{on_argument, on_op};
+use cg_parser_exprs_start::operators::{operator, starts_atom};
+use cg_parser_exprs_start::start::start;
 use cg_parser_stack::Stack;
 use cg_parser_symbols::Symbol;
 use std::alloc::Global;
-
-/// At the beginning of an atom: an argument, where there is room for a call.
-fn on_argument<'a>(
-    alloc: Global,
-    stack: &mut Stack<Frame>,
-    parts: &mut Parts,
-    symbol: Symbol<'a>,
-    place: Place,
-    function: Option<BuiltExpr>,
-) -> Result<Mode, Memory>
-    ensures { IfOk result (λ m. stage_of m parts.new (stack_of stack.new) ≡ machine.on_argument types patterns bounded (symbol_view symbol.entry) place (view_of function) (stack_of stack.old)) }
-{
-    if room(stack)? < 1 {
-        return Ok(Mode::Stuck);
-    }
-    stack.push(Frame::Argument(function))?;
-    start(alloc, stack, parts, symbol, place)
-}
-
-/// Opens the right operand of an operator, where there is room for the operator; answers whether there is.
-fn open_operand(
-    stack: &mut Stack<Frame>,
-    op: Op,
-    place: Place,
-    left: Option<BuiltExpr>,
-) -> Result<bool, Memory>
-    ensures { IfOk result (λ b. machine.on_op types patterns bounded op place (view_of left) (stack_of stack.old) ≡ (if b then machine.Want (stack_of stack.new) else machine.Stuck)) }
-{
-    if room(stack)? < level(op) {
-        return Ok(false);
-    }
-    stack.push(Frame::RightOf(place, op, left))?;
-    Ok(true)
-}
-
-/// At an operator with two operands.
-fn on_op(
-    stack: &mut Stack<Frame>,
-    op: Op,
-    place: Place,
-    left: Option<BuiltExpr>,
-) -> Result<Mode, Memory>
-    ensures { IfOk result (λ m. (ts : Types) (ps : Patterns) → mode_of m ts ps (stack_of stack.new) ≡ machine.on_op types patterns bounded op place (view_of left) (stack_of stack.old)) }
-{
-    if open_operand(stack, op, place, left)? {
-        Ok(Mode::Want)
-    } else {
-        Ok(Mode::Stuck)
-    }
-}
 
 /// At a symbol that is no operator and begins no atom.
 fn go_past<'a>(
@@ -98,7 +51,7 @@ fn go_past<'a>(
 }
 
 /// Behind an expression that takes no argument at this symbol.
-pub(crate) fn go_on<'a>(
+fn go_on<'a>(
     alloc: Global,
     stack: &mut Stack<Frame>,
     parts: &mut Parts,
@@ -197,30 +150,6 @@ pub(crate) fn after_upper<'a>(
         let tree = build::con(head, name);
         go_on(alloc, stack, parts, symbol, place, tree)
     }
-}
-
-/// Behind a sign that may be the first of a shift: this symbol decides.
-pub(crate) fn after_angle<'a>(
-    alloc: Global,
-    stack: &mut Stack<Frame>,
-    parts: &mut Parts,
-    symbol: Symbol<'a>,
-    place: Place,
-    angle: Angle,
-    sign: Place,
-    tree: Option<BuiltExpr>,
-) -> Result<Mode, Memory>
-    ensures { IfOk result (λ m. stage_of m parts.new (stack_of stack.new) ≡ machine.after_angle types patterns bounded (symbol_view symbol.entry) place (angle_of angle) sign (view_of tree) (stack_of stack.old)) }
-{
-    if is_second(angle, symbol) {
-        let left = close(alloc, stack, 5, tree)?;
-        return on_op(stack, shift_op(angle), sign, left);
-    }
-    let left = close(alloc, stack, 8, tree)?;
-    if !open_operand(stack, alone_op(angle), sign, left)? {
-        return Ok(Mode::Stuck);
-    }
-    start(alloc, stack, parts, symbol, place)
 }
 
 /// Behind the sign of an observed variable.

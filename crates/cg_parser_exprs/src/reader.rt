@@ -1,20 +1,21 @@
 // The reader of expressions.
-#![tactic(auto, using(crate::proofs::Walk::whole_is), unfolding(crate::specs::State::reader_state))]
+#![tactic(auto, using(crate::proofs::Whole::whole_is), unfolding(crate::specs::State::reader_state))]
 
 ghost use Rattle.std.specs.Prelude.{◌≡◌, List, IfOk, OnOk};
+ghost use Rattle.cg_parser_exprs_def.specs.Machine as machine;
 ghost use Rattle.cg_parser_symbols.specs.Views.{symbol_view};
 ghost use Rattle.cg_parser_build.specs.Bounded.{bounded};
-ghost use Rattle.cg_parser_exprs.specs.Machine as machine;
-ghost use Rattle.cg_parser_exprs.specs.Stack.{types, patterns, Types, Patterns, Within, stack_of, mode_of, stage_of};
-ghost use Rattle.cg_parser_exprs.specs.State.{bounded_exprs, end_of, end_whole, reader_state, is_wrong_bar};
+ghost use Rattle.cg_parser_exprs_def.specs.Held.{types, patterns, Types, Patterns, Within, bounded_exprs, is_wrong_bar};
+ghost use Rattle.cg_parser_exprs_frames.specs.Stack.{stack_of, mode_of, stage_of};
+ghost use Rattle.cg_parser_exprs.specs.State.{end_of, end_whole, reader_state};
 ghost use Rattle.cg_parser_build.specs.Views.{view_of};
 
-use crate::close::close;
-use crate::frame::{Frame, Mode};
-use crate::readers::Parts;
 use crate::step::mode_step;
 use cg_base::{Memory, Place};
 use cg_parser_build::{BuiltExpr, build, lists};
+use cg_parser_exprs_frames::close::close;
+use cg_parser_exprs_frames::frame::{Frame, Mode};
+use cg_parser_exprs_frames::readers::Parts;
 use cg_parser_stack::Stack;
 use cg_parser_symbols::Symbol;
 use std::alloc::Global;
@@ -30,11 +31,19 @@ pub enum ExprEnd {
 
 /// A reader of an expression: docs/LANGUAGE.md, "Expressions" and "Bars". It takes one symbol at a time and keeps the expressions
 /// that it has read.
-#[derive(Drop)]
 pub struct ExprReader {
     stack: Stack<Frame>,
     mode: Mode,
     parts: Parts,
+}
+
+impl Drop for ExprReader {
+    fn drop(self) {
+        let ExprReader { stack, mode, parts } = self;
+        drop(stack);
+        drop(mode);
+        drop(parts);
+    }
 }
 
 /// Whether an expression may still come of it.

@@ -15,7 +15,7 @@ use Rattle.cg_parser_symbols.specs.Readings.{Reading, IsSpelled}
 use Rattle.cg_resolve_def.specs.Declared.{is_among}
 use Rattle.cg_resolve_def.specs.Expand.{types_length}
 use Rattle.cg_resolve_def.specs.Faults.{NameFault, unknown, all_bound, binds_faults, bound, expr_faults, field_with, list_faults, match_faults, pattern_faults, put_faults, record_faults, seen_faults, type_faults, types_faults, value_names, variables}
-use Rattle.cg_parser_exprs.specs.Grammar as grammar
+use Rattle.cg_parser_exprs_def.specs.Grammar as grammar
 use Rattle.cg_parser_laws.proofs.FieldFaults.{alone_stands, field_then}
 use Rattle.cg_parser_laws.proofs.Names.{all_told, at_key, fault_key, mention_stands, scoped_stands, told_spans, twins_spans}
 use Rattle.cg_parser_laws.proofs.ExprParts.{head_spans, operator_spans, seen_spans, word_spans}

@@ -9,8 +9,8 @@ use Rattle.cg_surface.specs.Written.{Written}
 use Rattle.cg_surface.specs.Patterns.{Pattern}
 use Rattle.cg_parser_symbols.specs.Symbols.{Seen}
 use Rattle.cg_resolve_def.specs.Faults.{variables}
-use Rattle.cg_parser_exprs.specs.Grammar.{op_sign, op_word}
-use Rattle.cg_parser_exprs.specs.Grammar as grammar
+use Rattle.cg_parser_exprs_def.specs.Grammar.{op_sign, op_word}
+use Rattle.cg_parser_exprs_def.specs.Grammar as grammar
 use Rattle.cg_parser_laws.proofs.Names.{at_key}
 use Rattle.cg_parser_laws.proofs.Spans.{Key, Spans, before, front_spans, join, nothing_spans, sign_spans, stands_one, token_spans, token_with}
 

@@ -14,7 +14,7 @@ use Rattle.cg_parser_symbols.specs.Readings.{Reading, IsSpelled}
 use Rattle.cg_resolve_def.specs.Expand.{Bodies}
 use Rattle.cg_resolve_def.specs.Faults.{variables}
 use Rattle.cg_resolve_def.specs.Takes.{listed, missing_from, take_faults, types_in, types_in_alts, types_in_binds, types_in_fields, types_in_list, with_vars}
-use Rattle.cg_parser_exprs.specs.Grammar as grammar
+use Rattle.cg_parser_exprs_def.specs.Grammar as grammar
 use Rattle.cg_parser_laws.proofs.Names.{at_key, place_key}
 use Rattle.cg_parser_laws.proofs.ExprParts.{head_spans, operator_spans, seen_spans, word_spans}
 use Rattle.cg_parser_laws.proofs.Spans.{Spans, before, behind, front_spans, join, nothing_spans, sign_spans, silent, token_spans}

@@ -12,8 +12,8 @@ use Rattle.cg_surface.specs.Exprs.{Expr, Exprs, FieldExprs, Binds as Bindings, A
 use Rattle.cg_surface.specs.Exprs as exprs
 use Rattle.cg_parser_symbols.specs.Symbols.{Seen}
 use Rattle.cg_parser_symbols.specs.Readings.{Reading}
-use Rattle.cg_parser_exprs.specs.Grammar.{AltsBind, AreMany, AreNamed, Binds, BindsBind, ExprsBind, FieldsBind, OnlyLast, op_sign, op_word}
-use Rattle.cg_parser_exprs.specs.Grammar as grammar
+use Rattle.cg_parser_exprs_def.specs.Grammar.{AltsBind, AreMany, AreNamed, Binds, BindsBind, ExprsBind, FieldsBind, OnlyLast, op_sign, op_word}
+use Rattle.cg_parser_exprs_def.specs.Grammar as grammar
 use Rattle.cg_resolve_def.specs.Takes.{exprs_length, values_length}
 use Rattle.cg_resolve_def.specs.Shaped.{AreShapedBinds, AreShapedChoices, AreShapedExprs, AreShapedTypes, AreShapedValues, HasLast, HaveHeads, IsBare, IsBinary, IsShapedExpr, IsShapedPattern, IsShapedType, IsUnary, binds_length, choices_length}
 

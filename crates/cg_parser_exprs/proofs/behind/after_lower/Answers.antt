@@ -1,7 +1,8 @@
 use Rattle.cg_parser_symbols.specs.Views.{symbol_view}
 use Rattle.cg_parser_build.specs.Bounded.{bounded}
-use Rattle.cg_parser_exprs.specs.Machine as machine
-use Rattle.cg_parser_exprs.specs.Stack.{types, patterns, stack_of, stage_of}
+use Rattle.cg_parser_exprs_def.specs.Machine as machine
+use Rattle.cg_parser_exprs_def.specs.Held.{types, patterns}
+use Rattle.cg_parser_exprs_frames.specs.Stack.{stack_of, stage_of}
 use Rattle.cg_parser_build.specs.Views.{view_of, args_view}
 use Rattle.cg_parser_exprs.proofs.Default.{at_name, answered}
 use Rattle.cg_parser_exprs.proofs.behind.after_lower.Goals as goal

@@ -1,9 +1,10 @@
 use Rattle.cg_parser_symbols.specs.Views.{symbol_view}
 use Rattle.cg_parser_build.specs.Bounded.{bounded}
-use Rattle.cg_parser_exprs.specs.Machine as machine
-use Rattle.cg_parser_exprs.specs.Stack.{types, patterns, stack_of, stage_of}
+use Rattle.cg_parser_exprs_def.specs.Machine as machine
+use Rattle.cg_parser_exprs_def.specs.Held.{types, patterns}
+use Rattle.cg_parser_exprs_frames.specs.Stack.{stack_of, stage_of}
 use Rattle.cg_parser_build.specs.Views.{view_of}
-use Rattle.cg_parser_exprs.specs.Walk.{behind}
+use Rattle.cg_parser_exprs.specs.Behind.{behind}
 use Rattle.cg_parser_exprs.proofs.Default.{default, answered}
 use Rattle.cg_parser_exprs.proofs.behind.have.Goals as goal
 

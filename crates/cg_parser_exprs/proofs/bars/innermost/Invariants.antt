@@ -1,7 +1,0 @@
-use Rattle.std.proofs.Common.{◌≡◌, take}
-use Rattle.cg_parser_exprs.specs.Walk.{opens, innermost}
-use Rattle.cg_parser_exprs.proofs.Walk.{frames_in}
-use Rattle.cg_parser_exprs.proofs.bars.innermost.Given as goal
-
-abbrev pub invariant-loop-at : goal.invariant-loop-at
-invariant-loop-at l = innermost (opens (frames_in l.frames)) ≡ innermost (opens (frames_in (take l.at l.frames)))

@@ -1,5 +1,0 @@
-use Rattle.cg_parser_exprs.proofs.Exactly.{open_exactly}
-use Rattle.cg_parser_exprs.proofs.law.open_exactly.Goals as goal
-
-pub returns : goal.returns
-returns c = open_exactly

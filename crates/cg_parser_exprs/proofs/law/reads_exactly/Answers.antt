@@ -1,5 +1,0 @@
-use Rattle.cg_parser_exprs.proofs.Exactly.{reads_exactly}
-use Rattle.cg_parser_exprs.proofs.law.reads_exactly.Goals as goal
-
-pub returns : goal.returns
-returns c = reads_exactly

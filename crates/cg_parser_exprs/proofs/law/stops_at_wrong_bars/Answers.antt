@@ -1,5 +1,0 @@
-use Rattle.cg_parser_exprs.proofs.Exactly.{stops_at_wrong_bars}
-use Rattle.cg_parser_exprs.proofs.law.stops_at_wrong_bars.Goals as goal
-
-pub returns : goal.returns
-returns c = stops_at_wrong_bars

@@ -1,0 +1,9 @@
+pub mod Asked
+pub mod Bars
+pub mod Bounded
+pub mod Grammar
+pub mod Held
+pub mod Machine
+pub mod Plain
+pub mod Read
+pub mod Unfinished
