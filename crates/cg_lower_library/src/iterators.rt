@@ -6,8 +6,9 @@ ghost use Rattle.std.specs.Option.{option_map};
 ghost use Rattle.cg_base.specs.Types.{type_of, unit};
 ghost use Rattle.cg_cgen.specs.Iterators.{types_of};
 ghost use Rattle.cg_cgen_def.specs.Bodies.{body_of};
-ghost use Rattle.cg_cgen_def.specs.Names.{dispatch_name};
-ghost use Rattle.cg_ctree.specs.Trees.{body_of as body_in};
+ghost use Rattle.cg_cgen_def.specs.Loops.{iterator_function as iterator_by};
+ghost use Rattle.cg_cgen_def.specs.Names.{dispatch_name, function_name};
+ghost use Rattle.cg_ctree.specs.Trees.{Function, body_of as body_in, function_of};
 ghost use Rattle.cg_lib_value.specs.Library.{first_type};
 ghost use Rattle.cg_lower_def.specs.IteratorCode.{low_iterator, word_in};
 ghost use Rattle.cg_lower_def.specs.Lowered.{arrow_number, word_of as word_of_type};
@@ -20,7 +21,7 @@ use crate::types::typed;
 use cg_base::{Items, Lib, Memory, Name, Ty, Word};
 use cg_cgen::{IterTypes, iterator};
 use cg_cgen_lines::numbered;
-use cg_ctree::CBody;
+use cg_ctree::{CBody, CFun};
 use cg_lower_nodes::{Lowering, field_at, word_of};
 use cg_typing_parts::library_type;
 use std::alloc::Global;
@@ -117,6 +118,34 @@ fn callee(alloc: Global, state: &mut Lowering, ty: &Ty, none: &Ty) -> Result<Nam
     numbered(alloc, b'd', number)
 }
 
+// The function of an iterator of a type, the instance at a place; the type of unit is handed in beside it.
+fn iterator_function(
+    alloc: Global,
+    state: &mut Lowering,
+    at: usize,
+    lib: Lib,
+    word: Word,
+    ty: &Ty,
+    none: &Ty,
+) -> Result<CFun, Memory>
+    requires { type_of none.now ≡ unit }
+    ensures function { IfOk result (λ f. function_of f ≡ iterator_by lib (function_name at) (arrow_types (whole_of state.old).numbered word (type_of ty.now)) (dispatch_name (arrow_number state.old.places.arrows (field_type (taken_of (type_of ty.now)) 3)))) }
+    ensures kept { kept_of state.new ≡ kept_of state.old }
+{
+    let call = callee(alloc, state, ty, none)?;
+    let name = numbered(alloc, b'f', at)?;
+    let types = iterator_types(alloc, state, word, ty, none)?;
+    iterator(alloc, lib, name, types, call)
+}
+
+// The body of a function that was made.
+fn body_of_made(made: Result<CFun, Memory>) -> Result<Option<CBody>, Memory>
+    ensures { (f : Function) → IfOk made (λ g. function_of g ≡ f) → IfOk result (λ b. option_map body_in b ≡ f.body) }
+{
+    let mut function = made?;
+    Ok(mem::replace(&mut function.body, None))
+}
+
 /// The body of the C function of an iterator at type arguments, the instance at a place (docs/LANGUAGE.md, "The C of instances", library); of another function of the
 /// library one that gives 0. The one error is want of memory. What lowering knows of the whole stays as it is.
 pub fn iterator_body(
@@ -130,9 +159,7 @@ pub fn iterator_body(
     ensures kept { kept_of state.new ≡ kept_of state.old }
 {
     let ty = library_type(alloc, lib, args)?;
-    let types = iterator_types(alloc, state, word(lib, args), &ty, &Ty::Unit)?;
-    let call = callee(alloc, state, &ty, &Ty::Unit)?;
-    let name = numbered(alloc, b'f', at)?;
-    let mut function = iterator(alloc, lib, name, types, call)?;
-    Ok(mem::replace(&mut function.body, None))
+    let made = iterator_function(alloc, state, at, lib, word(lib, args), &ty, &Ty::Unit);
+    drop(ty);
+    body_of_made(made)
 }
