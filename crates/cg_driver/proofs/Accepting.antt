@@ -13,8 +13,8 @@ use Rattle.cg_lower.specs.Collected.{Copy}
 use Rattle.cg_resolve_def.specs.Faults.{program_faults}
 use Rattle.cg_resolve_def.specs.Mentions.{mentions}
 use Rattle.cg_resolve_def.specs.Takes.{missing_fields, widest_part, largest_type}
-use Rattle.cg_parser.specs.Grammar.{Spells}
-use Rattle.cg_parser.specs.Answers.{depth_limit}
+use Rattle.cg_parser_def.specs.Grammar.{Spells}
+use Rattle.cg_parser_def.specs.Bounded.{depth_limit}
 use Rattle.cg_surface.specs.Programs.{Entry, program_depth}
 use Rattle.cg_typing.specs.Accepted.{IsAcceptedKernel}
 use Rattle.cg_core.specs.Kernels.{Function}

@@ -1,6 +1,6 @@
 -- From what the functions for certificates answer to what the judgements come to.
 use Rattle.std.proofs.Common.{◌≡◌, ◌<◌, ◌≤◌, inl, inr, ℕ, List, [], ◌∷◌, Result, Ok, Err, length, refl, sym, ap, ◌∙◌, subst}
-use Rattle.std.specs.Prelude.{codes, IfOk, string_bytes}
+use Rattle.std.specs.Prelude.{codes, IfOk, string_bytes, map}
 use Rattle.cg_base.specs.declared.limit.Limit.{Limit}
 use Rattle.cg_base.specs.declared.memory.Memory.{Memory}
 use Rattle.cg_cert.specs.Answers.{Answers as IsReadAs}
@@ -20,7 +20,6 @@ use Rattle.cg_driver_steps.specs.Parts.{IsLine, Reports, Rules, Steps, Judged}
 use Rattle.cg_typing.specs.declared.checked.Checked.{Checked}
 use Rattle.cg_typing.specs.Holds.{cores_in, trees_in}
 use Rattle.cg_typing.specs.Kept.{maybe_core, maybe_tree}
-use Rattle.std.specs.Prelude.{map}
 use Rattle.cg_driver.specs.Commands.{Judges, certified, text_rules, reading_rules, RefusesNode, broken_row, out_of_place, rechecked_line}
 use Rattle.cg_driver.specs.Found.{Found, with_program, with_cert, functions, certificate_limit}
 use Rattle.cg_driver.specs.Judged.{IsCertificate, IsReadSource, KeepsKernel, RefusesCert, RefusesReading, RefusesText}

@@ -28,8 +28,8 @@ use Rattle.cg_heaptext.specs.HeapText.{HeapText}
 use Rattle.cg_core_def.specs.Lawful.{IsLawfulKernel}
 use Rattle.cg_resolve_names.specs.Says.{IsFirst}
 use Rattle.cg_resolve_takes.specs.Says as takes
-use Rattle.cg_parser.specs.Grammar.{Spells}
-use Rattle.cg_parser.specs.Answers.{depth_limit}
+use Rattle.cg_parser_def.specs.Grammar.{Spells}
+use Rattle.cg_parser_def.specs.Bounded.{depth_limit}
 use Rattle.cg_parser_laws.proofs.ItemFaults.{spelled_ordered}
 use Rattle.cg_parser_laws.proofs.ItemTakes.{spelled_growing}
 use Rattle.cg_parser_laws.proofs.Spelling.{spelled_named}

@@ -9,8 +9,8 @@ use Rattle.cg_check.specs.Judged.{IsChecked}
 use Rattle.cg_faults.specs.Fails.{AreTypesWithin}
 use Rattle.cg_core.specs.Kernels.{Function, kernel_of}
 use Rattle.cg_resolve_def.specs.Desugar.{functions_of, NamesStand, WithinLimits}
-use Rattle.cg_parser.specs.Grammar.{Spells}
-use Rattle.cg_parser.specs.Answers.{depth_limit}
+use Rattle.cg_parser_def.specs.Grammar.{Spells}
+use Rattle.cg_parser_def.specs.Bounded.{depth_limit}
 use Rattle.cg_surface.specs.Programs.{Entry, program_depth}
 use Rattle.cg_typing.specs.Accepted.{IsAcceptedKernel}
 use Rattle.cg_typing.specs.declared.checked.Checked.{Checked}

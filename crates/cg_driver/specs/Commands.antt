@@ -25,7 +25,7 @@ use Rattle.cg_faults.specs.Rule.{rule, type_limit}
 use Rattle.cg_heaptext.specs.HeapText.{HeapText}
 use Rattle.cg_core_def.specs.Lawful.{IsLawfulKernel}
 use Rattle.cg_resolve_names.specs.Says.{IsFirst}
-use Rattle.cg_parser.specs.Grammar.{Spells}
+use Rattle.cg_parser_def.specs.Grammar.{Spells}
 use Rattle.cg_parser.specs.Answers.{Answers as Parses}
 use Rattle.cg_parser.specs.declared.fault.ParseFault.TheVariants.{S1, S2, S3, S4}
 use Rattle.cg_resolve.specs.Answers.{IsCircleAt}

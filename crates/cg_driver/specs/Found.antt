@@ -7,7 +7,7 @@ use Rattle.cg_lower.specs.Collected.{Copy}
 use Rattle.cg_core.specs.Kernels.{Function}
 use Rattle.cg_resolve_def.specs.Desugar.{functions_of, functions_limit, parts_limit, type_limit, term_limit, deepest_body}
 use Rattle.cg_resolve_def.specs.Takes.{widest_part, largest_type}
-use Rattle.cg_parser.specs.Answers.{depth_limit}
+use Rattle.cg_parser_def.specs.Bounded.{depth_limit}
 use Rattle.cg_surface.specs.Programs.{Entry, program_depth}
 
 -- the bytes of the source, the program that they spell, its instances with their types and bodies, the bytes of the certificate file, the

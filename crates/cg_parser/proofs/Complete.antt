@@ -12,10 +12,10 @@ use Rattle.cg_surface.specs.Exprs.{Expr}
 use Rattle.cg_surface.specs.Programs.{Entry, synonym, abstract, signature, define}
 use Rattle.cg_parser_symbols.specs.Symbols.{Symbol, lower, upper, type_word, all_word, opening, closing, colon, has_kinds, equals, comma, dot, Seen, is_first}
 use Rattle.cg_parser_symbols.specs.Readings.{◌then◌, head, inner, inner_sign, ArePast, IsPart}
-use Rattle.cg_parser.specs.Grammar.{no_kinds, bound, ReadsParams, ReadsVar, VarsBefore, ReadsAll, nothing, alone, listed, ReadsEntry, ReadsProgram}
-use Rattle.cg_parser.specs.Machine.{State, Between, AfterType, InParams, InSynonym, AfterName, AfterColon, AfterAll, WantVar, AfterVar, WantKinds, AfterKinds, WantDot, InSignature, InParam, InBody}
-use Rattle.cg_parser.specs.Machine as machine
-use Rattle.cg_parser.specs.Plain.{entries}
+use Rattle.cg_parser_def.specs.Grammar.{no_kinds, bound, ReadsParams, ReadsVar, VarsBefore, ReadsAll, nothing, alone, listed, ReadsEntry, ReadsProgram}
+use Rattle.cg_parser_def.specs.Machine.{State, Between, AfterType, InParams, InSynonym, AfterName, AfterColon, AfterAll, WantVar, AfterVar, WantKinds, AfterKinds, WantDot, InSignature, InParam, InBody}
+use Rattle.cg_parser_def.specs.Machine as machine
+use Rattle.cg_parser_def.specs.Plain.{entries}
 use Rattle.cg_parser.proofs.Parts.{Ends, opened}
 
 abbrev at : Symbol → Place → Seen

@@ -15,12 +15,11 @@ use Rattle.cg_surface.specs.Exprs as exprs_of
 use Rattle.cg_surface.specs.Programs.{Entry, synonym, abstract, signature, define, entry_depth, program_depth}
 use Rattle.cg_parser_symbols.specs.Symbols.{Symbol, lower, upper, type_word, all_word, opening, closing, colon, has_kinds, equals, comma, dot, Seen, is_first}
 use Rattle.cg_parser_symbols.specs.Follows.{Follows, option_map}
-use Rattle.cg_parser.specs.Answers.{depth_limit}
-use Rattle.cg_parser.specs.Grammar.{are_letters}
-use Rattle.cg_parser.specs.Machine.{State, Between, AfterType, InParams, InSynonym, AfterName, AfterColon, AfterAll, WantVar, AfterVar, WantKinds, AfterKinds, WantDot, InSignature, InParam, InBody, Failed}
-use Rattle.cg_parser.specs.Machine as machine
-use Rattle.cg_parser.specs.Plain.{entries}
-use Rattle.cg_parser.specs.Bounded.{within, within_program, added, both, bounded}
+use Rattle.cg_parser_def.specs.Bounded.{depth_limit, within, within_program, added, both, bounded}
+use Rattle.cg_parser_def.specs.Grammar.{are_letters}
+use Rattle.cg_parser_def.specs.Machine.{State, Between, AfterType, InParams, InSynonym, AfterName, AfterColon, AfterAll, WantVar, AfterVar, WantKinds, AfterKinds, WantDot, InSignature, InParam, InBody, Failed}
+use Rattle.cg_parser_def.specs.Machine as machine
+use Rattle.cg_parser_def.specs.Plain.{entries}
 use Rattle.cg_parser_types.proofs.Follow.{same_cond}
 
 -- the depth of items and one more

@@ -5,7 +5,7 @@ use Rattle.cg_lexer.specs.Tokens.{Lexeme}
 use Rattle.cg_lexer.proofs.Division.{one_division}
 use Rattle.cg_surface.specs.Programs.{Entry}
 use Rattle.cg_parser_symbols.specs.Symbols.{seen}
-use Rattle.cg_parser.specs.Grammar.{SpellsTokens, Spells}
+use Rattle.cg_parser_def.specs.Grammar.{SpellsTokens, Spells}
 use Rattle.cg_parser.proofs.Whole.{plain, laws}
 
 -- tokens spell at most one program

@@ -11,14 +11,16 @@ use Rattle.cg_lexer.proofs.Division.{one_token, none_in_space, none_at_fault, so
 use Rattle.cg_surface.specs.declared.program.Program.{Program}
 use Rattle.cg_surface.specs.Programs.{Entry, program_of, program_depth}
 use Rattle.cg_parser_symbols.specs.Symbols.{Seen, seen}
-use Rattle.cg_parser.specs.Grammar.{SpellsTokens, Spells}
-use Rattle.cg_parser.specs.Answers.{depth_limit, Viable, IsUnexpected, at_token, at_end, IsMisplaced, IsWrongBarIn, NoProgram, Answers, lexer_fault}
+use Rattle.cg_parser_def.specs.Grammar.{SpellsTokens, Spells}
+use Rattle.cg_parser_def.specs.Bounded.{depth_limit}
+use Rattle.cg_parser.specs.Answers.{Viable, IsUnexpected, at_token, at_end, IsMisplaced, IsWrongBarIn, NoProgram, Answers, lexer_fault}
 use Rattle.cg_parser.specs.Laws.{OneAnswer}
-use Rattle.cg_parser.specs.Views.{Held, is_wrong}
+use Rattle.cg_parser_def.specs.Held.{Held, bounded_items}
+use Rattle.cg_parser.specs.Views.{is_wrong}
 use Rattle.cg_parser.specs.declared.fault.ParseFault.{ParseFault}
 use Rattle.cg_parser.specs.declared.fault.ParseFault.TheVariants.{S1, S2, S3, S4, Nesting, Memory}
 use Rattle.cg_parser.proofs.Says.{shut_none}
-use Rattle.cg_parser.proofs.Whole.{plain, bounded_items, held, laws, follows}
+use Rattle.cg_parser.proofs.Whole.{plain, held, laws, follows}
 use Rattle.cg_parser.proofs.Wrong.{wrong_is, wrong_told, wrong_shut}
 
 -- of two divisions from one cursor, one goes on from the other

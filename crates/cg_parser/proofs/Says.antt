@@ -19,9 +19,9 @@ use Rattle.cg_surface.specs.declared.program.Program.{Program}
 use Rattle.cg_surface.specs.Programs.{Entry, program_of, program_depth}
 use Rattle.cg_parser_symbols.specs.Symbols.{Seen, seen}
 use Rattle.cg_parser_symbols.specs.Follows.{Follows, option_map}
-use Rattle.cg_parser.specs.Grammar.{SpellsTokens, Spells}
-use Rattle.cg_parser.specs.Bounded.{within_program}
-use Rattle.cg_parser.specs.Answers.{depth_limit, Viable, at_token, at_end, IsWrongBarIn, Answers, Concludes, lexer_fault}
+use Rattle.cg_parser_def.specs.Grammar.{SpellsTokens, Spells}
+use Rattle.cg_parser_def.specs.Bounded.{within_program, depth_limit}
+use Rattle.cg_parser.specs.Answers.{Viable, at_token, at_end, IsWrongBarIn, Answers, Concludes, lexer_fault}
 use Rattle.cg_parser.specs.declared.fault.ParseFault.{ParseFault}
 use Rattle.cg_parser.specs.declared.fault.ParseFault.TheVariants.{S1, S2, S3, S4, Nesting, Memory}
 use Rattle.cg_parser.proofs.Parts.{run_append, same_run}
@@ -54,8 +54,8 @@ module _ {S H : Type 0} (plain : Reader S Seen (List Entry)) (bounded : Reader H
     pub state : s ≡ run bounded bounded.begin (map seen front)
     pub opened : bounded.is_open s ≡ true
 
-  pub going : (bytes : List ℕ) → Going bytes (start bytes) bounded.begin
-  going bytes = record { front = []; divides = refl; state = refl; opened = ap bounded.is_open follows.begins ∙ follows.opens plain.begin ∙ laws.begins }
+  pub going : (bytes : List ℕ) (at : Cursor) (s : H) → at ≡ start bytes → s ≡ bounded.begin → Going bytes at s
+  going bytes at s e b = record { front = []; divides = sym e; state = b; opened = ap bounded.is_open (b ∙ follows.begins) ∙ follows.opens plain.begin ∙ laws.begins }
 
   -- one token more
   next_state : (front : List Lexeme) (t : Lexeme) (s next : H) → s ≡ run bounded bounded.begin (map seen front) → next ≡ bounded.step s (seen t) → next ≡ run bounded bounded.begin (map seen front ++ seen t ∷ [])

@@ -11,10 +11,10 @@ use Rattle.cg_surface.specs.Exprs.{Expr}
 use Rattle.cg_surface.specs.Programs.{Entry, synonym, abstract, signature, define}
 use Rattle.cg_parser_symbols.specs.Symbols.{Symbol, lower, upper, type_word, all_word, opening, closing, colon, has_kinds, equals, comma, dot, Seen, is_first}
 use Rattle.cg_parser_symbols.specs.Readings.{Reading, ◌then◌, head, inner, inner_sign, IsPart}
-use Rattle.cg_parser.specs.Grammar.{are_letters, kinds_of, no_kinds, bound, ReadsParams, ReadsVar, VarsBefore, ReadsVars, ReadsAll, nothing, alone, listed, head_sign, ReadsEntry, ReadsProgram}
-use Rattle.cg_parser.specs.Machine.{State, Between, AfterType, InParams, InSynonym, AfterName, AfterColon, AfterAll, WantVar, AfterVar, WantKinds, AfterKinds, WantDot, InSignature, InParam, InBody, Failed, name_at}
-use Rattle.cg_parser.specs.Machine as machine
-use Rattle.cg_parser.specs.Plain.{entries}
+use Rattle.cg_parser_def.specs.Grammar.{are_letters, kinds_of, no_kinds, bound, ReadsParams, ReadsVar, VarsBefore, ReadsVars, ReadsAll, nothing, alone, listed, head_sign, ReadsEntry, ReadsProgram}
+use Rattle.cg_parser_def.specs.Machine.{State, Between, AfterType, InParams, InSynonym, AfterName, AfterColon, AfterAll, WantVar, AfterVar, WantKinds, AfterKinds, WantDot, InSignature, InParam, InBody, Failed, name_at}
+use Rattle.cg_parser_def.specs.Machine as machine
+use Rattle.cg_parser_def.specs.Plain.{entries}
 use Rattle.cg_parser.proofs.Parts.{HasRead, nothing_read, read_more, part_read}
 use Rattle.cg_parser.proofs.Complete as complete
 use Rattle.cg_parser.proofs.Complete.{Parts}

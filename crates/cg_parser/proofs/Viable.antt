@@ -11,10 +11,10 @@ use Rattle.cg_surface.specs.Exprs.{Expr}
 use Rattle.cg_surface.specs.Programs.{Entry}
 use Rattle.cg_parser_symbols.specs.Symbols.{Symbol, lower, upper, all_word, closing, colon, equals, dot, Seen, is_first}
 use Rattle.cg_parser_symbols.specs.Readings.{ArePast}
-use Rattle.cg_parser.specs.Grammar.{ReadsProgram}
-use Rattle.cg_parser.specs.Machine.{State, Between, AfterType, InParams, InSynonym, AfterName, AfterColon, AfterAll, WantVar, AfterVar, WantKinds, AfterKinds, WantDot, InSignature, InParam, InBody, Failed}
-use Rattle.cg_parser.specs.Machine as machine
-use Rattle.cg_parser.specs.Plain.{entries}
+use Rattle.cg_parser_def.specs.Grammar.{ReadsProgram}
+use Rattle.cg_parser_def.specs.Machine.{State, Between, AfterType, InParams, InSynonym, AfterName, AfterColon, AfterAll, WantVar, AfterVar, WantKinds, AfterKinds, WantDot, InSignature, InParam, InBody, Failed}
+use Rattle.cg_parser_def.specs.Machine as machine
+use Rattle.cg_parser_def.specs.Plain.{entries}
 use Rattle.cg_parser.proofs.Parts.{completes}
 use Rattle.cg_parser.proofs.Complete as complete
 use Rattle.cg_parser.proofs.Complete.{Parts}

@@ -1,5 +1,5 @@
 -- The parser's reader: that of items, over those of types, patterns and expressions.
-use Rattle.std.proofs.Common.{List, refl, Option}
+use Rattle.std.proofs.Common.{List, refl}
 use Rattle.cg_base.specs.Reader.{Reader, Reads}
 use Rattle.cg_surface.specs.Patterns.{Pattern}
 use Rattle.cg_surface.specs.Programs.{Entry}
@@ -17,12 +17,13 @@ use Rattle.cg_parser_build.specs.Bounded.{within as expr_within}
 use Rattle.cg_parser_exprs_def.specs.Read.{ExprStage, expr_reader}
 use Rattle.cg_parser_exprs_laws.proofs.Exactly as exprs_exactly
 use Rattle.cg_parser_exprs_laws.proofs.Viable as expr_ends
-use Rattle.cg_parser.specs.Bounded.{bounded, within_program}
-use Rattle.cg_parser.specs.Grammar.{SpellsTokens, SpellsExpr}
-use Rattle.cg_parser.specs.Machine.{State}
-use Rattle.cg_parser.specs.Machine as machine
-use Rattle.cg_parser.specs.Plain.{entries}
-use Rattle.cg_parser.specs.Views.{types, patterns, exprs, ExprHeld, Held}
+use Rattle.cg_parser_def.specs.Bounded.{within_program}
+use Rattle.cg_parser_def.specs.Grammar.{SpellsTokens, SpellsExpr}
+use Rattle.cg_parser_def.specs.Machine.{State}
+use Rattle.cg_parser_def.specs.Machine as machine
+use Rattle.cg_parser_def.specs.Plain.{entries}
+use Rattle.cg_parser_exprs_def.specs.Held.{types, patterns}
+use Rattle.cg_parser_def.specs.Held.{exprs, ExprHeld, Held, bounded_items}
 use Rattle.cg_parser.proofs.Complete.{Parts}
 use Rattle.cg_parser.proofs.Viable as viable
 use Rattle.cg_parser.proofs.Follow as follow
@@ -32,9 +33,6 @@ Stage = State plain_types.Stage plain_patterns.Stage ExprStage Pattern (List Ent
 
 abbrev pub plain : Reader Stage Seen (List Entry)
 plain = machine.reader plain_types.plain_reader plain_patterns.plain_reader expr_reader entries
-
-abbrev pub bounded_items : Reader Held Seen (Option (List Entry))
-bounded_items = machine.reader types patterns exprs bounded
 
 pub parts : Parts plain_types.Stage plain_patterns.Stage ExprStage plain_types.plain_reader plain_patterns.plain_reader expr_reader SpellsType SpellsPattern SpellsExpr
 parts = record {

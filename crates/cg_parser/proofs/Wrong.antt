@@ -13,13 +13,14 @@ use Rattle.cg_parser_exprs_def.specs.Read.{ExprStage, expr_reader}
 use Rattle.cg_parser_exprs_laws.proofs.Exactly.{asked}
 use Rattle.cg_parser_exprs_laws.proofs.Wrong as exprs_wrong
 use Rattle.cg_parser.specs.Answers.{IsWrongBarIn}
-use Rattle.cg_parser.specs.Grammar.{SpellsExpr}
-use Rattle.cg_parser.specs.Machine.{InBody}
-use Rattle.cg_parser.specs.Views.{Held, is_wrong}
-use Rattle.cg_parser.specs.Bounded.{within_program}
+use Rattle.cg_parser_def.specs.Grammar.{SpellsExpr}
+use Rattle.cg_parser_def.specs.Machine.{InBody}
+use Rattle.cg_parser_def.specs.Held.{Held, bounded_items}
+use Rattle.cg_parser.specs.Views.{is_wrong}
+use Rattle.cg_parser_def.specs.Bounded.{within_program}
 use Rattle.cg_parser.proofs.Misplaced as misplaced
 use Rattle.cg_parser.proofs.Parts.{same_run}
-use Rattle.cg_parser.proofs.Whole.{parts, expr_held, Stage, plain, bounded_items, held, follows}
+use Rattle.cg_parser.proofs.Whole.{parts, expr_held, Stage, plain, held, follows}
 
 -- whether a reader of expressions stopped there
 abbrev stops : ExprStage → Bool

@@ -17,13 +17,10 @@ use Rattle.cg_parser_symbols.specs.Readings.{◌then◌, head, inner_sign, IsPar
 use Rattle.cg_parser_types.specs.Grammar.{SpellsType}
 use Rattle.cg_parser_patterns.specs.Grammar.{SpellsPattern}
 use Rattle.cg_parser_exprs_def.specs.Unfinished.{IsWrongBar}
-use Rattle.cg_parser.specs.Grammar.{ReadsProgram, SpellsExpr, SpellsTokens, Spells}
+use Rattle.cg_parser_def.specs.Bounded.{depth_limit}
+use Rattle.cg_parser_def.specs.Grammar.{ReadsProgram, SpellsExpr, SpellsTokens, Spells}
 use Rattle.cg_parser.specs.declared.fault.ParseFault.{ParseFault}
 use Rattle.cg_parser.specs.declared.fault.ParseFault.TheVariants.{S1, S2, S3, S4, Nesting, Memory}
-
--- no program has more depth
-abbrev pub depth_limit : ℕ
-depth_limit = 1024
 
 -- tokens that some program begins with, up to a cursor
 pub record Viable (bytes : List ℕ) (front : List Lexeme) (at : Cursor) : Type 0 where

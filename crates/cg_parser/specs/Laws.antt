@@ -3,7 +3,7 @@ use Rattle.std.specs.Prelude.{◌≡◌, ℕ, List, Result, Ok, Err}
 use Rattle.cg_surface.specs.declared.program.Program.{Program}
 use Rattle.cg_surface.specs.Programs.{Entry, program_of}
 use Rattle.cg_parser.specs.Answers.{Answers}
-use Rattle.cg_parser.specs.Grammar.{Spells}
+use Rattle.cg_parser_def.specs.Grammar.{Spells}
 use Rattle.cg_parser.specs.declared.fault.ParseFault.{ParseFault}
 use Rattle.cg_parser.specs.declared.fault.ParseFault.TheVariants.{Memory}
 

@@ -1,7 +1,3 @@
 pub mod Answers
-pub mod Bounded
-pub mod Grammar
 pub mod Laws
-pub mod Machine
-pub mod Plain
 pub mod Views

@@ -4,21 +4,49 @@ ghost use Rattle.cg_lexer.specs.Tokens.{lexeme};
 ghost use Rattle.cg_surface.specs.Programs.{Entry};
 ghost use Rattle.cg_parser_symbols.specs.Symbols.{equals, seen};
 ghost use Rattle.cg_parser_symbols.specs.Views.{symbol_view};
-ghost use Rattle.cg_parser.specs.Bounded.{bounded};
-ghost use Rattle.cg_parser.specs.Machine as machine;
-ghost use Rattle.cg_parser.specs.Views.{types, patterns, exprs, items_of, Read, parts_of, state_of};
-ghost use Rattle.cg_parser.specs.declared.phase.Phase.TheVariants.{InSynonym, InSignature, InBody};
+ghost use Rattle.cg_parser_exprs_def.specs.Held.{types, patterns};
+ghost use Rattle.cg_parser_def.specs.Bounded.{bounded};
+ghost use Rattle.cg_parser_def.specs.Held.{exprs};
+ghost use Rattle.cg_parser_def.specs.Machine as machine;
+ghost use Rattle.cg_parser_items.specs.Views.{items_of, pat_of, state_of};
+ghost use Rattle.cg_parser.specs.Views.{parts_of, expr_end};
+ghost use Rattle.cg_parser_items.specs.declared.phase.Phase.TheVariants.{InSynonym, InSignature, InBody};
 
-use crate::add::{add, end_body, end_signature, end_synonym};
-use crate::kinds::{are_letters, kinds_of, no_kinds};
-use crate::phase::{Parts, Phase, Vars};
-use cg_base::{Bound, Items, Memory, Name, Place};
+use crate::readers::Parts;
+use cg_base::{Items, Memory, Name, Place};
 use cg_core::At;
 use cg_lexer::Token;
+use cg_parser_exprs::ExprEnd;
+use cg_parser_items::add::{add, end_signature, end_synonym};
+use cg_parser_items::heads::{after_colon, after_name, after_type, in_params};
+use cg_parser_items::phase::{Phase, Vars};
+use cg_parser_items::vars::{after_all, after_kinds, after_var, want_dot, want_kinds, want_var};
 use cg_parser_patterns::PatternEnd;
 use cg_parser_symbols::{Symbol, symbol_at};
 use cg_surface::{Item, Pat, Program};
 use std::alloc::Global;
+
+/// Ends a definition, where its body can end.
+fn end_body(
+    done: &mut Option<Program>,
+    at: At,
+    param: Option<Pat>,
+    end: ExprEnd,
+) -> Result<bool, Memory>
+    ensures { IfOk result (λ b. machine.end_body types patterns exprs bounded (items_of done.old) at (pat_of param) (expr_end end) ≡ (if b then Some (items_of done.new) else None)) }
+{
+    let item = match (param, end) {
+        (_, ExprEnd::Unfinished) => return Ok(false),
+        (Some(param), ExprEnd::Whole(built)) => Some(Item::Define {
+            at,
+            param,
+            body: built.tree,
+        }),
+        _ => None,
+    };
+    add(done, item)?;
+    Ok(true)
+}
 
 /// Ends the last item, where it can end.
 pub(crate) fn finish(
@@ -75,182 +103,6 @@ fn head<'a>(
         }
         Symbol::TypeWord => Ok(Phase::AfterType),
         _ => Ok(Phase::Failed),
-    }
-}
-
-/// Behind the word `type`.
-fn after_type<'a>(alloc: Global, symbol: Symbol<'a>, place: Place) -> Result<Phase, Memory>
-    ensures { IfOk result (λ m. (done : Option (List Entry)) (parts : Read) → state_of done m parts ≡ machine.after_type types patterns exprs bounded done (symbol_view symbol.entry) place) }
-{
-    match symbol {
-        Symbol::Upper(name) => {
-            let name = Name::new(alloc, name)?;
-            Ok(Phase::InParams(At { place, name }, Items::new(alloc)))
-        }
-        _ => Ok(Phase::Failed),
-    }
-}
-
-/// Among the parameters of a type.
-fn in_params<'a>(
-    alloc: Global,
-    parts: &mut Parts,
-    at: At,
-    params: Items<At>,
-    symbol: Symbol<'a>,
-    place: Place,
-) -> Result<Phase, Memory>
-    ensures { IfOk result (λ m. (done : Option (List Entry)) → state_of done m (parts_of parts.new) ≡ machine.in_params types patterns exprs bounded done at params (symbol_view symbol.entry) place) }
-{
-    match symbol {
-        Symbol::Lower(name) => {
-            let name = Name::new(alloc, name)?;
-            let mut params = params;
-            params.push(At { place, name })?;
-            Ok(Phase::InParams(at, params))
-        }
-        Symbol::Equals => {
-            parts.types.begin(alloc);
-            Ok(Phase::InSynonym(at, params))
-        }
-        _ => Ok(Phase::Failed),
-    }
-}
-
-/// Behind the name of an item: a colon, or else a parameter.
-fn after_name<'a>(
-    alloc: Global,
-    parts: &mut Parts,
-    at: At,
-    symbol: Symbol<'a>,
-    place: Place,
-) -> Result<Phase, Memory>
-    ensures { IfOk result (λ m. (done : Option (List Entry)) → state_of done m (parts_of parts.new) ≡ machine.after_name types patterns exprs bounded done at (symbol_view symbol.entry) place) }
-{
-    match symbol {
-        Symbol::Colon => Ok(Phase::AfterColon(at)),
-        _ => {
-            parts.patterns.begin(alloc);
-            parts.patterns.step(alloc, symbol, place)?;
-            Ok(Phase::InParam(at))
-        }
-    }
-}
-
-/// Behind the colon of a signature: `all`, or else its type.
-fn after_colon<'a>(
-    alloc: Global,
-    parts: &mut Parts,
-    at: At,
-    symbol: Symbol<'a>,
-    place: Place,
-) -> Result<Phase, Memory>
-    ensures { IfOk result (λ m. (done : Option (List Entry)) → state_of done m (parts_of parts.new) ≡ machine.after_colon types patterns exprs bounded done at (symbol_view symbol.entry) place) }
-{
-    match symbol {
-        Symbol::All => Ok(Phase::AfterAll(at)),
-        _ => {
-            parts.types.begin(alloc);
-            parts.types.step(alloc, symbol, place)?;
-            Ok(Phase::InSignature(at, Vars::new(alloc)))
-        }
-    }
-}
-
-/// Behind `all`: one type variable, or a parenthesis round some.
-fn after_all<'a>(alloc: Global, at: At, symbol: Symbol<'a>, place: Place) -> Result<Phase, Memory>
-    ensures { IfOk result (λ m. (done : Option (List Entry)) (parts : Read) → state_of done m parts ≡ machine.after_all types patterns exprs bounded done at (symbol_view symbol.entry) place) }
-{
-    match symbol {
-        Symbol::Lower(name) => {
-            let name = Name::new(alloc, name)?;
-            let kinds = no_kinds();
-            let vars = Vars::new(alloc).with(Bound { name, kinds }, place)?;
-            Ok(Phase::WantDot(at, vars))
-        }
-        Symbol::Opening => Ok(Phase::WantVar(at, Vars::new(alloc))),
-        _ => Ok(Phase::Failed),
-    }
-}
-
-/// Where a type variable is wanted.
-fn want_var<'a>(
-    alloc: Global,
-    at: At,
-    vars: Vars,
-    symbol: Symbol<'a>,
-    place: Place,
-) -> Result<Phase, Memory>
-    ensures { IfOk result (λ m. (done : Option (List Entry)) (parts : Read) → state_of done m parts ≡ machine.want_var types patterns exprs bounded done at vars.bounds vars.places (symbol_view symbol.entry) place) }
-{
-    match symbol {
-        Symbol::Lower(name) => Ok(Phase::AfterVar(at, vars, Name::new(alloc, name)?, place)),
-        _ => Ok(Phase::Failed),
-    }
-}
-
-/// Behind a type variable with its kinds.
-fn after_kinds<'a>(
-    at: At,
-    vars: Vars,
-    bound: Bound,
-    place: Place,
-    symbol: Symbol<'a>,
-) -> Result<Phase, Memory>
-    ensures { IfOk result (λ m. (done : Option (List Entry)) (parts : Read) → state_of done m parts ≡ machine.after_kinds types patterns exprs bounded done at vars.bounds vars.places bound place (symbol_view symbol.entry)) }
-{
-    match symbol {
-        Symbol::Comma => Ok(Phase::WantVar(at, vars.with(bound, place)?)),
-        Symbol::Closing => Ok(Phase::WantDot(at, vars.with(bound, place)?)),
-        _ => Ok(Phase::Failed),
-    }
-}
-
-/// Behind the name of a type variable.
-fn after_var<'a>(
-    at: At,
-    vars: Vars,
-    name: Name,
-    place: Place,
-    symbol: Symbol<'a>,
-) -> Result<Phase, Memory>
-    ensures { IfOk result (λ m. (done : Option (List Entry)) (parts : Read) → state_of done m parts ≡ machine.after_var types patterns exprs bounded done at vars.bounds vars.places name place (symbol_view symbol.entry)) }
-{
-    match symbol {
-        Symbol::HasKinds => Ok(Phase::WantKinds(at, vars, name, place)),
-        _ => {
-            let kinds = no_kinds();
-            after_kinds(at, vars, Bound { name, kinds }, place, symbol)
-        }
-    }
-}
-
-/// Behind `:<`.
-fn want_kinds<'a>(at: At, vars: Vars, name: Name, place: Place, symbol: Symbol<'a>) -> Phase
-    ensures { (done : Option (List Entry)) (parts : Read) → state_of done result parts ≡ machine.want_kinds types patterns exprs bounded done at vars.bounds vars.places name place (symbol_view symbol.entry) }
-{
-    match symbol {
-        Symbol::Upper(letters) => {
-            if !are_letters(letters) {
-                return Phase::Failed;
-            }
-            let kinds = kinds_of(letters);
-            Phase::AfterKinds(at, vars, Bound { name, kinds }, place)
-        }
-        _ => Phase::Failed,
-    }
-}
-
-/// Behind the type variables.
-fn want_dot<'a>(alloc: Global, parts: &mut Parts, at: At, vars: Vars, symbol: Symbol<'a>) -> Phase
-    ensures { (done : Option (List Entry)) → state_of done result (parts_of parts.new) ≡ machine.want_dot types patterns exprs bounded done at vars.bounds vars.places (symbol_view symbol.entry) }
-{
-    match symbol {
-        Symbol::Dot => {
-            parts.types.begin(alloc);
-            Phase::InSignature(at, vars)
-        }
-        _ => Phase::Failed,
     }
 }
 
@@ -347,16 +199,23 @@ fn inside<'a>(
     match phase {
         Phase::Between | Phase::Failed => Ok(Phase::Failed),
         Phase::AfterType => after_type(alloc, symbol, place),
-        Phase::InParams(at, params) => in_params(alloc, parts, at, params, symbol, place),
+        Phase::InParams(at, params) => in_params(
+            alloc,
+            &mut parts.types,
+            at,
+            params,
+            symbol,
+            place,
+        ),
         Phase::InSynonym(at, params) => in_synonym(alloc, parts, at, params, symbol, place),
-        Phase::AfterName(at) => after_name(alloc, parts, at, symbol, place),
-        Phase::AfterColon(at) => after_colon(alloc, parts, at, symbol, place),
+        Phase::AfterName(at) => after_name(alloc, &mut parts.patterns, at, symbol, place),
+        Phase::AfterColon(at) => after_colon(alloc, &mut parts.types, at, symbol, place),
         Phase::AfterAll(at) => after_all(alloc, at, symbol, place),
         Phase::WantVar(at, vars) => want_var(alloc, at, vars, symbol, place),
         Phase::AfterVar(at, vars, name, q) => after_var(at, vars, name, q, symbol),
         Phase::WantKinds(at, vars, name, q) => Ok(want_kinds(at, vars, name, q, symbol)),
         Phase::AfterKinds(at, vars, bound, q) => after_kinds(at, vars, bound, q, symbol),
-        Phase::WantDot(at, vars) => Ok(want_dot(alloc, parts, at, vars, symbol)),
+        Phase::WantDot(at, vars) => Ok(want_dot(alloc, &mut parts.types, at, vars, symbol)),
         Phase::InSignature(at, vars) => in_signature(alloc, parts, at, vars, symbol, place),
         Phase::InParam(at) => in_param(alloc, parts, at, symbol, place),
         Phase::InBody(at, param) => in_body(alloc, parts, at, param, symbol, place),

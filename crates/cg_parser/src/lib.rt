@@ -5,13 +5,11 @@
 //! docs/LANGUAGE.md, "Grammar", says what is spelled. The parts of items are read by the readers of types, patterns and expressions.
 #![tactic(auto)]
 
-mod add;
 mod fault;
 mod item;
-mod kinds;
 mod law;
-mod phase;
 mod program;
+mod readers;
 
 pub use fault::ParseFault;
 pub use law::{one_answer, one_program};

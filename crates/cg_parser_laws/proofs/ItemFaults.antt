@@ -14,7 +14,7 @@ use Rattle.cg_resolve_def.specs.Faults.{Before, NameFault, unknown, twice, again
 use Rattle.cg_resolve_def.specs.Order.{AreOrdered}
 use Rattle.cg_parser_types.specs.Grammar.{SpellsType}
 use Rattle.cg_parser_patterns.specs.Grammar.{SpellsPattern}
-use Rattle.cg_parser.specs.Grammar.{ReadsAll, ReadsEntry, ReadsParams, ReadsProgram, ReadsVar, ReadsVars, SpellsExpr, VarsBefore, nothing, alone, listed}
+use Rattle.cg_parser_def.specs.Grammar.{ReadsAll, ReadsEntry, ReadsParams, ReadsProgram, ReadsVar, ReadsVars, SpellsExpr, VarsBefore, nothing, alone, listed}
 use Rattle.cg_parser_laws.specs.Laws.{SpelledFaultsAreOrdered}
 use Rattle.cg_parser_laws.proofs.ExprFaults.{spelled_expr_spans}
 use Rattle.cg_parser_laws.proofs.Names.{again_stands, at_key, fault_key, twins_spans}

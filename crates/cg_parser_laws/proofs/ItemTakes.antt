@@ -15,7 +15,7 @@ use Rattle.cg_resolve_def.specs.Takes.{Alone, missing_fields, missing_from, take
 use Rattle.cg_resolve_def.specs.Order.{AreGrowing}
 use Rattle.cg_parser_types.specs.Grammar.{SpellsType}
 use Rattle.cg_parser_patterns.specs.Grammar.{SpellsPattern}
-use Rattle.cg_parser.specs.Grammar.{ReadsEntry, ReadsProgram, SpellsExpr}
+use Rattle.cg_parser_def.specs.Grammar.{ReadsEntry, ReadsProgram, SpellsExpr}
 use Rattle.cg_parser_laws.specs.Laws.{SpelledTakesGrow}
 use Rattle.cg_parser_laws.proofs.ExprTakes.{spelled_expr_takes}
 use Rattle.cg_parser_laws.proofs.ItemFaults.{all_spans, params_spans}

@@ -11,7 +11,7 @@ use Rattle.cg_surface.specs.Programs.{Entry, synonym, abstract, signature, defin
 use Rattle.cg_parser_symbols.specs.Symbols.{Seen, seen}
 use Rattle.cg_parser_types.specs.Grammar.{SpellsType}
 use Rattle.cg_parser_patterns.specs.Grammar.{SpellsPattern}
-use Rattle.cg_parser.specs.Grammar.{ReadsAll, ReadsEntry, ReadsProgram, ReadsVars, SpellsExpr, VarsBefore, nothing, alone, listed}
+use Rattle.cg_parser_def.specs.Grammar.{ReadsAll, ReadsEntry, ReadsProgram, ReadsVars, SpellsExpr, VarsBefore, nothing, alone, listed}
 use Rattle.cg_resolve_def.specs.Shaped.{IsShapedEntry, IsShapedExpr, IsShapedPattern, IsShapedType}
 use Rattle.cg_parser_laws.specs.Laws.{SpelledIsShaped}
 use Rattle.cg_parser_laws.proofs.Exprs.{spelled_expr_shaped}

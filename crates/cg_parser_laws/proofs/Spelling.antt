@@ -10,7 +10,7 @@ use Rattle.cg_resolve_def.specs.Desugar.{function_of_entry}
 use Rattle.cg_lexer.specs.declared.token.TokenKind.{TokenKind}
 use Rattle.cg_lexer.specs.declared.token.TokenKind.TheVariants.{Lower, Upper, Number, Word, Sign, End}
 use Rattle.cg_lexer.specs.Tokens.{Cursor, Divides, IsTextOf, Lexeme, start}
-use Rattle.cg_parser.specs.Grammar.{ReadsAll, ReadsEntry, ReadsParams, ReadsProgram, ReadsVar, ReadsVars, SpellsExpr, VarsBefore, nothing, alone, listed}
+use Rattle.cg_parser_def.specs.Grammar.{ReadsAll, ReadsEntry, ReadsParams, ReadsProgram, ReadsVar, ReadsVars, SpellsExpr, VarsBefore, nothing, alone, listed}
 use Rattle.cg_parser_laws.specs.Laws.{IsNamed, SpelledIsNamed}
 use Rattle.cg_parser_patterns.specs.Grammar.{SpellsPattern}
 use Rattle.cg_parser_types.specs.Grammar.{SpellsType}

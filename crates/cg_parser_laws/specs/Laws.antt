@@ -10,7 +10,7 @@ use Rattle.cg_resolve_def.specs.Faults.{program_faults}
 use Rattle.cg_resolve_def.specs.Order.{AreGrowing, AreOrdered}
 use Rattle.cg_resolve_def.specs.Takes.{missing_fields}
 use Rattle.cg_resolve_def.specs.Shaped.{IsShaped}
-use Rattle.cg_parser.specs.Grammar.{Spells}
+use Rattle.cg_parser_def.specs.Grammar.{Spells}
 
 -- each program that the bytes of a text spell has a shape that the grammar gives
 abbrev pub SpelledIsShaped : Type 0

@@ -1,60 +1,21 @@
 // Where among items the reader stands.
 ghost use Rattle.std.specs.Prelude.{◌≡◌, [], ◌∷◌, ◌++◌, IfOk};
-ghost use Rattle.cg_parser.specs.Views.{types, patterns, exprs, parts_of};
 
 use cg_base::{Bound, Items, Memory, Name, Place};
 use cg_core::At;
-use cg_parser_exprs::ExprReader;
-use cg_parser_patterns::PatternReader;
-use cg_parser_types::TypeReader;
 use cg_surface::Pat;
 use std::alloc::Global;
 
-/// The readers of the parts of an item.
-pub(crate) struct Parts {
-    pub(crate) types: TypeReader,
-    pub(crate) patterns: PatternReader,
-    pub(crate) exprs: ExprReader,
-}
-
-impl Drop for Parts {
-    fn drop(self) {
-        let Parts {
-            types,
-            patterns,
-            exprs,
-        } = self;
-        drop(types);
-        drop(patterns);
-        drop(exprs);
-    }
-}
-
-impl Parts {
-    /// Each where it begins.
-    pub(crate) fn new(alloc: Global) -> Parts
-        ensures types { (parts_of result).types ≡ types.begin }
-        ensures patterns { (parts_of result).patterns ≡ patterns.begin }
-        ensures exprs { (parts_of result).exprs ≡ exprs.begin }
-    {
-        Parts {
-            types: TypeReader::new(alloc),
-            patterns: PatternReader::new(alloc),
-            exprs: ExprReader::new(alloc),
-        }
-    }
-}
-
 /// Type variables with their constraints, and where they are written.
 #[derive(Drop)]
-pub(crate) struct Vars {
-    pub(crate) bounds: Items<Bound>,
-    pub(crate) places: Items<Place>,
+pub struct Vars {
+    pub bounds: Items<Bound>,
+    pub places: Items<Place>,
 }
 
 impl Vars {
     /// None.
-    pub(crate) fn new(alloc: Global) -> Vars
+    pub fn new(alloc: Global) -> Vars
         ensures bounds { result.bounds ≡ [] }
         ensures places { result.places ≡ [] }
     {
@@ -65,7 +26,7 @@ impl Vars {
     }
 
     /// With one more.
-    pub(crate) fn with(self, bound: Bound, place: Place) -> Result<Vars, Memory>
+    pub fn with(self, bound: Bound, place: Place) -> Result<Vars, Memory>
         ensures bounds { IfOk result (λ vars. vars.bounds ≡ self.bounds ++ bound ∷ []) }
         ensures places { IfOk result (λ vars. vars.places ≡ self.places ++ place ∷ []) }
     {
@@ -81,7 +42,7 @@ impl Vars {
 /// behind one; behind its `:<`; behind its kinds; behind all of them; in the type of a signature; in a parameter; in
 /// a body; or where nothing goes on. A parameter that is too deep is none.
 #[derive(Drop)]
-pub(crate) enum Phase {
+pub enum Phase {
     Between,
     AfterType,
     InParams(At, Items<At>),

@@ -1,12 +1,15 @@
 -- The machine over items up to the depth of the language, past which there is none.
-use Rattle.std.specs.Prelude.{List, [], ◌∷◌, ◌++◌, Option, Some, None, nat_le, if◌then◌else◌}
+use Rattle.std.specs.Prelude.{ℕ, List, [], ◌∷◌, ◌++◌, Option, Some, None, nat_le, if◌then◌else◌}
 use Rattle.cg_surface.specs.Written.{Written}
 use Rattle.cg_surface.specs.Patterns.{Pattern}
 use Rattle.cg_surface.specs.Exprs.{Expr}
 use Rattle.cg_surface.specs.Programs.{Entry, synonym, abstract, signature, define, entry_depth, program_depth}
 use Rattle.cg_parser_symbols.specs.Follows.{option_map}
-use Rattle.cg_parser.specs.Answers.{depth_limit}
-use Rattle.cg_parser.specs.Machine.{Builder}
+use Rattle.cg_parser_def.specs.Machine.{Builder}
+
+-- no program has more depth
+abbrev pub depth_limit : ℕ
+depth_limit = 1024
 
 -- an item, where it is no deeper than allowed; and items, where none is deeper
 abbrev pub within : Entry → Option Entry

@@ -1,7 +1,7 @@
 // Kinds, as they are written: some of the letters D, S and E.
 ghost use Rattle.std.specs.Prelude.{◌≡◌, ◌==◌};
 ghost use Rattle.std.specs.List.{list_any};
-ghost use Rattle.cg_parser.specs.Grammar.{is_letter as is_kind, are_letters as are_kinds, kinds_of as kinds_in, no_kinds as none_of_them};
+ghost use Rattle.cg_parser_def.specs.Grammar.{is_letter as is_kind, are_letters as are_kinds, kinds_of as kinds_in, no_kinds as none_of_them};
 
 use cg_base::Kinds;
 

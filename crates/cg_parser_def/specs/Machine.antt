@@ -5,7 +5,7 @@ use Rattle.cg_base.specs.declared.place.Place.{Place}
 use Rattle.cg_base.specs.Reader.{Reader}
 use Rattle.cg_core.specs.declared.at.At.{At}
 use Rattle.cg_parser_symbols.specs.Symbols.{Symbol, lower, upper, type_word, all_word, opening, closing, colon, has_kinds, equals, comma, dot, Seen, is_first}
-use Rattle.cg_parser.specs.Grammar.{are_letters, kinds_of, no_kinds, bound}
+use Rattle.cg_parser_def.specs.Grammar.{are_letters, kinds_of, no_kinds, bound}
 
 -- how items are added to those before them, where types, patterns and expressions are of some kind
 pub record Builder (T P X D : Type 0) : Type 0 where

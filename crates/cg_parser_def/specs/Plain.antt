@@ -4,7 +4,7 @@ use Rattle.cg_surface.specs.Written.{Written}
 use Rattle.cg_surface.specs.Patterns.{Pattern}
 use Rattle.cg_surface.specs.Exprs.{Expr}
 use Rattle.cg_surface.specs.Programs.{Entry, synonym, abstract, signature, define}
-use Rattle.cg_parser.specs.Machine.{Builder}
+use Rattle.cg_parser_def.specs.Machine.{Builder}
 
 -- lists of items as they are
 abbrev pub entries : Builder Written Pattern Expr (List Entry)

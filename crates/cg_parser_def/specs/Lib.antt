@@ -1,0 +1,5 @@
+pub mod Bounded
+pub mod Grammar
+pub mod Held
+pub mod Machine
+pub mod Plain
