@@ -1,18 +1,14 @@
 -- Operands of an operator in their list.
-use Rattle.std.proofs.Common.{◌≡◌, Bool, Option, None, List, [], ◌∷◌, length, map, refl, ap, ◌∙◌}
+use Rattle.std.proofs.Common.{◌≡◌, Bool, Option, None, List, [], ◌∷◌, length, map, refl}
 use Rattle.cg_base.specs.declared.kind.Kinds.{Kinds}
 use Rattle.cg_base.specs.declared.place.Place.{Place}
 use Rattle.cg_base.specs.Types as types
 use Rattle.cg_base.specs.Types.{Tau}
-use Rattle.cg_check_context.proofs.SourceSteps.{types_long}
 use Rattle.cg_check_def.specs.Pass.{check_shape, leaf}
 use Rattle.cg_core.specs.declared.derivation.Node.TheVariants as nodes
 use Rattle.cg_core.specs.declared.op.Op.{Op}
-use Rattle.cg_core.specs.declared.term.Form.{the_lemmas}
-use Rattle.cg_core.specs.declared.term.Form.TheVariants.{Op as OpForm}
 use Rattle.cg_core.specs.declared.term.Term.{Term}
-use Rattle.cg_core.specs.declared.term.Typed.{Typed}
-use Rattle.cg_core.specs.Kernels.{Function, the_core, the_core_form, the_term}
+use Rattle.cg_core.specs.Kernels.{Function, the_term}
 use Rattle.cg_core.specs.Terms.{none, op, to_trees}
 
 -- neither
@@ -24,12 +20,3 @@ other_operands functions vars p before direction place o [] h k = refl
 other_operands functions vars p before direction place o (x ∷ []) h k = absurd (h refl)
 other_operands functions vars p before direction place o (x ∷ y ∷ []) h k = absurd (k refl)
 other_operands functions vars p before direction place o (x ∷ y ∷ z ∷ ts) h k = refl
-
--- the form of an operator without any
-pub bare_form : (o : Op) (ts : List (Term Typed)) → ts ≡ [] → the_core_form (OpForm o ts) ≡ op o none
-unfolding to_trees
-bare_form o ts e =
-    let form : the_core_form (OpForm o ts) ≡ op o (to_trees (map the_core ts)) = search the_lemmas in
-    form ∙ ap (λ us. op o (to_trees (map the_core us))) e
-
-pub ruleset bare_steps = (types_long, bare_form)

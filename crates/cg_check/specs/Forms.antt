@@ -1,41 +1,31 @@
 -- Forms of nodes as one step of the pass after another, where tests stand between their parts.
 use Rattle.std.specs.Prelude.{Bool, false, not, Option, Some, None, List, length, Ok, true}
 use Rattle.cg_base.specs.declared.kind.Kinds.{Kinds}
-use Rattle.cg_base.specs.declared.kind.Sigil.TheVariants.{U}
 use Rattle.cg_base.specs.declared.place.Place.{Place}
 use Rattle.cg_base.specs.Types as types
-use Rattle.cg_base.specs.Types.{Tau, fields}
+use Rattle.cg_base.specs.Types.{Tau}
+use Rattle.cg_check_ends.specs.Ends.{case_end, esac_end, if_end, member_end, put_end, record_type}
 use Rattle.cg_check_nodes.specs.Nodes as forms
 use Rattle.cg_check_nodes.specs.Scopes.{fine, scope_end, taken_end}
 use Rattle.cg_check_pieces.specs.Directions.{may_be_made_of}
-use Rattle.cg_check_def.specs.Pass.{Out, Got, bind, need, meet, check, check_fields, observers_test, branches_test}
+use Rattle.cg_check_def.specs.Pass.{Out, Got, bind, need, check, check_fields, observers_test}
 use Rattle.cg_core.specs.declared.at.At.{At}
 use Rattle.cg_core.specs.declared.term.Seen.{Seen}
 use Rattle.cg_core.specs.Kernels.{Function}
 use Rattle.cg_core.specs.Terms.{Tree, Named}
-use Rattle.cg_faults.specs.declared.rule.Rule.TheVariants.{K2, K6, K7, T1, T5, T6, T7, T8, T9, T10}
+use Rattle.cg_faults.specs.declared.rule.Rule.TheVariants.{K2, K7, T1, T5, T6, T7, T8, T10}
 use Rattle.cg_faults.specs.Events.{field_directions}
 use Rattle.cg_faults.specs.Plain.{observed}
 use Rattle.cg_kinds.specs.Kinds.{kinds}
-use Rattle.cg_typing.specs.Contexts.{push, shares}
-use Rattle.cg_typing.specs.Parts.{field_in, alternative_in, held, is_there, is_last, is_left, is_read_only, may_be_put_over, with_part}
+use Rattle.cg_typing.specs.Contexts.{push}
+use Rattle.cg_typing.specs.Parts.{field_in, alternative_in, held, is_there, is_left, is_read_only, may_be_put_over, with_part}
 use Rattle.cg_typing.specs.Rules.{note_at, second_branch}
-use Rattle.cg_check_uses.specs.Uses.{mark, mark_but, seen_places, front}
+use Rattle.cg_check_uses.specs.Uses.{mark, mark_but, seen_places}
 
 -- what a part holds that is named, after the tests on it
 abbrev pub alternative_held : At → Tau → Out Tau
 alternative_held at t =
     need T8 at.place (is_there (alternative_in at.name t)) (need T10 at.place (is_left (alternative_in at.name t)) (Ok (held (alternative_in at.name t))))
-
-abbrev pub last_held : At → Tau → Out Tau
-last_held at t =
-    need T8 at.place (is_there (alternative_in at.name t)) (need T10 at.place (is_left (alternative_in at.name t))
-    (need T9 at.place (is_last at.name t) (Ok (held (alternative_in at.name t)))))
-
-abbrev pub member_held : List Kinds → At → Tau → Out Tau
-member_held vars at t =
-    need T5 at.place (is_there (field_in at.name t)) (need T6 at.place (is_left (field_in at.name t))
-    (need K6 at.place (shares vars t) (Ok (held (field_in at.name t)))))
 
 abbrev pub taken_held : At → Tau → Out Tau
 taken_held at t =
@@ -46,22 +36,6 @@ abbrev pub put_held : List Kinds → At → Tau → Out Tau
 put_held vars at t =
     need T5 at.place (is_there (field_in at.name t)) (need T7 at.place (not (is_read_only t))
     (need K7 at.place (may_be_put_over vars (field_in at.name t)) (Ok (held (field_in at.name t)))))
-
--- the end of a match on the last alternative, of a member and of a put, behind their parts
-abbrev pub esac_end : Option Tau → Place → At → Got → Out Got
-esac_end direction place at u = bind (last_held at u.ty) (λ h. bind (meet direction place h fine) (λ _. Ok (forms.esac_node place h at u)))
-
-abbrev pub member_end : List Kinds → Option Tau → Place → At → Got → Out Got
-member_end vars direction place at u = bind (member_held vars at u.ty) (λ h. bind (meet direction place h fine) (λ _. Ok (forms.member_node place h at u)))
-
-abbrev pub put_end : Option Tau → Place → At → Got → Got → Out Got
-put_end direction place at u v =
-    bind (meet direction place (with_part at.name false u.ty) fine) (λ _. Ok (forms.put_node place (with_part at.name false u.ty) at u v))
-
--- the type of a record: the one that is checked against, or the one that its fields make
-abbrev pub record_type : Option Tau → types.Parts → Tau
-record_type None ps = fields ps U
-record_type (Some t) ps = t
 
 module _ (functions : List Function) (vars : List Kinds) where
   -- a term in the scope of a new variable, with K3 at its end
@@ -80,26 +54,17 @@ module _ (functions : List Function) (vars : List Kinds) where
       bind (need K2 (note_at e) (kinds vars u.ty).escape (Ok (push (mark_but seen before u.uses) false))) (λ flags.
       bind (scoped p flags direction binder u.ty k) (λ v. Ok (forms.let_bang_node (length p) seen place observers binder u v)))))
 
-  -- the end of a conditional, whose branches have these notes
-  abbrev pub if_end : List Tau → Place → Place → Place → Got → Got → Got → Out Got
-  if_end p place first second u v w = bind (branches_test functions vars first second p v.uses w.uses fine) (λ _. Ok (forms.if_node place u v w))
-
   -- a second branch, after the first
   abbrev pub if_by : List Tau → List Bool → Option Tau → Place → Tree Place → Tree Place → Tree Place → Out Got
   if_by p before direction place c x y =
       bind (check functions vars p before (Some types.bool) c) (λ u. bind (check functions vars p (mark before u.uses) direction x) (λ v.
       bind (check functions vars p (mark before u.uses) (second_branch direction v.ty) y) (λ w.
-      if_end p place (note_at x) (note_at y) u v w)))
-
-  -- the end of a match, whose branches have these notes
-  abbrev pub case_end : List Tau → Place → At → Place → Place → Place → Got → Got → Got → Out Got
-  case_end p place at binder first second u v w =
-      bind (branches_test functions vars first second p (front v.uses) (front w.uses) fine) (λ _. Ok (forms.case_node (length p) place at binder u v w))
+      if_end functions vars p place (note_at x) (note_at y) u v w)))
 
   -- the other branch of a match, behind the first one
   abbrev pub other_by : List Tau → List Bool → Option Tau → Place → At → Place → Place → Tree Place → Got → Got → Out Got
   other_by p before direction place at binder note y u v =
-      bind (scoped p before (second_branch direction v.ty) at.place (with_part at.name true u.ty) y) (λ w. case_end p place at binder note (note_at y) u v w)
+      bind (scoped p before (second_branch direction v.ty) at.place (with_part at.name true u.ty) y) (λ w. case_end functions vars p place at binder note (note_at y) u v w)
 
   -- the branches of a match on a value
   abbrev pub matched_by : List Tau → List Bool → Option Tau → Place → At → Place → Tree Place → Tree Place → Got → Tau → Out Got

@@ -3,7 +3,8 @@ use Rattle.std.specs.Prelude.{Bool, cond, List, Option, Some, None, Ok}
 use Rattle.cg_base.specs.declared.place.Place.{Place}
 use Rattle.cg_base.specs.Types as types
 use Rattle.cg_base.specs.Types.{Tau}
-use Rattle.cg_check_def.specs.Pass.{Got, Out, Way, bind, meet, need, operated, operated_both}
+use Rattle.cg_check_ends.specs.Ends.{both_end, one_end}
+use Rattle.cg_check_def.specs.Pass.{Got, Out, Way, bind, need}
 use Rattle.cg_check_pieces.specs.Directions.{guided_direction, is_by_right, right_direction}
 use Rattle.cg_core.specs.declared.op.Op.{Op}
 use Rattle.cg_faults.specs.declared.rule.Rule.TheVariants.{T12}
@@ -16,19 +17,6 @@ abbrev pub first_operand : Sort → Option Tau → Place → (Option Tau → Out
 first_operand logic direction place x = x (Some types.bool)
 first_operand arithmetic (Some t) place x = need T12 place (is_word t) (x (Some t))
 first_operand sort direction place x = bind (x None) (λ u. need T12 place (takes sort u.ty) (Ok u))
-
--- the type of the operator
-abbrev pub operator_type : Sort → Option Tau → Place → Tau → Out Tau
-operator_type arithmetic (Some wanted) place t = Ok wanted
-operator_type arithmetic None place t = Ok t
-operator_type sort direction place t = meet direction place types.bool (Ok types.bool)
-
-abbrev pub one_end : Op → Sort → Option Tau → Place → Got → Out Got
-one_end o sort direction place u = bind (operator_type sort direction place u.ty) (λ t. Ok (operated o place t u))
-
--- of two, of which the first one that was checked has this type
-abbrev pub both_end : Op → Sort → Option Tau → Place → Tau → Got → Got → Out Got
-both_end o sort direction place first x y = bind (operator_type sort direction place first) (λ t. Ok (operated_both o place t x y))
 
 abbrev pub unary_by : Sort → Op → Option Tau → Place → List Bool → Way → Out Got
 unary_by sort o direction place before x = bind (first_operand sort direction place (λ way. x before way)) (λ u. one_end o sort direction place u)

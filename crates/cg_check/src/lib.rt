@@ -5,9 +5,7 @@
 //! docs/LANGUAGE.md, "Typing", says the rules.
 #![tactic(auto)]
 
-mod ends;
 mod functions;
-mod leaves;
 mod pass;
 mod refusal;
 

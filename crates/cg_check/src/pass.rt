@@ -26,15 +26,15 @@ ghost use Rattle.cg_typing.specs.Operators.{sort_of as sort_by, takes as takes_b
 ghost use Rattle.cg_check_uses.specs.Uses as tables;
 ghost use Rattle.cg_typing.specs.Parts.{with_part as with_part_of};
 
-use crate::ends::{
-    end_annot, end_app, end_by_left, end_by_right, end_case, end_cast, end_esac, end_if,
-    end_member, end_put, end_struct, end_unary, small, taken_by_sort,
-};
-use crate::leaves::{check_bare, check_bool, check_literal, check_mention, check_unit, check_var};
 use cg_base::{Items, Name, Part, Place, Ty};
 use cg_check_context::{
     Known, Source, Stop, alternative_type, flags_of, injected_type, inner, inner_two, leave, need,
     observe, observe_all, put_type, restore, taken_type,
+};
+use cg_check_ends::{
+    check_bare, check_bool, check_literal, check_mention, check_unit, check_var, end_annot,
+    end_app, end_by_left, end_by_right, end_case, end_cast, end_esac, end_if, end_member, end_put,
+    end_struct, end_unary, small, taken_by_sort,
 };
 use cg_check_nodes::{
     Fields, Got, are_none, behind_observed, boxed_tested, con_node, end_scoped, end_taken,

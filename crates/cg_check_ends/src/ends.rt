@@ -2,8 +2,7 @@
 ghost use Rattle.std.specs.Prelude.{Ok, map};
 ghost use Rattle.std.specs.Option.{option_copied};
 ghost use Rattle.cg_base.specs.Types.{type_of};
-ghost use Rattle.cg_check.specs.Forms.{case_end, esac_end, if_end, member_end, put_end, record_type};
-ghost use Rattle.cg_check.specs.Operators.{both_end, one_end, operator_type as operator_type_of};
+ghost use Rattle.cg_check_ends.specs.Ends.{both_end, case_end, esac_end, if_end, member_end, one_end, operator_type as operator_type_of, put_end, record_type};
 ghost use Rattle.cg_check_def.specs.Pass.{meet as meet_by, need as need_by, test};
 ghost use Rattle.cg_check_context.specs.View.{Agrees, entries_of, types_in};
 ghost use Rattle.cg_core.specs.Kernels.{function_of};
@@ -34,7 +33,7 @@ use cg_typing_parts::{Sort, is_small_enough, takes, widens, with_part};
 use std::alloc::Global;
 
 /// A part whose type is within the limit.
-pub(crate) fn small(place: Place, got: Got) -> Result<Got, Stop>
+pub fn small(place: Place, got: Got) -> Result<Got, Stop>
     ensures { Agrees got_of result (test type_limit place (small_by (got_of got).ty) (Ok (got_of got))) }
 {
     if is_small_enough(got.ty()) {
@@ -70,7 +69,7 @@ fn operator_type(
 }
 
 /// An operator with one operand.
-pub(crate) fn end_unary(
+pub fn end_unary(
     alloc: Global,
     direction: Option<&Ty>,
     place: Place,
@@ -85,7 +84,7 @@ pub(crate) fn end_unary(
 }
 
 /// An operator with two operands, of which the left one was checked first.
-pub(crate) fn end_by_left(
+pub fn end_by_left(
     alloc: Global,
     direction: Option<&Ty>,
     place: Place,
@@ -101,7 +100,7 @@ pub(crate) fn end_by_left(
 }
 
 /// The same where the right one was.
-pub(crate) fn end_by_right(
+pub fn end_by_right(
     alloc: Global,
     direction: Option<&Ty>,
     place: Place,
@@ -117,7 +116,7 @@ pub(crate) fn end_by_right(
 }
 
 /// An operand of a type that operators of this sort take (T12).
-pub(crate) fn taken_by_sort(place: Place, sort: Sort, got: Got) -> Result<Got, Stop>
+pub fn taken_by_sort(place: Place, sort: Sort, got: Got) -> Result<Got, Stop>
     ensures { Agrees got_of result (need_by T12 place (takes_by (the_sort sort) (got_of got).ty) (Ok (got_of got))) }
 {
     if takes(sort, got.ty()) {
@@ -128,7 +127,7 @@ pub(crate) fn taken_by_sort(place: Place, sort: Sort, got: Got) -> Result<Got, S
 }
 
 /// An application.
-pub(crate) fn end_app(
+pub fn end_app(
     alloc: Global,
     direction: Option<&Ty>,
     place: Place,
@@ -143,7 +142,7 @@ pub(crate) fn end_app(
 }
 
 /// A conditional, whose branches have these notes.
-pub(crate) fn end_if(
+pub fn end_if(
     source: &Source,
     context: &Vec<Known>,
     place: Place,
@@ -160,7 +159,7 @@ pub(crate) fn end_if(
 }
 
 /// A match on one alternative, whose branches have these notes.
-pub(crate) fn end_case(
+pub fn end_case(
     source: &Source,
     context: &Vec<Known>,
     place: Place,
@@ -181,7 +180,7 @@ pub(crate) fn end_case(
 }
 
 /// A match on the last alternative.
-pub(crate) fn end_esac(
+pub fn end_esac(
     source: &Source,
     direction: Option<&Ty>,
     place: Place,
@@ -196,7 +195,7 @@ pub(crate) fn end_esac(
 }
 
 /// A record, of this type or of the one that its fields make.
-pub(crate) fn end_struct(
+pub fn end_struct(
     alloc: Global,
     direction: Option<&Ty>,
     place: Place,
@@ -211,7 +210,7 @@ pub(crate) fn end_struct(
 }
 
 /// A member.
-pub(crate) fn end_member(
+pub fn end_member(
     source: &Source,
     direction: Option<&Ty>,
     place: Place,
@@ -226,7 +225,7 @@ pub(crate) fn end_member(
 }
 
 /// A put.
-pub(crate) fn end_put(
+pub fn end_put(
     alloc: Global,
     direction: Option<&Ty>,
     place: Place,
@@ -242,7 +241,7 @@ pub(crate) fn end_put(
 }
 
 /// A cast to this type (T11).
-pub(crate) fn end_cast(alloc: Global, place: Place, wanted: &Ty, part: Got) -> Result<Got, Stop>
+pub fn end_cast(alloc: Global, place: Place, wanted: &Ty, part: Got) -> Result<Got, Stop>
     ensures { Agrees got_of result (need_by T11 place (widens_by (got_of part).ty (type_of wanted.now)) (Ok (forms.cast_node place (type_of wanted.now) (got_of part)))) }
 {
     need(Rule::T11, place, widens(part.ty(), wanted))?;
@@ -250,7 +249,7 @@ pub(crate) fn end_cast(alloc: Global, place: Place, wanted: &Ty, part: Got) -> R
 }
 
 /// A term with its type written.
-pub(crate) fn end_annot(
+pub fn end_annot(
     alloc: Global,
     direction: Option<&Ty>,
     place: Place,

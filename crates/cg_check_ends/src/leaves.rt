@@ -1,5 +1,5 @@
 // Leaves of a body: variables, literals, functions that are mentioned, and operators without operands.
-ghost use Rattle.std.specs.Prelude.{◌≡◌, IfOk, length, map, None};
+ghost use Rattle.std.specs.Prelude.{◌≡◌, length, map, None};
 ghost use Rattle.std.specs.Option.{option_copied};
 ghost use Rattle.cg_base.specs.Types.{type_of, unit as unit_type};
 ghost use Rattle.cg_check_def.specs.Pass.{check_shape, leaf as leaf_by};
@@ -39,7 +39,7 @@ fn check_leaf(
 }
 
 /// A variable.
-pub(crate) fn check_var(
+pub fn check_var(
     source: &Source,
     context: &Vec<Known>,
     before: &Vec<bool>,
@@ -61,7 +61,7 @@ pub(crate) fn check_var(
 }
 
 /// A truth value.
-pub(crate) fn check_bool(
+pub fn check_bool(
     source: &Source,
     context: &Vec<Known>,
     before: &Vec<bool>,
@@ -76,7 +76,7 @@ pub(crate) fn check_bool(
 }
 
 /// Unit.
-pub(crate) fn check_unit(
+pub fn check_unit(
     source: &Source,
     context: &Vec<Known>,
     before: &Vec<bool>,
@@ -90,7 +90,7 @@ pub(crate) fn check_unit(
 }
 
 /// A literal.
-pub(crate) fn check_literal(
+pub fn check_literal(
     source: &Source,
     context: &Vec<Known>,
     before: &Vec<bool>,
@@ -112,7 +112,7 @@ pub(crate) fn check_literal(
 
 /// A function that is mentioned.
 #[tactic(auto, using(cg_check_context::proofs::ScopeSteps::arguments_go, cg_check_context::proofs::ScopeSteps::arguments_stop))]
-pub(crate) fn check_mention(
+pub fn check_mention(
     source: &Source,
     context: &Vec<Known>,
     before: &Vec<bool>,
@@ -151,7 +151,7 @@ fn check_instance(
 }
 
 // The form of an operator without operands.
-#[tactic(auto, using(crate::proofs::OperandSteps::bare_steps))]
+#[tactic(auto, using(crate::proofs::BareSteps::bare_steps))]
 fn bare(alloc: Global, op: Op) -> Form<Typed>
     ensures { the_core_form result ≡ terms.op op terms.none }
 {
@@ -159,12 +159,7 @@ fn bare(alloc: Global, op: Op) -> Form<Typed>
 }
 
 /// An operator that has neither one operand nor two.
-pub(crate) fn check_bare(
-    source: &Source,
-    context: &Vec<Known>,
-    place: Place,
-    op: Op,
-) -> Result<Got, Stop>
+pub fn check_bare(source: &Source, context: &Vec<Known>, place: Place, op: Op) -> Result<Got, Stop>
     ensures { Agrees got_of result (leaf_by (length (types_in (entries_of context.now.items))) None place unit_type (terms.op op terms.none) nodes.Op) }
 {
     let core = plain(place, Ty::Unit, bare(source.alloc, op));
