@@ -8,14 +8,15 @@ use Rattle.cg_base.specs.Types.{Tau, unit as unit_type, bool as bool_type, field
 use Rattle.cg_cert.specs.declared.cert.CertNode.{CertNode}
 use Rattle.cg_cert.specs.declared.fault.CertFault.{CertFault}
 use Rattle.cg_cert.specs.declared.fault.CertFault.TheVariants.{C1, C2, C3, Limit, Memory}
-use Rattle.cg_certcheck.specs.Forms.{leaf_by, operands_by, operands_left, operands_right, con_from, cast_from, form_by}
+use Rattle.cg_certcheck_ends.specs.Leaves.{leaf_by}
+use Rattle.cg_certcheck.specs.Forms.{operands_by, operands_left, operands_right, con_from, cast_from, form_by}
 use Rattle.cg_certcheck.specs.Operators.{unary_by}
 use Rattle.cg_check_pieces.proofs.Steps.{again, same_steps}
 use Rattle.cg_check_pieces.specs.Directions.{is_by_right, may_be_made_of}
 use Rattle.cg_check_pieces.specs.View.{shape_at}
 use Rattle.cg_certcheck_nodes.specs.Nodes.{esac_node, member_node, take_node, put_node}
 use Rattle.cg_certcheck_context.specs.Steps.{Split, Strings, found, is_none, leaf_reached, leaf_tested, split_reached, record_reached, literal_reached}
-use Rattle.cg_certcheck_nodes.specs.Held.{literal_judged, alternative_held, last_held, member_held, taken_held, put_held}
+use Rattle.cg_certcheck_gots.specs.Held.{literal_judged, alternative_held, last_held, member_held, taken_held, put_held}
 use Rattle.cg_certcheck_context.specs.View.{Agrees}
 use Rattle.cg_core.specs.declared.at.At.{At}
 use Rattle.cg_core.specs.declared.derivation.Mark.{Mark}

@@ -2,5 +2,4 @@ pub mod BodySteps
 pub mod FaultKinds
 pub mod FormSteps
 pub mod JudgeSteps
-pub mod LeafSteps
 pub mod PassSteps

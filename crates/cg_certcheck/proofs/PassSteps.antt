@@ -16,7 +16,6 @@ use Rattle.cg_core.specs.Terms.{OneField, op, field, to_named, to_trees}
 use Rattle.cg_certcheck_def.specs.Pass.{Cursor, check_fields, no_fields}
 use Rattle.cg_check_pieces.proofs.FieldSteps.{more_named, no_named}
 use Rattle.cg_typing.specs.Contexts.{Context}
-use Rattle.cg_typing.specs.Trees.{first_marks, later_marks}
 
 pub other_operands : (functions : List Function) (vars : List Kinds) (g : Context) (d : Option Tau) (at : Cursor) (place : Place) (o : Op) (ts : List (Term Place))
     → (length ts ≡ 1 → ⊥) → (length ts ≡ 2 → ⊥) → form_by functions vars g d at place (op o (to_trees (map the_term ts))) ≡ Err (C2 at.next)
@@ -48,24 +47,3 @@ module _ (functions : List Function) (vars : List Kinds) (g : Context) (ds : Lis
       let rest : c ∷ fs ≡ take (suc (suc (length fs)) - 1) (c ∷ fs) = sym (ap (λ n. take n (c ∷ fs)) less ∙ take_all (suc (length fs)) (c ∷ fs) (omega arith)) in
       ap (λ (x : OneField Place). more_fields functions vars g ds ss at x.name x.term (to_named (map the_field (c ∷ fs)))) (ap the_field (sym e) ∙ one)
       ∙ ap (λ l. more_fields functions vars g ds ss at f.name (the_term f.term) (to_named (map the_field l))) rest
-
--- mark strings in their list
-pub next_in : (ss : List (List Mark)) (s : List Mark) → 1 ≤ length ss → s ≡ get_or ss 0 s → first_marks ss ≡ s
-next_in [] s h e = absurd (omega arith)
-next_in (t ∷ ss) s h e = sym e
-
-pub none_next : (ss : List (List Mark)) → length ss < 1 → first_marks ss ≡ []
-none_next [] h = refl
-none_next (s ∷ ss) h = absurd (omega arith)
-
-pub later_in : (ss : List (List Mark)) → 1 ≤ length ss → later_marks ss ≡ take (length ss - 1) (drop 1 ss)
-later_in [] h = absurd (omega arith)
-later_in (s ∷ ss) h =
-    let less : suc (length ss) - 1 ≡ length ss = omega arith in
-    sym (ap (λ n. take n ss) less ∙ take_all (length ss) ss (omega arith))
-
-pub none_later : (ss : List (List Mark)) → length ss < 1 → later_marks ss ≡ ss
-none_later [] h = refl
-none_later (s ∷ ss) h = absurd (omega arith)
-
-pub ruleset pass_steps = (next_in, none_next, later_in, none_later)

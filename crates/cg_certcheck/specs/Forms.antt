@@ -1,5 +1,5 @@
 -- Forms of nodes as the second checker takes them: a node is reached, and then one step after another.
-use Rattle.std.specs.Prelude.{ℕ, Bool, true, false, ◌&&◌, cond, Option, Some, None, List, [], Ok, Err}
+use Rattle.std.specs.Prelude.{ℕ, true, cond, Option, Some, None, List, [], Ok, Err}
 use Rattle.cg_base.specs.declared.kind.Kinds.{Kinds}
 use Rattle.cg_base.specs.declared.kind.Sigil.TheVariants.{U}
 use Rattle.cg_base.specs.declared.place.Place.{Place}
@@ -7,59 +7,31 @@ use Rattle.cg_base.specs.Types as types
 use Rattle.cg_base.specs.Types.{Tau, fields}
 use Rattle.cg_cert.specs.declared.fault.CertFault.TheVariants.{C2}
 use Rattle.cg_certcheck.specs.Operators.{by_left, by_right, unary_by}
-use Rattle.cg_certcheck_nodes.specs.Nodes.{app_node, let_node, let_bang_node, if_node, con_node, case_node, esac_node, struct_node, member_node, take_node, put_node, cast_node, annot_node}
-use Rattle.cg_certcheck_context.specs.Steps.{leaf_reached, leaf_tested, split_reached, record_reached, literal_reached}
-use Rattle.cg_certcheck_nodes.specs.Held.{alternative_held, last_held, member_held, taken_held, put_held}
+use Rattle.cg_certcheck_ends.specs.Ends.{app_end, esac_end, member_end, put_end, cast_end, annot_end}
+use Rattle.cg_certcheck_ends.specs.Leaves.{var_by, unit_by, bool_by, literal_by, mention_by}
+use Rattle.cg_certcheck_gots.specs.Records.{struct_node}
+use Rattle.cg_certcheck_nodes.specs.Nodes.{let_node, let_bang_node, if_node, con_node, case_node, take_node}
+use Rattle.cg_certcheck_context.specs.Steps.{leaf_reached, split_reached, record_reached, literal_reached}
+use Rattle.cg_certcheck_gots.specs.Held.{alternative_held, taken_held, put_held}
 use Rattle.cg_check_pieces.specs.Directions.{is_by_right, may_be_made_of}
 use Rattle.cg_core.specs.declared.at.At.{At}
 use Rattle.cg_core.specs.declared.derivation.Mark.{Mark}
-use Rattle.cg_core.specs.declared.derivation.Node.{Node}
 use Rattle.cg_core.specs.declared.derivation.Node.TheVariants as nodes
 use Rattle.cg_core.specs.declared.op.Op.{Op}
 use Rattle.cg_core.specs.declared.term.Seen.{Seen}
 use Rattle.cg_core.specs.Kernels.{Function}
-use Rattle.cg_core.specs.Terms.{Tree, Shape, var, unit, bool, lit, fun, op, app, lets, let_bang, if_else, con, case_of, esac, struct, member, take_field, put, cast, annot, none, more, Named, Arg, Note}
+use Rattle.cg_core.specs.Terms.{Tree, Shape, var, unit, bool, lit, fun, op, app, lets, let_bang, if_else, con, case_of, esac, struct, member, take_field, put, cast, annot, none, more, Named, Arg}
 use Rattle.cg_faults.specs.Events.{field_directions, next_direction, later_directions}
-use Rattle.cg_faults.specs.Plain.{mentioned}
-use Rattle.cg_kinds.specs.Kinds.{kinds, or_unit}
-use Rattle.cg_certcheck_def.specs.Events.{meets, is_number, value_of}
-use Rattle.cg_certcheck_def.specs.Pass.{Out, Cursor, Got, GotFields, bind, row, made, in_front, no_fields, wanted, check, check_fields}
-use Rattle.cg_certcheck_def.specs.Tests.{is_present, drops_all, drops_but}
-use Rattle.cg_typing.specs.Contexts.{Context, look, push, first, second}
-use Rattle.cg_typing.specs.Functions.{asked_by, are_good_arguments}
+use Rattle.cg_kinds.specs.Kinds.{kinds}
+use Rattle.cg_certcheck_def.specs.Events.{value_of}
+use Rattle.cg_certcheck_def.specs.Pass.{Out, Cursor, Got, GotFields, bind, row, in_front, no_fields, wanted, check, check_fields}
+use Rattle.cg_typing.specs.Contexts.{Context, push, first, second}
 use Rattle.cg_typing.specs.Operators.{Sort, sort_of}
-use Rattle.cg_typing.specs.Parts.{is_arrow, taken_by as asked_by_arrow, given_by, widens, with_part, has_word_arrays}
+use Rattle.cg_typing.specs.Parts.{is_arrow, taken_by as asked_by_arrow, with_part, has_word_arrays}
 use Rattle.cg_typing.specs.Rules.{is_literal, note_at, second_branch}
-use Rattle.cg_typing.specs.Trees.{first_marks, later_marks, leaf}
-
--- a leaf of this type, of whose context it is known whether it may end here
-abbrev pub leaf_by : Option Tau → Place → Tau → Shape Note → Node → Bool → Cursor → Out Got
-leaf_by d place t shape node holds at = bind (leaf_tested d t node holds at) (λ behind. Ok (made place t shape (leaf node) behind))
-
--- the ends of nodes behind their parts
-abbrev pub app_end : List Mark → Option Tau → ℕ → Place → Got → Got → Out Got
-app_end m d n place u v = row n (meets d (given_by u.ty)) (Ok (app_node m place (given_by u.ty) u v))
-
-abbrev pub esac_end : Option Tau → ℕ → Place → At → Got → Out Got
-esac_end d n place alternative u = bind (last_held n d alternative.name u.ty) (λ h. Ok (esac_node place h alternative u))
-
-abbrev pub member_end : List Kinds → Option Tau → ℕ → Place → At → Got → Out Got
-member_end vars d n place name u = bind (member_held vars n d name.name u.ty) (λ h. Ok (member_node place h name u))
-
-abbrev pub put_end : List Mark → Option Tau → ℕ → Place → At → Got → Got → Out Got
-put_end m d n place name u v = row n (meets d (with_part name.name false u.ty)) (Ok (put_node m place (with_part name.name false u.ty) name u v))
-
-abbrev pub cast_end : Tau → ℕ → Place → Got → Out Got
-cast_end t n place u = row n (widens u.ty t) (Ok (cast_node place t u))
-
-abbrev pub annot_end : Option Tau → ℕ → Place → Arg → Got → Out Got
-annot_end d n place a u = row n (meets d a.ty) (Ok (annot_node place a u))
+use Rattle.cg_typing.specs.Trees.{first_marks, later_marks}
 
 module _ (functions : List Function) (vars : List Kinds) where
-  abbrev pub literal_by : Context → Option Tau → Cursor → Place → Option ℕ → Out Got
-  literal_by g d at place value =
-      bind (leaf_reached at nodes.Lit) (λ behind. row at.next (drops_all vars g && is_number value d) (Ok (made place (wanted d types.unit) (lit value) (leaf nodes.Lit) behind)))
-
   -- ---- operators
 
   abbrev pub op_one : Context → Option Tau → Cursor → Place → Op → Tree Place → Out Got
@@ -176,12 +148,11 @@ module _ (functions : List Function) (vars : List Kinds) where
 
   -- a node of any form
   abbrev pub form_by : Context → Option Tau → Cursor → Place → Shape Place → Out Got
-  form_by g d at place (var i) = leaf_by d place (or_unit (look g i)) (var i) nodes.Var (is_present (look g i) && drops_but vars i g) at
-  form_by g d at place unit = leaf_by d place types.unit unit nodes.Unit (drops_all vars g) at
-  form_by g d at place (bool b) = leaf_by d place types.bool (bool b) nodes.Bool (drops_all vars g) at
-  form_by g d at place (lit value) = literal_by g d at place value
-  form_by g d at place (fun f args) =
-      leaf_by d place (mentioned functions f args) (fun f args) nodes.Fun (drops_all vars g && are_good_arguments vars (asked_by functions f) args) at
+  form_by g d at place (var i) = var_by vars g d at place i
+  form_by g d at place unit = unit_by vars g d at place
+  form_by g d at place (bool b) = bool_by vars g d at place b
+  form_by g d at place (lit value) = literal_by vars g d at place value
+  form_by g d at place (fun f args) = mention_by functions vars g d at place f args
   form_by g d at place (op o (more x none)) = op_one g d at place o x
   form_by g d at place (op o (more l (more r none))) = op_two g d at place o l r
   form_by g d at place (op o ts) = Err (C2 at.next)

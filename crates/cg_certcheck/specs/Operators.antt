@@ -3,9 +3,8 @@ use Rattle.std.specs.Prelude.{ℕ, Option, Some, None, List, Ok}
 use Rattle.cg_base.specs.declared.place.Place.{Place}
 use Rattle.cg_base.specs.Types as types
 use Rattle.cg_base.specs.Types.{Tau}
-use Rattle.cg_certcheck_def.specs.Events.{meets}
-use Rattle.cg_certcheck_def.specs.Pass.{Cursor, Got, Out, Way, bind, operated, operated_both, row}
-use Rattle.cg_certcheck_nodes.specs.Held.{literal_judged}
+use Rattle.cg_certcheck_ends.specs.Ends.{both_end, literal_end, one_end}
+use Rattle.cg_certcheck_def.specs.Pass.{Cursor, Got, Out, Way, bind, row}
 use Rattle.cg_check_pieces.specs.Directions.{right_direction}
 use Rattle.cg_core.specs.declared.derivation.Mark.{Mark}
 use Rattle.cg_core.specs.declared.op.Op.{Op}
@@ -21,24 +20,6 @@ abbrev pub first_operand : Sort → Option Tau → ℕ → (Option Tau → Out G
 first_operand logic direction n x = x (Some types.bool)
 first_operand arithmetic (Some t) n x = row n (is_word t) (x (Some t))
 first_operand sort direction n x = guide sort n (x None)
-
--- the type of the operator
-abbrev pub operator_type : Sort → Option Tau → ℕ → Tau → Out Tau
-operator_type arithmetic (Some wanted) n t = Ok wanted
-operator_type arithmetic None n t = Ok t
-operator_type sort direction n t = row n (meets direction types.bool) (Ok types.bool)
-
-abbrev pub one_end : Op → Sort → Option Tau → ℕ → Place → Got → Out Got
-one_end o sort direction n place u = bind (operator_type sort direction n u.ty) (λ t. Ok (operated o place t u))
-
--- of two, of which the first one that was checked has this type
-abbrev pub both_end : List Mark → Op → Sort → Option Tau → ℕ → Place → Tau → Got → Got → Out Got
-both_end m o sort direction n place first x y = bind (operator_type sort direction n first) (λ t. Ok (operated_both m o place t x y y.at))
-
--- of two, of which the left one is a literal with this note and value, which was reached before the right one
-abbrev pub literal_end : List Mark → Op → Sort → Option Tau → ℕ → Place → Place → Option ℕ → ℕ → Cursor → Got → Out Got
-literal_end m o sort direction n place note value number behind y =
-    bind (literal_judged note value y.ty number behind) (λ x. both_end m o sort direction n place y.ty x y)
 
 abbrev pub unary_by : Sort → Op → Option Tau → ℕ → Place → (Option Tau → Out Got) → Out Got
 unary_by sort o direction n place x = bind (first_operand sort direction n x) (λ u. one_end o sort direction n place u)

@@ -5,10 +5,7 @@
 //! It finds no splits: those of the certificate are tested. docs/LANGUAGE.md, "Certificates", says the rows.
 #![tactic(auto)]
 
-mod between;
-mod ends;
 mod functions;
-mod leaves;
 mod pass;
 
 pub use functions::recheck;

@@ -1,7 +1,7 @@
 // The pass over a term.
-#![tactic(auto, using(crate::proofs::PassSteps::pass_steps), unfolding(cg_check_pieces::proofs::TermSizes::size))]
+#![tactic(auto, unfolding(cg_check_pieces::proofs::TermSizes::size))]
 
-ghost use Rattle.std.specs.Prelude.{◌≡◌, map, None, Some};
+ghost use Rattle.std.specs.Prelude.{map, None, Some};
 ghost use Rattle.std.specs.Option.{option_copied};
 ghost use Rattle.cg_base.specs.Types.{part_of, to_parts, type_of};
 ghost use Rattle.cg_certcheck.specs.Forms as forms;
@@ -9,7 +9,7 @@ ghost use Rattle.cg_certcheck.specs.Operators.{first_operand, guide};
 ghost use Rattle.cg_check_pieces.specs.Directions.{right_direction};
 ghost use Rattle.cg_check_pieces.specs.View.{bounds_of, shape_at, way_of};
 ghost use Rattle.cg_certcheck_context.specs.Contexts.{context_of};
-ghost use Rattle.cg_certcheck_nodes.specs.Gots.{fields_in, got_in};
+ghost use Rattle.cg_certcheck_gots.specs.Gots.{fields_in, got_in};
 ghost use Rattle.cg_certcheck_context.specs.View.{Agrees, cursor_of};
 ghost use Rattle.cg_core.specs.Kernels.{function_of, the_field, the_term};
 ghost use Rattle.cg_core.specs.Terms as terms;
@@ -21,22 +21,19 @@ ghost use Rattle.cg_typing.specs.Contexts.{first as first_of, push as push_of, s
 ghost use Rattle.cg_typing.specs.Trees.{later_marks};
 ghost use Rattle.cg_typing.specs.Rules.{note_at as note_of};
 
-use crate::between::{later_strings, next_marks, reach_left};
-use crate::ends::{
-    Operator, end_annot, end_app, end_by_left, end_by_right, end_cast, end_esac, end_member,
-    end_put, end_struct, end_unary, last_in_front, operator_at, small, taken_by_sort,
-};
-use crate::leaves::{check_bool, check_literal, check_mention, check_unit, check_var};
 use cg_base::{Items, Name, Part, Place, Ty};
 use cg_cert::CertFault;
 use cg_certcheck_context::{
     Cursor, Entry, Source, Split, Strings, firsts, opened, opened_twice, reach_leaf,
     reach_observed, reach_record, reach_split, seconds,
 };
-use cg_certcheck_nodes::{
-    Fields, Got, alternative_type, case_node, con_node, if_node, in_front, let_bang_node, let_node,
-    no_fields, put_type, take_node, taken_type,
+use cg_certcheck_ends::{
+    Operator, check_bool, check_literal, check_mention, check_unit, check_var, end_annot, end_app,
+    end_by_left, end_by_right, end_cast, end_esac, end_member, end_put, end_struct, end_unary,
+    last_in_front, later_strings, next_marks, operator_at, reach_left, small, taken_by_sort,
 };
+use cg_certcheck_gots::{Fields, Got, alternative_type, in_front, no_fields, put_type, taken_type};
+use cg_certcheck_nodes::{case_node, con_node, if_node, let_bang_node, let_node, take_node};
 use cg_check_pieces::{
     boxed, guided_direction, is_by_right, is_literal, later_wanted, may_be_made_of, next_wanted,
     other_way, parts_of,

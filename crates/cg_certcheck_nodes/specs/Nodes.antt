@@ -6,9 +6,8 @@ use Rattle.cg_core.specs.declared.at.At.{At}
 use Rattle.cg_core.specs.declared.derivation.Mark.{Mark}
 use Rattle.cg_core.specs.declared.derivation.Node.TheVariants as nodes
 use Rattle.cg_core.specs.declared.term.Seen.{Seen}
-use Rattle.cg_core.specs.Derivations.{derivation}
-use Rattle.cg_core.specs.Terms.{app, lets, let_bang, if_else, con, case_of, esac, struct, member, take_field, put, cast, annot, Arg}
-use Rattle.cg_certcheck_def.specs.Pass.{Got, GotFields, made}
+use Rattle.cg_core.specs.Terms.{app, lets, let_bang, if_else, con, case_of, esac, member, take_field, put, cast, annot, Arg}
+use Rattle.cg_certcheck_def.specs.Pass.{Got, made}
 use Rattle.cg_typing.specs.Trees.{one, two, three}
 
 abbrev pub app_node : List Mark → Place → Tau → Got → Got → Got
@@ -32,9 +31,6 @@ case_node m place alternative binder u v w =
 
 abbrev pub esac_node : Place → Tau → At → Got → Got
 esac_node place t alternative u = made place t (esac alternative u.core) (one nodes.Esac u.tree) u.at
-
-abbrev pub struct_node : List (List Mark) → Place → Tau → GotFields → Got
-struct_node strings place t u = made place t (struct u.cores) (derivation nodes.Struct strings u.trees) u.at
 
 abbrev pub member_node : Place → Tau → At → Got → Got
 member_node place t name u = made place t (member u.core name) (one nodes.Member u.tree) u.at

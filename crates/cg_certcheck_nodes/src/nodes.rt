@@ -4,17 +4,17 @@
 
 ghost use Rattle.std.specs.Prelude.{Ok};
 ghost use Rattle.cg_base.specs.Types.{type_of};
-ghost use Rattle.cg_certcheck_nodes.specs.Gots.{got_in};
+ghost use Rattle.cg_certcheck_gots.specs.Gots.{got_in};
 ghost use Rattle.cg_certcheck_nodes.specs.Nodes as forms;
 ghost use Rattle.cg_certcheck_context.specs.View.{Agrees};
 ghost use Rattle.cg_check_pieces.specs.Boxed.{in_box};
 ghost use Rattle.cg_core.specs.Terms.{arg_of};
 ghost use Rattle.cg_certcheck_def.specs.Pass.{operated as operated_of, operated_both as operated_both_of};
 
-use crate::got::{Got, Pair, Single, Triple, alone, branched, made, paired};
 use cg_base::{Items, Name, Place, Ty};
 use cg_cert::CertFault;
 use cg_certcheck_context::Source;
+use cg_certcheck_gots::{Got, Pair, Single, Triple, alone, branched, made, paired};
 use cg_check_pieces::{copied, copied_observers, one_operand, two_operands};
 use cg_core::{At, Form, Mark, Node, Op, Seen, TyArg};
 

@@ -10,7 +10,7 @@ use Rattle.cg_check_pieces.specs.Directions.{is_by_right}
 use Rattle.cg_certcheck.specs.Forms.{form_by}
 use Rattle.cg_check_pieces.specs.View.{bounds_of, shape_at, way_of}
 use Rattle.cg_certcheck_context.specs.Contexts.{context_of}
-use Rattle.cg_certcheck_nodes.specs.Gots.{fields_in, got_in}
+use Rattle.cg_certcheck_gots.specs.Gots.{fields_in, got_in}
 use Rattle.cg_certcheck_context.specs.View.{Agrees, cursor_of}
 use Rattle.cg_core.specs.Kernels.{function_of, the_term}
 use Rattle.cg_core.specs.Terms.{to_trees}

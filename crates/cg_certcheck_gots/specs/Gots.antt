@@ -2,8 +2,8 @@
 use Rattle.std.specs.Prelude.{List}
 use Rattle.cg_base.specs.Types.{type_of}
 use Rattle.cg_cert.specs.declared.cert.CertNode.{CertNode}
-use Rattle.cg_certcheck_nodes.specs.declared.fields.Fields.{Fields}
-use Rattle.cg_certcheck_nodes.specs.declared.got.Got.{Got as Made}
+use Rattle.cg_certcheck_gots.specs.declared.fields.Fields.{Fields}
+use Rattle.cg_certcheck_gots.specs.declared.got.Got.{Got as Made}
 use Rattle.cg_certcheck_context.specs.View.{cursor_of}
 use Rattle.cg_core.specs.Derivations.{derivation_of}
 use Rattle.cg_core.specs.Kernels.{the_core}

@@ -1,10 +1,10 @@
 // What a part of a body comes to.
-ghost use Rattle.std.specs.Prelude.{◌≡◌, ◌∷◌, [], IfOk, Ok, map};
+ghost use Rattle.std.specs.Prelude.{◌≡◌, IfOk, Ok};
 ghost use Rattle.cg_base.specs.Types.{type_of};
-ghost use Rattle.cg_certcheck_nodes.specs.Gots.{got_in};
+ghost use Rattle.cg_certcheck_gots.specs.Gots.{got_in};
 ghost use Rattle.cg_certcheck_context.specs.View.{Agrees, cursor_of};
 ghost use Rattle.cg_check_pieces.specs.Boxed.{in_box};
-ghost use Rattle.cg_core.specs.Derivations.{derivation, derivation_of, done};
+ghost use Rattle.cg_core.specs.Derivations.{derivation_of};
 ghost use Rattle.cg_core.specs.Kernels.{the_core, the_core_form};
 ghost use Rattle.cg_certcheck_def.specs.Pass.{made as made_of};
 ghost use Rattle.cg_typing.specs.Trees as trees;

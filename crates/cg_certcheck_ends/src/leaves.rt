@@ -4,11 +4,11 @@
 ghost use Rattle.std.specs.Prelude.{◌≡◌, Ok, map};
 ghost use Rattle.std.specs.Option.{option_copied};
 ghost use Rattle.cg_base.specs.Types.{type_of};
-ghost use Rattle.cg_certcheck.specs.Forms.{form_by, leaf_by, literal_by};
+ghost use Rattle.cg_certcheck_ends.specs.Leaves.{bool_by, leaf_by, literal_by, mention_by, unit_by, var_by};
 ghost use Rattle.cg_certcheck_def.specs.Pass.{made};
 ghost use Rattle.cg_certcheck_context.specs.Contexts.{context_of};
-ghost use Rattle.cg_certcheck_nodes.specs.Gots.{got_in};
-ghost use Rattle.cg_certcheck_nodes.specs.Held.{literal_judged};
+ghost use Rattle.cg_certcheck_gots.specs.Gots.{got_in};
+ghost use Rattle.cg_certcheck_gots.specs.Held.{literal_judged};
 ghost use Rattle.cg_certcheck_context.specs.View.{Agrees, cursor_of};
 ghost use Rattle.cg_check_pieces.specs.View.{bounds_of, way_of};
 ghost use Rattle.cg_core.specs.declared.derivation.Node.TheVariants as nodes;
@@ -23,7 +23,7 @@ use cg_cert::CertFault;
 use cg_certcheck_context::{
     Cursor, Entry, Source, drops_all, ends_with, reach_leaf, test_leaf, type_at,
 };
-use cg_certcheck_nodes::{Got, leaf_of};
+use cg_certcheck_gots::{Got, leaf_of};
 use cg_check_pieces::{boxed, copied, copied_arguments, plain};
 use cg_core::{Form, Node, Term, TyArg, Typed};
 use cg_typing_parts::{arguments_fault, in_range, is_small_enough, mentioned};
@@ -44,7 +44,7 @@ fn end_leaf(
 }
 
 /// A variable.
-pub(crate) fn check_var(
+pub fn check_var(
     source: &Source,
     context: &[Entry],
     direction: Option<&Ty>,
@@ -52,7 +52,7 @@ pub(crate) fn check_var(
     place: Place,
     var: u32,
 ) -> Result<Got, CertFault>
-    ensures { Agrees (got_in source.now.nodes.now) result (form_by (map function_of source.now.functions.now) (bounds_of source.now.vars.now) (context_of (bounds_of source.now.vars.now) context.now) (way_of (option_copied direction.entry)) (cursor_of source.now.nodes.now at) place (terms.var var)) }
+    ensures { Agrees (got_in source.now.nodes.now) result (var_by (bounds_of source.now.vars.now) (context_of (bounds_of source.now.vars.now) context.now) (way_of (option_copied direction.entry)) (cursor_of source.now.nodes.now at) place var) }
 {
     let position = var as usize;
     let holds = ends_with(source, context, position);
@@ -62,14 +62,14 @@ pub(crate) fn check_var(
 }
 
 /// Unit.
-pub(crate) fn check_unit(
+pub fn check_unit(
     source: &Source,
     context: &[Entry],
     direction: Option<&Ty>,
     at: Cursor,
     place: Place,
 ) -> Result<Got, CertFault>
-    ensures { Agrees (got_in source.now.nodes.now) result (form_by (map function_of source.now.functions.now) (bounds_of source.now.vars.now) (context_of (bounds_of source.now.vars.now) context.now) (way_of (option_copied direction.entry)) (cursor_of source.now.nodes.now at) place (terms.unit)) }
+    ensures { Agrees (got_in source.now.nodes.now) result (unit_by (bounds_of source.now.vars.now) (context_of (bounds_of source.now.vars.now) context.now) (way_of (option_copied direction.entry)) (cursor_of source.now.nodes.now at) place) }
 {
     let holds = drops_all(source, context);
     let core = plain(place, Ty::Unit, Form::Unit);
@@ -77,7 +77,7 @@ pub(crate) fn check_unit(
 }
 
 /// A truth value.
-pub(crate) fn check_bool(
+pub fn check_bool(
     source: &Source,
     context: &[Entry],
     direction: Option<&Ty>,
@@ -85,7 +85,7 @@ pub(crate) fn check_bool(
     place: Place,
     value: bool,
 ) -> Result<Got, CertFault>
-    ensures { Agrees (got_in source.now.nodes.now) result (form_by (map function_of source.now.functions.now) (bounds_of source.now.vars.now) (context_of (bounds_of source.now.vars.now) context.now) (way_of (option_copied direction.entry)) (cursor_of source.now.nodes.now at) place (terms.bool value)) }
+    ensures { Agrees (got_in source.now.nodes.now) result (bool_by (bounds_of source.now.vars.now) (context_of (bounds_of source.now.vars.now) context.now) (way_of (option_copied direction.entry)) (cursor_of source.now.nodes.now at) place value) }
 {
     let holds = drops_all(source, context);
     let core = plain(place, Ty::Bool, Form::Bool(value));
@@ -108,7 +108,7 @@ fn literal_of(
 }
 
 /// A literal.
-pub(crate) fn check_literal(
+pub fn check_literal(
     source: &Source,
     context: &[Entry],
     direction: Option<&Ty>,
@@ -116,7 +116,7 @@ pub(crate) fn check_literal(
     place: Place,
     value: Option<u64>,
 ) -> Result<Got, CertFault>
-    ensures { Agrees (got_in source.now.nodes.now) result (literal_by (map function_of source.now.functions.now) (bounds_of source.now.vars.now) (context_of (bounds_of source.now.vars.now) context.now) (way_of (option_copied direction.entry)) (cursor_of source.now.nodes.now at) place value) }
+    ensures { Agrees (got_in source.now.nodes.now) result (literal_by (bounds_of source.now.vars.now) (context_of (bounds_of source.now.vars.now) context.now) (way_of (option_copied direction.entry)) (cursor_of source.now.nodes.now at) place value) }
 {
     let behind = reach_leaf(source, Node::Lit, at)?;
     let Some(ty) = direction else {
@@ -133,7 +133,7 @@ pub(crate) fn check_literal(
 
 /// A literal that stands left of its guide and was reached before it, of the guide's type: C2 where it isn't in range, and the limit
 /// where the type passes it.
-#[tactic(auto, using(crate::proofs::LeafSteps::leaf_steps), unfolding(cg_certcheck_nodes::specs::Held::literal_judged))]
+#[tactic(auto, using(crate::proofs::LeafSteps::leaf_steps), unfolding(cg_certcheck_gots::specs::Held::literal_judged))]
 pub(crate) fn judge_literal(
     source: &Source,
     place: Place,
@@ -165,7 +165,7 @@ fn are_good(source: &Source, fun: Fun, args: &Items<TyArg>) -> bool
 }
 
 /// A function that is mentioned.
-pub(crate) fn check_mention(
+pub fn check_mention(
     source: &Source,
     context: &[Entry],
     direction: Option<&Ty>,
@@ -174,7 +174,7 @@ pub(crate) fn check_mention(
     fun: Fun,
     args: &Items<TyArg>,
 ) -> Result<Got, CertFault>
-    ensures { Agrees (got_in source.now.nodes.now) result (form_by (map function_of source.now.functions.now) (bounds_of source.now.vars.now) (context_of (bounds_of source.now.vars.now) context.now) (way_of (option_copied direction.entry)) (cursor_of source.now.nodes.now at) place (terms.fun fun (map arg_of args.now))) }
+    ensures { Agrees (got_in source.now.nodes.now) result (mention_by (map function_of source.now.functions.now) (bounds_of source.now.vars.now) (context_of (bounds_of source.now.vars.now) context.now) (way_of (option_copied direction.entry)) (cursor_of source.now.nodes.now at) place fun (map arg_of args.now)) }
 {
     let holds = drops_all(source, context) && are_good(source, fun, args);
     let ty = mentioned(source.alloc, source.functions, fun, args);

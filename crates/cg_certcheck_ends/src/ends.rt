@@ -5,12 +5,11 @@ ghost use Rattle.cg_base.specs.declared.kind.Sigil.TheVariants.{U};
 ghost use Rattle.cg_base.specs.declared.limit.Limit.TheVariants.{Ty as OfType};
 ghost use Rattle.cg_base.specs.Types.{fields as record_of, type_of};
 ghost use Rattle.cg_cert.specs.declared.fault.CertFault.TheVariants.{Limit as Beyond};
-ghost use Rattle.cg_certcheck.specs.Forms as forms;
-ghost use Rattle.cg_certcheck.specs.Operators as operators;
+ghost use Rattle.cg_certcheck_ends.specs.Ends as ends;
 ghost use Rattle.cg_certcheck_def.specs.Events.{meets as meets_of, value_of};
 ghost use Rattle.cg_certcheck_def.specs.Pass.{in_front as in_front_of, no_fields as no_fields_at, row, test, wanted as wanted_type};
-ghost use Rattle.cg_certcheck_nodes.specs.Gots.{fields_in, got_in};
-ghost use Rattle.cg_certcheck_nodes.specs.Nodes as nodes;
+ghost use Rattle.cg_certcheck_gots.specs.Gots.{fields_in, got_in};
+ghost use Rattle.cg_certcheck_gots.specs.Records as nodes;
 ghost use Rattle.cg_certcheck_context.specs.View.{Agrees, cursor_of};
 ghost use Rattle.cg_check_pieces.specs.Boxed.{in_box};
 ghost use Rattle.cg_check_pieces.specs.View.{bounds_of, way_of};
@@ -25,9 +24,11 @@ use crate::leaves::judge_literal;
 use cg_base::{Items, Limit, Name, Place, Ty};
 use cg_cert::CertFault;
 use cg_certcheck_context::{Cursor, Source, meets};
+use cg_certcheck_gots::{
+    Fields, Got, in_front, last_type, member_type, no_fields, record_node, struct_node,
+};
 use cg_certcheck_nodes::{
-    Fields, Got, annot_node, app_node, cast_node, esac_node, in_front, last_type, member_node,
-    member_type, no_fields, operated, operated_both, put_node, record_node, struct_node,
+    annot_node, app_node, cast_node, esac_node, member_node, operated, operated_both, put_node,
 };
 use cg_check_pieces::{boxed, copied, given};
 use cg_core::{At, Form, Mark, Op, Term, TyArg};
@@ -36,7 +37,7 @@ use std::alloc::Global;
 
 /// An operator, whose node has this number.
 #[derive(Clone, Copy)]
-pub(crate) struct Operator {
+pub struct Operator {
     pub number: u64,
     pub place: Place,
     pub op: Op,
@@ -44,7 +45,7 @@ pub(crate) struct Operator {
 }
 
 /// The operator of a node.
-pub(crate) fn operator_at(number: u64, place: Place, op: Op) -> Operator
+pub fn operator_at(number: u64, place: Place, op: Op) -> Operator
     ensures number { result.number ≡ number }
     ensures place { result.place ≡ place }
     ensures op { result.op ≡ op }
@@ -59,7 +60,7 @@ pub(crate) fn operator_at(number: u64, place: Place, op: Op) -> Operator
 }
 
 /// A part whose type is within the limit.
-pub(crate) fn small(source: &Source, got: Got) -> Result<Got, CertFault>
+pub fn small(source: &Source, got: Got) -> Result<Got, CertFault>
     ensures { Agrees (got_in source.now.nodes.now) result (test (Beyond OfType) (small_by (got_in source.now.nodes.now got).ty) (Ok (got_in source.now.nodes.now got))) }
 {
     if is_small_enough(got.ty()) {
@@ -87,7 +88,7 @@ fn operator_type(
     operator: Operator,
     first: &Ty,
 ) -> Result<Box<Ty>, CertFault>
-    ensures { Agrees in_box result (operators.operator_type (the_sort operator.sort) (way_of (option_copied direction.entry)) operator.number (type_of first.now)) }
+    ensures { Agrees in_box result (ends.operator_type (the_sort operator.sort) (way_of (option_copied direction.entry)) operator.number (type_of first.now)) }
 {
     match (operator.sort, direction) {
         (Sort::Arithmetic, Some(wanted)) => Ok(copied(alloc, wanted)?),
@@ -97,7 +98,7 @@ fn operator_type(
 }
 
 /// An operand of a type that the operator takes.
-pub(crate) fn taken_by_sort(source: &Source, operator: Operator, got: Got) -> Result<Got, CertFault>
+pub fn taken_by_sort(source: &Source, operator: Operator, got: Got) -> Result<Got, CertFault>
     ensures { Agrees (got_in source.now.nodes.now) result (row operator.number (takes_by (the_sort operator.sort) (got_in source.now.nodes.now got).ty) (Ok (got_in source.now.nodes.now got))) }
 {
     if takes(operator.sort, got.ty()) {
@@ -108,20 +109,20 @@ pub(crate) fn taken_by_sort(source: &Source, operator: Operator, got: Got) -> Re
 }
 
 /// An operator with one operand.
-pub(crate) fn end_unary(
+pub fn end_unary(
     source: &Source,
     direction: Option<&Ty>,
     operator: Operator,
     part: Got,
 ) -> Result<Got, CertFault>
-    ensures { Agrees (got_in source.now.nodes.now) result (operators.one_end operator.op (the_sort operator.sort) (way_of (option_copied direction.entry)) operator.number operator.place (got_in source.now.nodes.now part)) }
+    ensures { Agrees (got_in source.now.nodes.now) result (ends.one_end operator.op (the_sort operator.sort) (way_of (option_copied direction.entry)) operator.number operator.place (got_in source.now.nodes.now part)) }
 {
     let ty = operator_type(source.alloc, direction, operator, part.ty())?;
     operated(source, operator.op, operator.place, ty, part)
 }
 
 /// An operator with two operands, of which the left one was checked first.
-pub(crate) fn end_by_left(
+pub fn end_by_left(
     source: &Source,
     marks: &[Mark],
     direction: Option<&Ty>,
@@ -129,7 +130,7 @@ pub(crate) fn end_by_left(
     left: Got,
     right: Got,
 ) -> Result<Got, CertFault>
-    ensures { Agrees (got_in source.now.nodes.now) result (operators.both_end marks.now operator.op (the_sort operator.sort) (way_of (option_copied direction.entry)) operator.number operator.place (got_in source.now.nodes.now left).ty (got_in source.now.nodes.now left) (got_in source.now.nodes.now right)) }
+    ensures { Agrees (got_in source.now.nodes.now) result (ends.both_end marks.now operator.op (the_sort operator.sort) (way_of (option_copied direction.entry)) operator.number operator.place (got_in source.now.nodes.now left).ty (got_in source.now.nodes.now left) (got_in source.now.nodes.now right)) }
 {
     let ty = operator_type(source.alloc, direction, operator, left.ty())?;
     operated_both(source, marks, operator.op, operator.place, ty, left, right)
@@ -146,7 +147,7 @@ fn number_of(term: &Term<Place>) -> Option<u64>
 }
 
 /// The same where the left one is a literal, whose node has this number and was reached before the right one.
-pub(crate) fn end_by_right(
+pub fn end_by_right(
     source: &Source,
     marks: &[Mark],
     direction: Option<&Ty>,
@@ -156,7 +157,7 @@ pub(crate) fn end_by_right(
     behind: Cursor,
     right: Got,
 ) -> Result<Got, CertFault>
-    ensures { Agrees (got_in source.now.nodes.now) result (operators.literal_end marks.now operator.op (the_sort operator.sort) (way_of (option_copied direction.entry)) operator.number operator.place (note_of (the_term literal.now)) (value_of (the_term literal.now)) number (cursor_of source.now.nodes.now behind) (got_in source.now.nodes.now right)) }
+    ensures { Agrees (got_in source.now.nodes.now) result (ends.literal_end marks.now operator.op (the_sort operator.sort) (way_of (option_copied direction.entry)) operator.number operator.place (note_of (the_term literal.now)) (value_of (the_term literal.now)) number (cursor_of source.now.nodes.now behind) (got_in source.now.nodes.now right)) }
 {
     let value = number_of(literal);
     let left = judge_literal(source, literal.note, value, right.ty(), number, behind)?;
@@ -165,7 +166,7 @@ pub(crate) fn end_by_right(
 }
 
 /// An application.
-pub(crate) fn end_app(
+pub fn end_app(
     source: &Source,
     marks: &[Mark],
     direction: Option<&Ty>,
@@ -174,7 +175,7 @@ pub(crate) fn end_app(
     fun: Got,
     arg: Got,
 ) -> Result<Got, CertFault>
-    ensures { Agrees (got_in source.now.nodes.now) result (forms.app_end marks.now (way_of (option_copied direction.entry)) number place (got_in source.now.nodes.now fun) (got_in source.now.nodes.now arg)) }
+    ensures { Agrees (got_in source.now.nodes.now) result (ends.app_end marks.now (way_of (option_copied direction.entry)) number place (got_in source.now.nodes.now fun) (got_in source.now.nodes.now arg)) }
 {
     let ty = given(source.alloc, fun.ty())?;
     if !meets(direction, &ty) {
@@ -184,7 +185,7 @@ pub(crate) fn end_app(
 }
 
 /// A match on the last alternative.
-pub(crate) fn end_esac(
+pub fn end_esac(
     source: &Source,
     direction: Option<&Ty>,
     number: u64,
@@ -192,14 +193,14 @@ pub(crate) fn end_esac(
     alternative: &At,
     part: Got,
 ) -> Result<Got, CertFault>
-    ensures { Agrees (got_in source.now.nodes.now) result (forms.esac_end (way_of (option_copied direction.entry)) number place alternative.now (got_in source.now.nodes.now part)) }
+    ensures { Agrees (got_in source.now.nodes.now) result (ends.esac_end (way_of (option_copied direction.entry)) number place alternative.now (got_in source.now.nodes.now part)) }
 {
     let ty = last_type(source, number, direction, &alternative.name, part.ty())?;
     esac_node(source, place, ty, alternative, part)
 }
 
 /// A record, of the type that is checked against, or of the one that its fields make.
-pub(crate) fn end_struct(
+pub fn end_struct(
     source: &Source,
     direction: Option<&Ty>,
     strings: &[Items<Mark>],
@@ -215,7 +216,7 @@ pub(crate) fn end_struct(
 }
 
 /// The last field of a record.
-pub(crate) fn last_in_front(source: &Source, name: &Name, got: Got) -> Result<Fields, CertFault>
+pub fn last_in_front(source: &Source, name: &Name, got: Got) -> Result<Fields, CertFault>
     ensures { Agrees (fields_in source.now.nodes.now) result (Ok (in_front_of name.now (got_in source.now.nodes.now got) (no_fields_at (got_in source.now.nodes.now got).at))) }
 {
     let none = no_fields(source, got.at);
@@ -223,7 +224,7 @@ pub(crate) fn last_in_front(source: &Source, name: &Name, got: Got) -> Result<Fi
 }
 
 /// A member.
-pub(crate) fn end_member(
+pub fn end_member(
     source: &Source,
     direction: Option<&Ty>,
     number: u64,
@@ -231,14 +232,14 @@ pub(crate) fn end_member(
     field: &At,
     part: Got,
 ) -> Result<Got, CertFault>
-    ensures { Agrees (got_in source.now.nodes.now) result (forms.member_end (bounds_of source.now.vars.now) (way_of (option_copied direction.entry)) number place field.now (got_in source.now.nodes.now part)) }
+    ensures { Agrees (got_in source.now.nodes.now) result (ends.member_end (bounds_of source.now.vars.now) (way_of (option_copied direction.entry)) number place field.now (got_in source.now.nodes.now part)) }
 {
     let ty = member_type(source, number, direction, &field.name, part.ty())?;
     member_node(source, place, ty, field, part)
 }
 
 /// A put.
-pub(crate) fn end_put(
+pub fn end_put(
     source: &Source,
     marks: &[Mark],
     direction: Option<&Ty>,
@@ -248,7 +249,7 @@ pub(crate) fn end_put(
     value: Got,
     part: Got,
 ) -> Result<Got, CertFault>
-    ensures { Agrees (got_in source.now.nodes.now) result (forms.put_end marks.now (way_of (option_copied direction.entry)) number place field.now (got_in source.now.nodes.now value) (got_in source.now.nodes.now part)) }
+    ensures { Agrees (got_in source.now.nodes.now) result (ends.put_end marks.now (way_of (option_copied direction.entry)) number place field.now (got_in source.now.nodes.now value) (got_in source.now.nodes.now part)) }
 {
     let left = with_part(source.alloc, &field.name, false, value.ty());
     let ty = boxed(source.alloc, left)?;
@@ -259,14 +260,14 @@ pub(crate) fn end_put(
 }
 
 /// A cast to this type.
-pub(crate) fn end_cast(
+pub fn end_cast(
     source: &Source,
     wanted: &Ty,
     number: u64,
     place: Place,
     part: Got,
 ) -> Result<Got, CertFault>
-    ensures { Agrees (got_in source.now.nodes.now) result (forms.cast_end (type_of wanted.now) number place (got_in source.now.nodes.now part)) }
+    ensures { Agrees (got_in source.now.nodes.now) result (ends.cast_end (type_of wanted.now) number place (got_in source.now.nodes.now part)) }
 {
     if !widens(part.ty(), wanted) {
         return Err(CertFault::C2(number));
@@ -275,7 +276,7 @@ pub(crate) fn end_cast(
 }
 
 /// A term with its type written.
-pub(crate) fn end_annot(
+pub fn end_annot(
     source: &Source,
     direction: Option<&Ty>,
     number: u64,
@@ -283,7 +284,7 @@ pub(crate) fn end_annot(
     arg: &TyArg,
     part: Got,
 ) -> Result<Got, CertFault>
-    ensures { Agrees (got_in source.now.nodes.now) result (forms.annot_end (way_of (option_copied direction.entry)) number place (arg_of arg.now) (got_in source.now.nodes.now part)) }
+    ensures { Agrees (got_in source.now.nodes.now) result (ends.annot_end (way_of (option_copied direction.entry)) number place (arg_of arg.now) (got_in source.now.nodes.now part)) }
 {
     if !meets(direction, &arg.ty) {
         return Err(CertFault::C2(number));

@@ -4,7 +4,7 @@
 ghost use Rattle.std.specs.Prelude.{◌≡◌};
 ghost use Rattle.std.specs.Option.{option_copied};
 ghost use Rattle.cg_base.specs.Types.{type_of};
-ghost use Rattle.cg_certcheck_nodes.specs.Held as rows;
+ghost use Rattle.cg_certcheck_gots.specs.Held as rows;
 ghost use Rattle.cg_certcheck_context.specs.View.{Agrees};
 ghost use Rattle.cg_check_pieces.specs.Boxed.{in_box};
 ghost use Rattle.cg_check_pieces.specs.View.{bounds_of, way_of};

@@ -1,12 +1,12 @@
-// What the fields of a record come to, and the record by them (`specs/Nodes.antt`).
+// What the fields of a record come to, and the record by them (`specs/Records.antt`).
 #![tactic(auto, using(cg_check_pieces::proofs::FieldSteps::field_steps))]
 
 ghost use Rattle.std.specs.Prelude.{◌≡◌, IfOk, Ok, map};
 ghost use Rattle.cg_base.specs.declared.kind.Sigil.TheVariants.{U};
 ghost use Rattle.cg_base.specs.Types.{fields as record_of, part_of, to_parts, type_of};
-ghost use Rattle.cg_certcheck_nodes.specs.Gots.{fields_in, got_in};
+ghost use Rattle.cg_certcheck_gots.specs.Gots.{fields_in, got_in};
 ghost use Rattle.cg_check_pieces.specs.Fields.{cores_back, parts_back, trees_back};
-ghost use Rattle.cg_certcheck_nodes.specs.Nodes as forms;
+ghost use Rattle.cg_certcheck_gots.specs.Records as forms;
 ghost use Rattle.cg_certcheck_context.specs.View.{Agrees, cursor_of};
 ghost use Rattle.cg_core.specs.declared.derivation.Node.TheVariants as nodes;
 ghost use Rattle.cg_core.specs.Derivations.{derivation, derivation_of, to_derivations};

@@ -1,5 +1,5 @@
 // What is done between the parts of a node.
-#![tactic(auto, using(crate::proofs::PassSteps::pass_steps))]
+#![tactic(auto, using(crate::proofs::MarkSteps::mark_steps))]
 
 ghost use Rattle.std.specs.Prelude.{◌≡◌};
 ghost use Rattle.cg_certcheck_context.specs.Contexts.{context_of};
@@ -15,7 +15,7 @@ use cg_certcheck_context::{Cursor, Entry, Source, firsts, reach_literal};
 use cg_core::Mark;
 
 /// A literal that stands left of its guide: it is reached first.
-pub(crate) fn reach_left(
+pub fn reach_left(
     source: &Source,
     context: &[Entry],
     marks: &[Mark],
@@ -28,7 +28,7 @@ pub(crate) fn reach_left(
 }
 
 /// The first mark string; no marks, where there is none.
-pub(crate) fn next_marks(strings: &[Items<Mark>]) -> &[Mark]
+pub fn next_marks(strings: &[Items<Mark>]) -> &[Mark]
     ensures { result.now ≡ first_marks strings.now }
 {
     match strings {
@@ -38,7 +38,7 @@ pub(crate) fn next_marks(strings: &[Items<Mark>]) -> &[Mark]
 }
 
 /// The later ones.
-pub(crate) fn later_strings(strings: &[Items<Mark>]) -> &[Items<Mark>]
+pub fn later_strings(strings: &[Items<Mark>]) -> &[Items<Mark>]
     ensures { result.now ≡ later_marks strings.now }
 {
     match strings {

@@ -1,0 +1,2 @@
+pub mod LeafSteps
+pub mod MarkSteps

@@ -1,0 +1,3 @@
+pub mod Gots
+pub mod Held
+pub mod Records
