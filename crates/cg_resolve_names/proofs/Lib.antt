@@ -1,6 +1,8 @@
 pub mod ExprSteps
+pub mod GoesOn
 pub mod ItemSteps
 pub mod Loops
+pub mod PartSteps
 pub mod PatternSteps
 pub mod Same
 pub mod SaysSteps

@@ -9,7 +9,7 @@ use Rattle.cg_resolve_names.proofs.SaysSteps.{says_first}
 -- Items that make a tree, the last outermost, and the faults of the tree: those of the items before, and then the item's.
 module _ {S T X : Type 0} (to : List T → S) (one : S → T → S) (push : (ts : List T) (t : T) → to (ts ++ t ∷ []) ≡ one (to ts) t)
     (F : S → List NameFault) (G : S → T → List NameFault) (step : (s : S) (t : T) → F (one s t) ≡ F s ++ G s t) (view : X → T) where
-  pushed : (ts : List T) (t : T) → F (to (ts ++ t ∷ [])) ≡ F (to ts) ++ G (to ts) t
+  pub pushed : (ts : List T) (t : T) → F (to (ts ++ t ∷ [])) ≡ F (to ts) ++ G (to ts) t
   pushed ts t = ap F (push ts t) ∙ step (to ts) t
 
   grows : (ts later : List T) → (more : List NameFault) × (F (to (ts ++ later)) ≡ F (to ts) ++ more)

@@ -20,3 +20,8 @@ IsFirstFault faults Memory = ⊤
 abbrev pub Says : {T : Type 0} → List NameFault → Result T NamingFault → Type 0
 Says faults (Ok done) = faults ≡ []
 Says faults (Err fault) = IsFirstFault faults fault
+
+-- what a search answers that goes on over these: the fault that it has found before, or else what these say
+abbrev pub GoesOn : Result ⊤ NamingFault → List NameFault → Result ⊤ NamingFault → Type 0
+GoesOn (Ok done) faults result = Says faults result
+GoesOn (Err fault) faults result = result ≡ Err fault

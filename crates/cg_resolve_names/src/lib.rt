@@ -8,6 +8,7 @@
 mod exprs;
 mod fault;
 mod items;
+mod parts;
 mod patterns;
 mod scope;
 mod types;
