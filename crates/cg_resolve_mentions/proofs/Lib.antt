@@ -1,4 +1,5 @@
 pub mod ExprSteps
+pub mod GoesOn
 pub mod GraphSteps
 pub mod PatternSteps
 pub mod PositionSteps

@@ -1,7 +1,9 @@
 -- Tables of the positions of items by name, and lists of positions that names have in them.
-use Rattle.std.specs.Prelude.{◌≡◌, ℕ, List, ◌++◌}
+use Rattle.std.specs.Prelude.{◌≡◌, ℕ, List, ◌++◌, Result, Ok, Err, IfOk, IsErr}
+use Rattle.std.specs.Global.{Vec}
 use Rattle.std.specs.BTreeMap.{BTreeMap}
 use Rattle.std.specs.Option.{option_to_list}
+use Rattle.cg_base.specs.declared.memory.Memory.{Memory}
 use Rattle.cg_surface.specs.Programs.{Entry}
 use Rattle.cg_resolve_def.specs.Mentions.{all_of, synonym_from, signature_from}
 use Rattle.cg_resolve_declared.specs.Tables.{find}
@@ -15,6 +17,16 @@ found_in table name = option_to_list (find table name)
 -- positions, and behind them those of names
 unfoldable pub pushed : BTreeMap (Bor (List ℕ)) ℕ → List ℕ → List (List ℕ) → List ℕ
 pushed table targets names = targets ++ all_of (found_in table) names
+
+-- positions, where there was memory for them, and behind them those of names; where it was wanting, it stays so
+abbrev pub GoesOn : BTreeMap (Bor (List ℕ)) ℕ → Result (Vec ℕ) Memory → List (List ℕ) → Result (Vec ℕ) Memory → Type 0
+GoesOn table (Ok targets) names result = IfOk result (λ after. after.items ≡ pushed table targets.items names)
+GoesOn table (Err memory) names result = IsErr result
+
+-- the same positions, where there was memory for them; where it was wanting, it stays so
+abbrev pub IsAlso : Result (Vec ℕ) Memory → Result (Vec ℕ) Memory → Type 0
+IsAlso (Ok targets) result = IfOk result (λ after. after.items ≡ targets.items)
+IsAlso (Err memory) result = IsErr result
 
 -- the tables have the first synonym and the first signature of each name
 pub record AreFirsts (entries : List Entry) (firsts : Firsts) : Type 0 where

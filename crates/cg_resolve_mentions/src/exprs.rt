@@ -3,151 +3,69 @@
 
 ghost use Rattle.std.specs.Prelude.{◌≡◌, ◌++◌, map, length, take, OnOk};
 ghost use Rattle.cg_surface.specs.Exprs.{expr_of, field_of, bind_of, alt_of, to_exprs, to_fields, to_binds, to_alts};
+ghost use Rattle.cg_surface.specs.Patterns.{pattern_of};
 ghost use Rattle.cg_resolve_def.specs.Faults.{bound, all_bound};
 ghost use Rattle.cg_resolve_def.specs.Mentions.{expr_mentions, list_mentions, values_mentions, binds_mentions, match_mentions};
 ghost use Rattle.cg_resolve_names.specs.Scopes.{SameNames};
 ghost use Rattle.cg_resolve_mentions.specs.Parts.{name_mentions, choice_mentions};
-ghost use Rattle.cg_resolve_mentions.specs.Positions.{pushed};
+ghost use Rattle.cg_resolve_mentions.specs.Positions.{GoesOn, IsAlso};
 
 use crate::patterns::enter_pattern;
 use crate::positions::{Positions, push_name};
 use cg_base::Memory;
 use cg_resolve_names::Scope;
-use cg_surface::{Alt, Bind, FExpr, SExpr, SForm};
+use cg_surface::{Alt, Bind, FExpr, Pat, SExpr, SForm};
 
-/// Adds the positions of the names of functions in an expression, in reading order, among these variables. The scope is as before.
-/// Want of memory is its one refusal.
+/// The positions of the names of functions in an expression, in reading order, behind those before it, among these variables. The scope is
+/// as before. Want of memory is its one refusal, and stays where it was met before.
 #[cycle(push_expr)]
 pub fn push_expr<'a>(
     signatures: &Positions<'_>,
     scope: &mut Scope<'a>,
-    targets: &mut Vec<u32>,
+    targets: Result<Vec<u32>, Memory>,
     expr: &'a SExpr,
-) -> Result<(), Memory>
-    ensures targets { OnOk result (targets.new.items ≡ pushed signatures.now targets.old.items (expr_mentions scope.old (expr_of expr.now))) }
-    ensures scope { OnOk result (scope.new ≡ scope.old) }
+) -> Result<Vec<u32>, Memory>
+    ensures targets { GoesOn signatures.now targets (expr_mentions scope.old (expr_of expr.now)) result }
+    ensures scope { scope.new ≡ scope.old }
 {
+    if targets.is_err() {
+        return targets;
+    }
     match &expr.form {
         SForm::Name(name, _) => push_mention(signatures, scope, targets, name.bytes()),
-        SForm::Number(_) | SForm::Bool(_) | SForm::Unit | SForm::Con(_, None) => Ok(()),
+        SForm::Number(_) | SForm::Bool(_) | SForm::Unit | SForm::Con(_, None) => targets,
         SForm::Paren(inner) | SForm::Upcast(inner) => push_expr(signatures, scope, targets, inner),
         SForm::Sig(inner, _) => push_expr(signatures, scope, targets, inner),
         SForm::Tuple(parts) => push_exprs(signatures, scope, targets, parts.as_slice()),
         SForm::Fields(fields) => push_values(signatures, scope, targets, fields.as_slice()),
         SForm::Con(_, Some(payload)) => push_expr(signatures, scope, targets, payload),
-        SForm::App(fun, arg) => push_two(signatures, scope, targets, fun, arg),
-        SForm::Binary(_, left, right) => push_two(signatures, scope, targets, left, right),
+        SForm::App(first, second) | SForm::Binary(_, first, second) => {
+            let inside = push_expr(signatures, scope, targets, first);
+            push_expr(signatures, scope, inside, second)
+        }
         SForm::Member(inner, _) | SForm::Unary(_, inner) => {
             push_expr(signatures, scope, targets, inner)
         }
         SForm::Put(inner, fields) => {
-            push_put(signatures, scope, targets, inner, fields.as_slice())
+            let inside = push_expr(signatures, scope, targets, inner);
+            push_values(signatures, scope, inside, fields.as_slice())
         }
-        SForm::Let(binds, body) => push_let(signatures, scope, targets, binds.as_slice(), body),
-        SForm::If(condition, _, yes, no) => push_if(signatures, scope, targets, condition, yes, no),
+        SForm::Let(binds, body) => {
+            let kept = scope.len();
+            let inside = push_binds(signatures, scope, targets, binds.as_slice());
+            let inside = push_expr(signatures, scope, inside, body);
+            scope.leave(kept);
+            inside
+        }
+        SForm::If(condition, _, yes, no) => {
+            let inside = push_expr(signatures, scope, targets, condition);
+            let inside = push_expr(signatures, scope, inside, yes);
+            push_expr(signatures, scope, inside, no)
+        }
         SForm::Match(subject, _, choices) => {
-            push_match(signatures, scope, targets, subject, choices.as_slice())
+            let inside = push_expr(signatures, scope, targets, subject);
+            push_choices(signatures, scope, inside, choices.as_slice())
         }
-    }
-}
-
-// The same of two expressions, from left to right.
-#[cycle(push_expr)]
-fn push_two<'a>(
-    signatures: &Positions<'_>,
-    scope: &mut Scope<'a>,
-    targets: &mut Vec<u32>,
-    first: &'a SExpr,
-    second: &'a SExpr,
-) -> Result<(), Memory>
-    ensures targets { OnOk result (targets.new.items ≡ pushed signatures.now targets.old.items (expr_mentions scope.old (expr_of first.now) ++ expr_mentions scope.old (expr_of second.now))) }
-    ensures scope { OnOk result (scope.new ≡ scope.old) }
-{
-    push_expr(signatures, scope, targets, first)?;
-    push_expr(signatures, scope, targets, second)
-}
-
-// The same of a record and the fields that are put into it.
-#[cycle(push_expr)]
-fn push_put<'a>(
-    signatures: &Positions<'_>,
-    scope: &mut Scope<'a>,
-    targets: &mut Vec<u32>,
-    expr: &'a SExpr,
-    fields: &'a [FExpr],
-) -> Result<(), Memory>
-    ensures targets { OnOk result (targets.new.items ≡ pushed signatures.now targets.old.items (expr_mentions scope.old (expr_of expr.now) ++ values_mentions scope.old (to_fields (map field_of fields.now)))) }
-    ensures scope { OnOk result (scope.new ≡ scope.old) }
-{
-    push_expr(signatures, scope, targets, expr)?;
-    push_values(signatures, scope, targets, fields)
-}
-
-// The same of bindings, and of their body among their variables.
-#[cycle(push_expr)]
-fn push_let<'a>(
-    signatures: &Positions<'_>,
-    scope: &mut Scope<'a>,
-    targets: &mut Vec<u32>,
-    binds: &'a [Bind],
-    body: &'a SExpr,
-) -> Result<(), Memory>
-    ensures targets { OnOk result (targets.new.items ≡ pushed signatures.now targets.old.items (binds_mentions scope.old (to_binds (map bind_of binds.now)) ++ expr_mentions (all_bound (to_binds (map bind_of binds.now)) ++ scope.old) (expr_of body.now))) }
-    ensures scope { OnOk result (scope.new ≡ scope.old) }
-{
-    let kept = scope.len();
-    push_binds(signatures, scope, targets, binds)?;
-    push_expr(signatures, scope, targets, body)?;
-    scope.leave(kept);
-    Ok(())
-}
-
-// The same of an `if`.
-#[cycle(push_expr)]
-fn push_if<'a>(
-    signatures: &Positions<'_>,
-    scope: &mut Scope<'a>,
-    targets: &mut Vec<u32>,
-    condition: &'a SExpr,
-    yes: &'a SExpr,
-    no: &'a SExpr,
-) -> Result<(), Memory>
-    ensures targets { OnOk result (targets.new.items ≡ pushed signatures.now targets.old.items (expr_mentions scope.old (expr_of condition.now) ++ expr_mentions scope.old (expr_of yes.now) ++ expr_mentions scope.old (expr_of no.now))) }
-    ensures scope { OnOk result (scope.new ≡ scope.old) }
-{
-    push_two(signatures, scope, targets, condition, yes)?;
-    push_expr(signatures, scope, targets, no)
-}
-
-// The same of a match.
-#[cycle(push_expr)]
-fn push_match<'a>(
-    signatures: &Positions<'_>,
-    scope: &mut Scope<'a>,
-    targets: &mut Vec<u32>,
-    subject: &'a SExpr,
-    choices: &'a [Alt],
-) -> Result<(), Memory>
-    ensures targets { OnOk result (targets.new.items ≡ pushed signatures.now targets.old.items (expr_mentions scope.old (expr_of subject.now) ++ match_mentions scope.old (to_alts (map alt_of choices.now)))) }
-    ensures scope { OnOk result (scope.new ≡ scope.old) }
-{
-    push_expr(signatures, scope, targets, subject)?;
-    push_choices(signatures, scope, targets, choices)
-}
-
-// The same of a name: a variable hides a function.
-fn push_mention(
-    signatures: &Positions<'_>,
-    scope: &Scope<'_>,
-    targets: &mut Vec<u32>,
-    name: &[u8],
-) -> Result<(), Memory>
-    ensures { OnOk result (targets.new.items ≡ pushed signatures.now targets.old.items (name_mentions scope.now name.now)) }
-{
-    if scope.holds(name) {
-        Ok(())
-    } else {
-        push_name(signatures, targets, name)
     }
 }
 
@@ -156,16 +74,17 @@ fn push_mention(
 fn push_exprs<'a>(
     signatures: &Positions<'_>,
     scope: &mut Scope<'a>,
-    targets: &mut Vec<u32>,
+    targets: Result<Vec<u32>, Memory>,
     exprs: &'a [SExpr],
-) -> Result<(), Memory>
-    ensures targets { OnOk result (targets.new.items ≡ pushed signatures.now targets.old.items (list_mentions scope.old (to_exprs (map expr_of exprs.now)))) }
-    ensures scope { OnOk result (scope.new ≡ scope.old) }
+) -> Result<Vec<u32>, Memory>
+    ensures targets { GoesOn signatures.now targets (list_mentions scope.old (to_exprs (map expr_of exprs.now))) result }
+    ensures scope { scope.new ≡ scope.old }
 {
+    let mut inside = targets;
     for expr in exprs {
-        push_expr(signatures, scope, targets, expr)?;
+        inside = push_expr(signatures, scope, inside, expr);
     }
-    Ok(())
+    inside
 }
 
 // The same of the values of fields.
@@ -173,16 +92,17 @@ fn push_exprs<'a>(
 fn push_values<'a>(
     signatures: &Positions<'_>,
     scope: &mut Scope<'a>,
-    targets: &mut Vec<u32>,
+    targets: Result<Vec<u32>, Memory>,
     fields: &'a [FExpr],
-) -> Result<(), Memory>
-    ensures targets { OnOk result (targets.new.items ≡ pushed signatures.now targets.old.items (values_mentions scope.old (to_fields (map field_of fields.now)))) }
-    ensures scope { OnOk result (scope.new ≡ scope.old) }
+) -> Result<Vec<u32>, Memory>
+    ensures targets { GoesOn signatures.now targets (values_mentions scope.old (to_fields (map field_of fields.now))) result }
+    ensures scope { scope.new ≡ scope.old }
 {
+    let mut inside = targets;
     for field in fields {
-        push_expr(signatures, scope, targets, &field.value)?;
+        inside = push_expr(signatures, scope, inside, &field.value);
     }
-    Ok(())
+    inside
 }
 
 // The same of bindings, each among the variables of those before it. Their variables come into scope.
@@ -190,17 +110,18 @@ fn push_values<'a>(
 fn push_binds<'a>(
     signatures: &Positions<'_>,
     scope: &mut Scope<'a>,
-    targets: &mut Vec<u32>,
+    targets: Result<Vec<u32>, Memory>,
     binds: &'a [Bind],
-) -> Result<(), Memory>
-    ensures targets { OnOk result (targets.new.items ≡ pushed signatures.now targets.old.items (binds_mentions scope.old (to_binds (map bind_of binds.now)))) }
+) -> Result<Vec<u32>, Memory>
+    ensures targets { GoesOn signatures.now targets (binds_mentions scope.old (to_binds (map bind_of binds.now))) result }
     ensures names { OnOk result (SameNames scope.new (all_bound (to_binds (map bind_of binds.now)) ++ scope.old)) }
-    ensures kept { OnOk result (take (length scope.old) scope.new ≡ scope.old) }
+    ensures kept { take (length scope.old) scope.new ≡ scope.old }
 {
+    let mut inside = targets;
     for bind in binds {
-        push_bind(signatures, scope, targets, bind)?;
+        inside = push_bind(signatures, scope, inside, bind);
     }
-    Ok(())
+    inside
 }
 
 // The same of a binding, whose variables come into scope.
@@ -208,15 +129,15 @@ fn push_binds<'a>(
 fn push_bind<'a>(
     signatures: &Positions<'_>,
     scope: &mut Scope<'a>,
-    targets: &mut Vec<u32>,
+    targets: Result<Vec<u32>, Memory>,
     bind: &'a Bind,
-) -> Result<(), Memory>
-    ensures targets { OnOk result (targets.new.items ≡ pushed signatures.now targets.old.items (expr_mentions scope.old (bind_of bind.now).value)) }
+) -> Result<Vec<u32>, Memory>
+    ensures targets { GoesOn signatures.now targets (expr_mentions scope.old (bind_of bind.now).value) result }
     ensures names { OnOk result (SameNames scope.new (bound (bind_of bind.now).pattern ++ scope.old)) }
-    ensures kept { OnOk result (take (length scope.old) scope.new ≡ scope.old) }
+    ensures kept { take (length scope.old) scope.new ≡ scope.old }
 {
-    push_expr(signatures, scope, targets, &bind.value)?;
-    enter_pattern(scope, &bind.pat)
+    let inside = push_expr(signatures, scope, targets, &bind.value);
+    push_pattern(scope, inside, &bind.pat)
 }
 
 // The same of the alternatives of a match.
@@ -224,16 +145,17 @@ fn push_bind<'a>(
 fn push_choices<'a>(
     signatures: &Positions<'_>,
     scope: &mut Scope<'a>,
-    targets: &mut Vec<u32>,
+    targets: Result<Vec<u32>, Memory>,
     choices: &'a [Alt],
-) -> Result<(), Memory>
-    ensures targets { OnOk result (targets.new.items ≡ pushed signatures.now targets.old.items (match_mentions scope.old (to_alts (map alt_of choices.now)))) }
-    ensures scope { OnOk result (scope.new ≡ scope.old) }
+) -> Result<Vec<u32>, Memory>
+    ensures targets { GoesOn signatures.now targets (match_mentions scope.old (to_alts (map alt_of choices.now))) result }
+    ensures scope { scope.new ≡ scope.old }
 {
+    let mut inside = targets;
     for choice in choices {
-        push_choice(signatures, scope, targets, choice)?;
+        inside = push_choice(signatures, scope, inside, choice);
     }
-    Ok(())
+    inside
 }
 
 // The same of an alternative of a match.
@@ -241,15 +163,47 @@ fn push_choices<'a>(
 fn push_choice<'a>(
     signatures: &Positions<'_>,
     scope: &mut Scope<'a>,
-    targets: &mut Vec<u32>,
+    targets: Result<Vec<u32>, Memory>,
     choice: &'a Alt,
-) -> Result<(), Memory>
-    ensures targets { OnOk result (targets.new.items ≡ pushed signatures.now targets.old.items (choice_mentions scope.old (alt_of choice.now))) }
-    ensures scope { OnOk result (scope.new ≡ scope.old) }
+) -> Result<Vec<u32>, Memory>
+    ensures targets { GoesOn signatures.now targets (choice_mentions scope.old (alt_of choice.now)) result }
+    ensures scope { scope.new ≡ scope.old }
 {
     let kept = scope.len();
-    enter_pattern(scope, &choice.pat)?;
-    push_expr(signatures, scope, targets, &choice.body)?;
+    let inside = push_pattern(scope, targets, &choice.pat);
+    let inside = push_expr(signatures, scope, inside, &choice.body);
     scope.leave(kept);
-    Ok(())
+    inside
+}
+
+// The same of a name: a variable hides a function.
+fn push_mention(
+    signatures: &Positions<'_>,
+    scope: &Scope<'_>,
+    targets: Result<Vec<u32>, Memory>,
+    name: &[u8],
+) -> Result<Vec<u32>, Memory>
+    ensures { GoesOn signatures.now targets (name_mentions scope.now name.now) result }
+{
+    if scope.holds(name) {
+        return targets;
+    }
+    let mut targets = targets?;
+    push_name(signatures, &mut targets, name)?;
+    Ok(targets)
+}
+
+// Brings the variables of a pattern into scope, and hands on the positions.
+fn push_pattern<'a>(
+    scope: &mut Scope<'a>,
+    targets: Result<Vec<u32>, Memory>,
+    pat: &'a Pat,
+) -> Result<Vec<u32>, Memory>
+    ensures targets { IsAlso targets result }
+    ensures names { OnOk result (SameNames scope.new (bound (pattern_of pat.now) ++ scope.old)) }
+    ensures kept { take (length scope.old) scope.new ≡ scope.old }
+{
+    let targets = targets?;
+    enter_pattern(scope, pat)?;
+    Ok(targets)
 }

@@ -76,5 +76,7 @@ fn push_function(
     };
     let mut scope = Scope::new(alloc);
     enter_pattern(&mut scope, definition.param)?;
-    push_expr(signatures, &mut scope, targets, definition.body)
+    let before = std::mem::replace(targets, Vec::new(alloc));
+    *targets = push_expr(signatures, &mut scope, Ok(before), definition.body)?;
+    Ok(())
 }

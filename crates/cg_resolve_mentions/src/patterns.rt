@@ -10,11 +10,11 @@ use cg_base::Memory;
 use cg_resolve_names::Scope;
 use cg_surface::{FPat, Pat, PatForm};
 
-/// Brings the variables of a pattern into scope, those that aren't there already. Want of memory is its one refusal.
+/// Brings the variables of a pattern into scope, those that aren't there already, behind those of the scope. Want of memory is its one refusal.
 #[cycle(enter)]
 pub fn enter_pattern<'a>(scope: &mut Scope<'a>, pat: &'a Pat) -> Result<(), Memory>
     ensures names { OnOk result (SameNames scope.new (bound (pattern_of pat.now) ++ scope.old)) }
-    ensures kept { OnOk result (take (length scope.old) scope.new ≡ scope.old) }
+    ensures kept { take (length scope.old) scope.new ≡ scope.old }
 {
     match &pat.form {
         PatForm::Name(name) => enter_name(scope, name.bytes()),
@@ -33,7 +33,7 @@ pub fn enter_pattern<'a>(scope: &mut Scope<'a>, pat: &'a Pat) -> Result<(), Memo
 // The same of a name.
 fn enter_name<'a>(scope: &mut Scope<'a>, name: &'a [u8]) -> Result<(), Memory>
     ensures names { OnOk result (SameNames scope.new (name.now ∷ scope.old)) }
-    ensures kept { OnOk result (take (length scope.old) scope.new ≡ scope.old) }
+    ensures kept { take (length scope.old) scope.new ≡ scope.old }
 {
     scope.enter(name)?;
     Ok(())
@@ -43,7 +43,7 @@ fn enter_name<'a>(scope: &mut Scope<'a>, name: &'a [u8]) -> Result<(), Memory>
 #[cycle(enter)]
 fn enter_patterns<'a>(scope: &mut Scope<'a>, parts: &'a [Pat]) -> Result<(), Memory>
     ensures names { OnOk result (SameNames scope.new (names_of (all_variables (to_patterns (map pattern_of parts.now))) ++ scope.old)) }
-    ensures kept { OnOk result (take (length scope.old) scope.new ≡ scope.old) }
+    ensures kept { take (length scope.old) scope.new ≡ scope.old }
 {
     for part in parts {
         enter_pattern(scope, part)?;
@@ -55,7 +55,7 @@ fn enter_patterns<'a>(scope: &mut Scope<'a>, parts: &'a [Pat]) -> Result<(), Mem
 #[cycle(enter)]
 fn enter_fields<'a>(scope: &mut Scope<'a>, fields: &'a [FPat]) -> Result<(), Memory>
     ensures names { OnOk result (SameNames scope.new (names_of (field_variables (to_fields (map field_of fields.now))) ++ scope.old)) }
-    ensures kept { OnOk result (take (length scope.old) scope.new ≡ scope.old) }
+    ensures kept { take (length scope.old) scope.new ≡ scope.old }
 {
     for field in fields {
         enter_pattern(scope, &field.pat)?;
