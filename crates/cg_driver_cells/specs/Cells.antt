@@ -5,6 +5,7 @@ use Rattle.cg_core.specs.Terms.{Note, Tree, term, fun}
 use Rattle.cg_driver_entry.specs.Types.{needs_cells}
 use Rattle.cg_inst.specs.Lists.{nodes_maybe}
 use Rattle.cg_inst.specs.Views.{instance_of}
+use Rattle.cg_mono.specs.Copies.{body_by}
 use Rattle.cg_mono.specs.declared.copies.Copy.{Copy}
 use Rattle.cg_graphs.specs.Reach.{IsReached}
 use Rattle.cg_typing.specs.Functions.{arg_types}
@@ -44,7 +45,7 @@ abbrev pub instances_of : List Copy → List Instance
 instances_of copies = map (λ c. instance_of c.instance) copies
 
 abbrev pub bodies_of : List Copy → List (Option (Tree Note))
-bodies_of copies = map (λ c. maybe_core c.body) copies
+bodies_of copies = map (λ c. maybe_core (body_by c)) copies
 
 -- ---- how it is found
 

@@ -7,6 +7,7 @@ ghost use Rattle.cg_driver_cells.specs.Cells.{IsMarked, ReachesCells, bodies_of,
 ghost use Rattle.cg_graphs.specs.Orders.{lists};
 ghost use Rattle.cg_core.specs.Kernels.{the_core};
 ghost use Rattle.cg_driver_entry.specs.Types.{needs_cells as type_needs_cells};
+ghost use Rattle.cg_mono.specs.Copies.{body_by};
 ghost use Rattle.cg_mono.specs.Monos.{copies_in};
 ghost use Rattle.cg_typing.specs.Instances.{nodes_of};
 ghost use Rattle.cg_typing.specs.Kept.{maybe_core};
@@ -67,10 +68,10 @@ fn mentions_in(alloc: Global, places: &mut Places, core: &Term<Typed>) -> Result
 
 // The places of those that the body of an instance mentions.
 fn mentions_from(alloc: Global, places: &mut Places, copy: &Copy) -> Result<Vec<u32>, Memory>
-    ensures targets { IfOk result (λ targets. targets.items ≡ places_in places.old.list (maybe_core copy.now.body)) }
+    ensures targets { IfOk result (λ targets. targets.items ≡ places_in places.old.list (maybe_core (body_by copy.now))) }
     ensures kept { places.new ≡ places.old }
 {
-    match &copy.body {
+    match copy.core() {
         Some(core) => mentions_in(alloc, places, core),
         None => Ok(Vec::new(alloc)),
     }
@@ -101,9 +102,9 @@ fn any_needs_cells(nodes: &[&Term<Typed>]) -> bool
 
 // Whether the type of one of the nodes of the body of an instance does.
 fn has_cells(alloc: Global, copy: &Copy) -> Result<bool, Memory>
-    ensures { IfOk result (λ has. has ≡ has_cells_in (maybe_core copy.now.body)) }
+    ensures { IfOk result (λ has. has ≡ has_cells_in (maybe_core (body_by copy.now))) }
 {
-    match &copy.body {
+    match copy.core() {
         Some(core) => {
             let nodes = nodes_in(alloc, core)?;
             Ok(any_needs_cells(nodes.as_slice()))

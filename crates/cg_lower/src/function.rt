@@ -14,7 +14,7 @@ ghost use Rattle.cg_lower_def.specs.Functions as pure;
 ghost use Rattle.cg_cgen_def.specs.Places.{argument_name};
 ghost use Rattle.cg_lower_def.specs.Structs.{numbered_in};
 ghost use Rattle.cg_inst.specs.Views.{instance_of};
-ghost use Rattle.cg_mono.specs.Copies.{copy_of};
+ghost use Rattle.cg_mono.specs.Copies.{body_by, copy_of};
 ghost use Rattle.cg_typing.specs.Kept.{maybe_core};
 ghost use Rattle.cg_typing.specs.Parts.{given_by, taken_by};
 ghost use Rattle.cg_lower.specs.Lowerings.{Begins, IsHead, library_low};
@@ -111,11 +111,11 @@ fn body(
     copy: &Copy,
 ) -> Result<Option<CBody>, Memory>
     ensures body { IfOk result (λ b. option_map trees.body_of b
-        ≡ option_map body_of (pure.low_instance (whole_of state.old) (instance_of copy.now.instance) (maybe_core copy.now.body))) }
+        ≡ option_map body_of (pure.low_instance (whole_of state.old) (instance_of copy.now.instance) (maybe_core (body_by copy.now)))) }
     ensures few { IfOk result (λ b. IsFewIn (whole_of state.old) (instance_of copy.now.instance, copy_of copy.now)) }
     ensures kept { IfOk result (λ b. kept_of state.new ≡ kept_of state.old) }
 {
-    match &copy.body {
+    match copy.core() {
         Some(core) => Ok(Some(lower_body(alloc, state, core)?)),
         None => match copy.instance.fun {
             Fun::User(_) => Ok(None),

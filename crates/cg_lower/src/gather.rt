@@ -161,7 +161,7 @@ impl Collected {
         self.places.push(alloc, &copy.instance)?;
         self.add_ends(alloc, &copy.ty)?;
         self.add_turns(alloc, copy.instance.fun, &copy.ty)?;
-        let nodes = nodes_of_body(alloc, &copy.body)?;
+        let nodes = nodes_of_body(alloc, copy.core())?;
         self.add_nodes(alloc, nodes.as_slice())?;
         Ok(())
     }

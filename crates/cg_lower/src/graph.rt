@@ -60,7 +60,7 @@ fn calls_from(alloc: Global, places: &mut Places, copy: &Copy) -> Result<Vec<u32
     ensures kept { places.new ≡ places.old }
 {
     let mut targets = Vec::new(alloc);
-    let nodes = nodes_of_body(alloc, &copy.body)?;
+    let nodes = nodes_of_body(alloc, copy.core())?;
     for node in nodes.as_slice() {
         push_call(alloc, places, &mut targets, node)?;
     }

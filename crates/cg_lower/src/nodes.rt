@@ -2,6 +2,7 @@
 #![tactic(auto)]
 
 ghost use Rattle.std.specs.Prelude.{◌≡◌, List, map, IfOk};
+ghost use Rattle.std.specs.Option.{option_copied};
 ghost use Rattle.cg_core.specs.Kernels.{the_core};
 ghost use Rattle.cg_typing.specs.Kept.{maybe_core};
 ghost use Rattle.cg_lower.specs.Collected.{nodes_maybe};
@@ -15,9 +16,9 @@ use std::alloc::Global;
 /// is its one refusal.
 pub(crate) fn nodes_of_body<'a>(
     alloc: Global,
-    body: &'a Option<Term<Typed>>,
+    body: Option<&'a Term<Typed>>,
 ) -> Result<Vec<&'a Term<Typed>>, Memory>
-    ensures { IfOk result (λ nodes. map (λ node. the_core node.now) nodes.items ≡ nodes_maybe (maybe_core body.now)) }
+    ensures { IfOk result (λ nodes. map (λ node. the_core node.now) nodes.items ≡ nodes_maybe (maybe_core (option_copied body.entry))) }
 {
     match body {
         Some(core) => nodes_in(alloc, core),

@@ -1,3 +1,4 @@
+pub mod Closed
 pub mod Copies
 pub mod Fields
 pub mod Monos

@@ -4,20 +4,21 @@
 ghost use Rattle.std.specs.Prelude.{◌≡◌, None, Some, map, slice_get, IfOk, MatchOption};
 ghost use Rattle.std.specs.Option.{option_map};
 ghost use Rattle.cg_base.specs.Types.{type_of};
-ghost use Rattle.cg_core.specs.Kernels.{function_of};
+ghost use Rattle.cg_core.specs.Kernels.{function_of, the_core};
 ghost use Rattle.cg_inst.specs.Judged.{core_in, functions_in};
 ghost use Rattle.cg_inst.specs.Lists.{core_of};
 ghost use Rattle.cg_inst.specs.Views.{instance_of};
 ghost use Rattle.cg_inst_laws.specs.Laws.{entry_of};
 ghost use Rattle.cg_kinds.specs.Kinds.{or_unit};
-ghost use Rattle.cg_mono.specs.Copies.{copy_of};
+ghost use Rattle.cg_mono.specs.Copies.{copy_of, core_by};
 ghost use Rattle.cg_mono.specs.Monos.{copies_in};
 ghost use Rattle.cg_typing.specs.Functions.{fun_type};
 ghost use Rattle.cg_typing.specs.Instances.{as_arguments};
 ghost use Rattle.cg_typing.specs.Kept.{maybe_core};
 ghost use Rattle.cg_typing.specs.Subst.{subst_core};
 
-use crate::copies::{Copy, Mono};
+use crate::closed::is_closed_core;
+use crate::copies::{Body, Copy, Mono};
 use crate::cores::specialise;
 use cg_base::{Fun, Items, Memory, Ty};
 use cg_core::{KFun, Term, Typed};
@@ -47,18 +48,28 @@ fn type_at(alloc: Global, checked: &Checked, instance: &Instance) -> Result<Ty, 
     }
 }
 
+// A core with these types for its type variables: itself, where none stands in it.
+fn body<'a>(alloc: Global, core: &'a Term<Typed>, types: &Items<Ty>) -> Result<Body<'a>, Memory>
+    ensures { IfOk result (λ b. the_core (core_by b) ≡ subst_core (map type_of types.now) (the_core core.now)) }
+{
+    if is_closed_core(alloc, core)? {
+        return Ok(Body::Source(core));
+    }
+    Ok(Body::Own(specialise(alloc, core, types)?))
+}
+
 // The body of an instance, where it has one.
-fn body_at(
+fn body_at<'a>(
     alloc: Global,
-    checked: &Checked,
+    checked: &'a Checked,
     instance: &Instance,
-) -> Result<Option<Term<Typed>>, Memory>
-    ensures { IfOk result (λ body. maybe_core body
+) -> Result<Option<Body<'a>>, Memory>
+    ensures { IfOk result (λ b. maybe_core (option_map core_by b)
         ≡ option_map (subst_core (instance_of instance.now).types) (core_of (core_in checked.now) (instance_of instance.now).fun)) }
 {
     match instance.fun {
         Fun::User(at) => match checked.core(at) {
-            Some(core) => Ok(Some(specialise(alloc, core, &instance.args)?)),
+            Some(core) => Ok(Some(body(alloc, core, &instance.args)?)),
             None => Ok(None),
         },
         Fun::Lib(_) => Ok(None),
@@ -66,7 +77,7 @@ fn body_at(
 }
 
 // The copy of an instance.
-fn copy_at(alloc: Global, checked: &Checked, instance: &Instance) -> Result<Copy, Memory>
+fn copy_at<'a>(alloc: Global, checked: &'a Checked, instance: &Instance) -> Result<Copy<'a>, Memory>
     ensures same { IfOk result (λ copy. instance_of copy.instance ≡ instance_of instance.now) }
     ensures is { IfOk result (λ copy. copy_of copy ≡ entry_of (functions_in checked.now) (core_in checked.now) (instance_of instance.now)) }
 {
@@ -80,11 +91,11 @@ fn copy_at(alloc: Global, checked: &Checked, instance: &Instance) -> Result<Copy
 }
 
 /// The copies of the instances of a list, over a checked source (docs/LANGUAGE.md, "Instances"). Want of memory is its one refusal.
-pub fn mono(alloc: Global, checked: &Checked, list: &Instances) -> Result<Mono, Memory>
+pub fn mono<'a>(alloc: Global, checked: &'a Checked, list: &Instances) -> Result<Mono<'a>, Memory>
     ensures instances { IfOk result (λ m. map (λ c. instance_of c.instance) (copies_in m) ≡ list.now) }
     ensures entries { IfOk result (λ m. map copy_of (copies_in m) ≡ map (entry_of (functions_in checked.now) (core_in checked.now)) (list.now)) }
 {
-    let mut copies = Items::new(alloc);
+    let mut copies = Vec::new(alloc);
     let instances = list.as_slice();
     for instance in instances {
         copies.push(copy_at(alloc, checked, instance)?)?;

@@ -1,13 +1,14 @@
 //! Stage: instances. One copy for each instance of a checked source.
 //! Role: public.
-//! Promises: `mono` gives of each instance its type and its core, exactly; `Mono`, `Copy` and `specialise`.
+//! Promises: `mono` gives of each instance its type and its core, exactly; `Mono`, `Copy`, `Body` and `specialise`.
 //! May cite: anything of its stage and of those below; no crate above.
 #![tactic(auto)]
 
 mod build;
+mod closed;
 mod copies;
 mod cores;
 
 pub use build::mono;
-pub use copies::{Copy, Mono};
+pub use copies::{Body, Copy, Mono};
 pub use cores::specialise;

@@ -19,4 +19,4 @@ loop-copy-preserved c =
 pub returns : goal.returns
 returns c =
     let xs = c.as_slice-copy-items.result.now in
-    collected _ xs c.loop-copy.copy-index c.loop-copy.collected (omega (arith, c.loop-copy-test.false)) c.as_slice-copy-items.ensures c.loop-copy.invariant
+    collected c.args.mono.now xs c.loop-copy.copy-index c.loop-copy.collected (omega (arith, c.loop-copy-test.false)) c.as_slice-copy-items.ensures c.loop-copy.invariant

@@ -7,5 +7,5 @@ use Rattle.cg_mono.proofs.build.mono.Given as goal
 
 abbrev pub invariant-loop-instance : goal.invariant-loop-instance
 invariant-loop-instance l =
-    (map (λ c. instance_of c.instance) l.copies ≡ map instance_of (take l.instance-index l.instances))
-    × (map copy_of l.copies ≡ map (entry_of (functions_in l.checked) (core_in l.checked)) (map instance_of (take l.instance-index l.instances)))
+    (map (λ c. instance_of c.instance) l.copies.items ≡ map instance_of (take l.instance-index l.instances))
+    × (map copy_of l.copies.items ≡ map (entry_of (functions_in l.checked) (core_in l.checked)) (map instance_of (take l.instance-index l.instances)))

@@ -5,7 +5,8 @@ use Rattle.cg_core.specs.declared.term.Term.{Term}
 use Rattle.cg_core.specs.declared.term.Typed.{Typed}
 use Rattle.cg_core.specs.Kernels.{the_core}
 use Rattle.cg_typing.specs.Rules.{type_at}
-use Rattle.cg_lower.specs.Collected.{called_at, parts_of_arrows, turned_by}
+use Rattle.cg_typing.specs.Kept.{maybe_core}
+use Rattle.cg_lower.specs.Collected.{called_at, nodes_maybe, parts_of_arrows, turned_by}
 use Rattle.cg_lower.proofs.CollectSteps.{grown_as, grown_both, grown_instance}
 use Rattle.cg_lower.proofs.gather.Collected.add_copy.Goals as goal
 
@@ -15,7 +16,7 @@ returns c =
     let second = grown_both _ _ _ _ _ _ _ _ _ _ _ _ first c.in_ok-add_ends.ensures in
     let third = grown_both _ _ _ _ _ _ _ _ _ _ _ _ second c.in_ok-add_turns.ensures in
     let last = grown_both _ _ _ _ _ _ _ _ _ _ _ _ third c.in_ok-add_nodes.ensures in
-    let nodes = ap (map (λ (n : Bor (Term Typed)). the_core n.now)) c.as_slice.ensures.value ∙ c.in_ok-nodes.ensures in
+    let nodes = ap (map (λ (n : Bor (Term Typed)). the_core n.now)) c.as_slice.ensures.value ∙ c.in_ok-nodes.ensures ∙ ap (λ o. nodes_maybe (maybe_core o)) c.core.ensures in
     let before = turned_by c.args.copy.now.instance.fun (type_of c.args.copy.now.ty) in
     grown_as _ _ _ _ _ _ _ _ _ _
     (ap (λ ns. parts_of_arrows (type_of c.args.copy.now.ty ∷ before) ++ map type_at ns) nodes)
