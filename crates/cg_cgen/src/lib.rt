@@ -14,8 +14,6 @@ mod locals;
 mod loops;
 mod ops;
 mod switches;
-#[cfg(test)]
-mod tests;
 
 pub use iterators::{IterTypes, iterator};
 pub use law::operators_compute;

@@ -8,8 +8,6 @@
 mod abstracts;
 mod answer;
 mod going;
-#[cfg(test)]
-mod tests;
 
 pub use answer::{Ran, run_c, run_c_with};
 pub use cg_cmachine_values::RunFault;

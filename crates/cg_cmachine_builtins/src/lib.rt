@@ -14,8 +14,6 @@ mod judge;
 mod names;
 mod operands;
 mod room;
-#[cfg(test)]
-mod tests;
 mod widths;
 
 pub use built_in::BuiltIn;

@@ -12,8 +12,6 @@ mod kind;
 mod shape;
 mod sizes;
 mod structs;
-#[cfg(test)]
-mod tests;
 
 pub use kind::{Kind, Part};
 pub use shape::Shape;

@@ -13,8 +13,6 @@ mod queue;
 mod resolve;
 mod scope;
 mod setting;
-#[cfg(test)]
-mod tests;
 
 pub use code::{Head, Position, Resolved};
 pub use line::{Action, Callee, Line, Right};

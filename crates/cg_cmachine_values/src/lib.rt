@@ -11,8 +11,6 @@ mod fault;
 mod operate;
 mod place;
 mod read;
-#[cfg(test)]
-mod tests;
 mod value;
 mod words;
 

@@ -1,9 +1,8 @@
-//! Stage: tests. Tests that cross crates and that a case cannot say: texts, orders, faults, want of memory.
+//! Stage: tests. Tests that cross crates and that a case cannot say: certificates, faults of the outside, want of memory.
 //! Role: tests.
 //! Promises: nothing: tests alone.
 //! May cite: all crates; no crate but tests cites it.
-//! The two evaluations, texts of values and of C, orders of graphs, an outside that fails at some calls, and each call that takes
-//! memory once where there is plenty.
+//! An outside that fails at some calls, faults of C texts, and each call that takes memory once where there is plenty.
 #![tactic(auto)]
 
 #[cfg(test)]
@@ -11,22 +10,8 @@ mod calls;
 #[cfg(test)]
 mod certificates;
 #[cfg(test)]
-mod evaluation;
-#[cfg(test)]
-mod halving;
-#[cfg(test)]
-mod instances;
-#[cfg(test)]
-mod library;
-#[cfg(test)]
-mod orders;
-#[cfg(test)]
 mod outside;
-#[cfg(test)]
-mod printing;
 #[cfg(test)]
 mod reading;
 #[cfg(test)]
 mod sources;
-#[cfg(test)]
-mod tables;

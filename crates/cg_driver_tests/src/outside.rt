@@ -1,4 +1,5 @@
 // Calls of the program over an outside that fails at some calls, one behind the other, and over one that never fails.
+use crate::sources::{BUMP, BUMP_CERTIFICATE};
 use cg_base::Name;
 use cg_driver::{Status, cogent, honest_cogent};
 use cg_outside::{HonestFiles, HonestSink, MemoryFiles, MemorySink};
@@ -60,26 +61,7 @@ fn an_honest_outside_answers(rt: HostRuntime) -> Result<(), Fail> {
     Ok(())
 }
 
-/// A record in a cell, of which one field is taken and put back.
-const BUMP: &str = "type Cell = {val : U32, tag : U8}
-bump : Cell -> Cell
-bump c = let c' {val = v} = c in c' {val = v + 1}
-";
-
-/// Its certificate.
-const BUMP_CERTIFICATE: &str = "cogent certificate 1
-fun bump
-take L
-var
-put -LR
-var
-op --L
-var
-lit
-end
-";
-
-/// Its C text.
+/// The C text of `BUMP`.
 const BUMP_TEXT: &str = "#include <stdint.h>
 #include \"cogent.h\"
 

@@ -1,50 +1,20 @@
-// Sources, read up to their kernels, and checked.
-ghost use Rattle.std.specs.Prelude.{IfOk};
-ghost use Rattle.cg_core.specs.Kernels.{kernel_of};
-ghost use Rattle.cg_core_def.specs.Lawful.{IsLawfulKernel};
-ghost use Rattle.cg_resolve_def.specs.Shaped.{IsShaped};
-ghost use Rattle.cg_surface.specs.Programs.{program_of};
+// A source, and its certificate.
 
-use cg_check::check;
-use cg_core::Kernel;
-use cg_parser::parse;
-use cg_resolve::resolve;
-use cg_surface::Program;
-use cg_typing::Checked;
-use std::alloc::Global;
-use std::process::Abort;
-use std::test::Fail;
+/// A record in a cell, of which one field is taken and put back.
+pub(crate) const BUMP: &str = "type Cell = {val : U32, tag : U8}
+bump : Cell -> Cell
+bump c = let c' {val = v} = c in c' {val = v + 1}
+";
 
-/// The kernel of a program.
-fn resolved(rt: &impl Abort, alloc: Global, program: &Program) -> Result<Kernel, Fail>
-    requires { IsShaped (program_of program.now) }
-    ensures { IfOk result (λ k. IsLawfulKernel (kernel_of k)) }
-{
-    match resolve(alloc, program) {
-        Ok(kernel) => Ok(kernel),
-        Err(_) => panic!(rt; "a name is at fault, or a limit is passed"),
-    }
-}
-
-/// The kernel of a source.
-pub(crate) fn kernel_in(rt: &impl Abort, alloc: Global, source: &str) -> Result<Kernel, Fail>
-    ensures { IfOk result (λ k. IsLawfulKernel (kernel_of k)) }
-{
-    match parse(alloc, source.as_bytes()) {
-        Ok(program) => resolved(rt, alloc, &program),
-        Err(_) => panic!(rt; "not spelled"),
-    }
-}
-
-/// A source, read, resolved and checked.
-pub(crate) fn checked_source(
-    rt: &impl Abort,
-    alloc: Global,
-    source: &str,
-) -> Result<Checked, Fail> {
-    let kernel = kernel_in(rt, alloc, source)?;
-    match check(alloc, kernel) {
-        Ok(checked) => Ok(checked),
-        Err(_) => panic!(rt; "not accepted"),
-    }
-}
+/// Its certificate.
+pub(crate) const BUMP_CERTIFICATE: &str = "cogent certificate 1
+fun bump
+take L
+var
+put -LR
+var
+op --L
+var
+lit
+end
+";

@@ -18,8 +18,6 @@ mod numbers;
 mod rank;
 mod ranks;
 mod reach;
-#[cfg(test)]
-mod tests;
 mod walk;
 
 pub use fault::NoOrder;

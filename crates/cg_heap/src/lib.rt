@@ -12,14 +12,8 @@ mod held;
 mod layout;
 mod map;
 mod part;
-#[cfg(test)]
-mod random_tests;
 mod read;
-#[cfg(test)]
-mod read_tests;
 mod store;
-#[cfg(test)]
-mod tests;
 
 pub use cell::{Cell, Form, Fresh, Scalar};
 pub use foreign::{Called, ExternHeap, Link};

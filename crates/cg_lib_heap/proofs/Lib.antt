@@ -1,4 +1,3 @@
-mod AllocateSteps
+pub mod AllocateSteps
 mod ArraySteps
 mod Places
-mod TestSteps

@@ -9,7 +9,5 @@ mod allocate;
 mod arrays;
 mod library;
 mod scalars;
-#[cfg(test)]
-mod tests;
 
 pub use library::lib_heap;

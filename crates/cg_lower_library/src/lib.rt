@@ -10,8 +10,6 @@ mod calls;
 mod code;
 mod fresh;
 mod iterators;
-#[cfg(test)]
-mod tests;
 mod types;
 
 pub use body::library_body;

@@ -9,8 +9,6 @@ mod nodes;
 mod parts;
 mod place;
 mod state;
-#[cfg(test)]
-mod tests;
 
 pub use nodes::{
     called, cast, choose, filled, injected, operated_both, operated_once, put, read, read_at,

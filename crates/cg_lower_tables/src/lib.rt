@@ -13,11 +13,7 @@ mod keys;
 mod layer;
 mod members;
 mod places;
-#[cfg(test)]
-mod places_tests;
 mod structs;
-#[cfg(test)]
-mod tests;
 mod visit;
 mod walks;
 

@@ -6,7 +6,5 @@
 
 mod calls;
 mod terms;
-#[cfg(test)]
-mod tests;
 
 pub use terms::lower_term;

@@ -8,8 +8,6 @@
 mod checked;
 mod law;
 mod nodes;
-#[cfg(test)]
-mod tests;
 
 pub use checked::Checked;
 pub use law::{checked_sources_hold, linear_goes_one_way, splits_lose_nothing};

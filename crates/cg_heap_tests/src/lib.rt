@@ -1,0 +1,14 @@
+//! Stage: tests. Tests of stores, of values that are read out of them, and of the library on them.
+//! Role: tests.
+//! Promises: nothing: tests alone.
+//! May cite: all crates; no crate but tests cites it.
+#![tactic(auto)]
+
+#[cfg(test)]
+mod cells;
+#[cfg(test)]
+mod library;
+#[cfg(test)]
+mod random;
+#[cfg(test)]
+mod read;

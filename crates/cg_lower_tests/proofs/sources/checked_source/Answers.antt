@@ -1,4 +1,0 @@
-use Rattle.cg_lower_tests.proofs.sources.checked_source.Goals as goal
-
-pub check-requires : goal.check-requires
-check-requires g c = record { lawful = c.in_ok-kernel.ensures }
