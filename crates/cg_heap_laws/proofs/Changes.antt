@@ -4,90 +4,11 @@ use Rattle.cg_heap.specs.declared.cell.Cell.{Cell}
 use Rattle.cg_heap.specs.Reps.{Heap, one_if}
 use Rattle.cg_heap.specs.Steps.{IsFine, Step, count, side}
 use Rattle.cg_heap_laws.specs.LibraryLaws.{StepsAreFrames, StepsKeepFine}
-use Rattle.cg_heap_laws.proofs.Stores.{IsWritten, is_or_not, written_here, written_other}
+use Rattle.cg_heap_laws.specs.StepLaws.{IsWrittenAt}
 use Rattle.cg_heap_laws.proofs.Frames.{by_count}
+use Rattle.cg_heap_laws.proofs.Steps.{frees_are_steps, next_is_made, nothing_is_a_step, own_is_replaced, steps_follow}
+use Rattle.cg_heap_laws.proofs.Stores.{IsWritten, is_or_not, written_here, written_other}
 use Rattle.cg_base.proofs.Counts.{eqb_same as eq_self}
-
--- a test that counts nothing is false
-pub not_one : (b : Bool) (n : ℕ) → one_if b + n ≡ 0 → b ≡ false
-not_one true n e = absurd (omega arith)
-not_one false n e = refl
-
--- nothing is done
-pub step_kept : (h : Heap) (top : ℕ) (w r w' r' : ℕ → ℕ) → IsFine (side h top w r) → ((q : ℕ) → w' q ≡ w q) → ((q : ℕ) → r' q ≡ 0) → Step (side h top w r) [] [] (side h top w' r')
-step_kept h top w r w' r' f e z = record {
-  rise = omega arith;
-  above = f.above;
-  reads_less = λ q k. let x = z q in absurd (omega arith);
-  balance = λ q. omega (arith, e q);
-  inert = λ q a b. refl;
-  lost = λ q k. absurd (omega arith);
-  fresh = λ q k. absurd (omega arith);
-  once = λ q. omega arith;
-}
-
-module _ (h h' : Heap) (top p : ℕ) (o : Option Cell) (w r x : ℕ → ℕ) (f : IsFine (side h top w r)) (own : (q : ℕ) → w q ≡ one_if (nat_eq p q) + x q) (is : IsWritten h p o h') where
-  -- the owned address isn't above top
-  low_own : (q : ℕ) → top < q → nat_eq p q ≡ false
-  low_own q k = not_one (nat_eq p q) (x q + r q) (let z = f.low q k in let e = own q in omega arith)
-
-  -- what else is owned is as it was
-  pub write_near : (q : ℕ) → 1 ≤ x q → h' q ≡ h q
-  write_near q k = written_other h h' p o is q (other (nat_eq p q) (w q) (r q) (x q) k (own q) (f.apart q))
-    where
-      other : (b : Bool) (w r x : ℕ) → 1 ≤ x → w ≡ one_if b + x → (1 ≤ w → w + r ≤ 1) → b ≡ false
-      other true w r x k e a = absurd (let z = a (omega arith) in omega arith)
-      other false w r x k e a = refl
-
-  -- an owned cell is written
-  pub step_write : (w' r' : ℕ → ℕ) → ((q : ℕ) → w' q ≡ w q) → ((q : ℕ) → r' q ≡ 0) → Step (side h top w r) [] [] (side h' top w' r')
-  step_write w' r' e z = record {
-    rise = omega arith;
-    above = λ q k. written_other h h' p o is q (low_own q k) ∙ f.above q k;
-    reads_less = λ q k. let x = z q in absurd (omega arith);
-    balance = λ q. omega (arith, e q);
-    inert = λ q a b. written_other h h' p o is q (not_one (nat_eq p q) (x q) (sym (own q) ∙ a));
-    lost = λ q k. absurd (omega arith);
-    fresh = λ q k. absurd (omega arith);
-    once = λ q. omega arith;
-  }
-
--- an owned cell is freed
-pub step_free : (h h' : Heap) (top p : ℕ) (w r x : ℕ → ℕ) → IsFine (side h top w r) → ((q : ℕ) → w q ≡ one_if (nat_eq p q) + x q) → IsWritten h p None h'
-    → (w' r' : ℕ → ℕ) → ((q : ℕ) → w' q ≡ x q) → ((q : ℕ) → r' q ≡ 0) → Step (side h top w r) [] (p ∷ []) (side h' top w' r')
-step_free h h' top p w r x f own is w' r' e z = record {
-  rise = omega arith;
-  above = λ q k. written_other h h' p None is q (low_own h h' top p None w r x f own is q k) ∙ f.above q k;
-  reads_less = λ q k. let x = z q in absurd (omega arith);
-  balance = λ q. let a = e q in let b = own q in omega arith;
-  inert = λ q a b. written_other h h' p None is q (not_one (nat_eq p q) (x q) (sym (own q) ∙ a));
-  lost = λ q k. ⊎_elim (λ e. subst (λ q. h' q ≡ None) e (written_here h h' p None is)) (λ e. absurd (let z = rw e at k in omega arith)) (is_or_not p q);
-  fresh = λ q k. absurd (omega arith);
-  once = λ q. omega arith;
-}
-
--- an owned cell is written, and then a cell is made above all others
-module _ (h h1 h' : Heap) (top p : ℕ) (o c : Option Cell) (w r : ℕ → ℕ) (f : IsFine (side h top w r)) (own : (q : ℕ) → w q ≡ one_if (nat_eq p q) + 0)
-    (is : IsWritten h p o h1) (is' : IsWritten h1 (top + 1) c h') where
-  make_other : (q : ℕ) → nat_eq p q ≡ false → nat_eq (top + 1) q ≡ false → h' q ≡ h q
-  make_other q n n' = written_other h1 h' (top + 1) c is' q n' ∙ written_other h h1 p o is q n
-
-  -- the owned cell isn't the one that is made
-  pub make_near : h' p ≡ h1 p
-  make_near = written_other h1 h' (top + 1) c is' p (⊎_elim (λ e. absurd (let z = low_own h h1 top p o w r (λ q. 0) f own is p (omega arith) in let y = eq_self p in cc)) (λ e. e) (is_or_not (top + 1) p))
-
-  pub step_make : (w' r' : ℕ → ℕ) → ((q : ℕ) → w' q ≡ one_if (nat_eq p q) + one_if (nat_eq (top + 1) q)) → ((q : ℕ) → r' q ≡ 0)
-      → Step (side h top w r) ((top + 1) ∷ []) [] (side h' (top + 1) w' r')
-  step_make w' r' e z = record {
-    rise = omega arith;
-    above = λ q k. make_other q (low_own h h1 top p o w r (λ q. 0) f own is q (omega arith)) (⊎_elim (λ e. absurd (omega arith)) (λ e. e) (is_or_not (top + 1) q)) ∙ f.above q (omega arith);
-    reads_less = λ q k. let x = z q in absurd (omega arith);
-    balance = λ q. let a = e q in let b = own q in omega arith;
-    inert = λ q a b. make_other q (not_one (nat_eq p q) 0 (sym (own q) ∙ a)) (not_one (nat_eq (top + 1) q) 0 b);
-    lost = λ q k. absurd (omega arith);
-    fresh = λ q k. ⊎_elim (λ e. (omega arith, omega arith)) (λ e. absurd (let z = rw e at k in omega arith)) (is_or_not (top + 1) q);
-    once = λ q. ⊎_elim (λ e. subst (λ q. one_if (nat_eq (top + 1) q) + 0 ≤ 1) e (rw (eq_self (top + 1)) (omega arith))) (λ e. rw e (omega arith)) (is_or_not (top + 1) q);
-  }
 
 -- a step is a frame of what it writes
 pub step_frame : StepsAreFrames
@@ -113,3 +34,57 @@ step_fine before after made freed f s = record {
   low = λ q k. low_after q after.top (before.writes q) (before.reads q) (after.writes q) (after.reads q) (count q made) (count q freed) (f.low q (let x = s.rise in omega arith)) (s.balance q) (λ n. (s.fresh q n).1) k (s.reads_less q);
   above = s.above;
 }
+
+-- ---- where nothing is read behind it
+
+none_read : (r r' : ℕ → ℕ) → ((q : ℕ) → r' q ≡ 0) → (q : ℕ) → 1 ≤ r' q → 1 ≤ r q
+none_read r r' z q k = absurd (let x = z q in omega arith)
+
+-- what is written at an address, in both forms
+written_at : (h : Heap) (p : ℕ) (o : Option Cell) (h' : Heap) → IsWritten h p o h' → IsWrittenAt h p o h'
+written_at h p o h' is q = (λ e. subst (λ q. h' q ≡ o) e (written_here h h' p o is), λ n. written_other h h' p o is q n)
+
+-- an owned address is written
+own_written : (p : ℕ) (w x : ℕ → ℕ) → ((q : ℕ) → w q ≡ one_if (nat_eq p q) + x q) → 1 ≤ w p
+own_written p w x own = let e : w p ≡ 1 + x p = own p ∙ rw (eq_self p) refl in omega arith
+
+-- nothing is done
+pub step_kept : (h : Heap) (top : ℕ) (w r w' r' : ℕ → ℕ) → IsFine (side h top w r) → ((q : ℕ) → w' q ≡ w q) → ((q : ℕ) → r' q ≡ 0) → Step (side h top w r) [] [] (side h top w' r')
+step_kept h top w r w' r' f e z = nothing_is_a_step h top w r w' r' f e (none_read r r' z)
+
+module _ (h h' : Heap) (top p : ℕ) (o : Option Cell) (w r x : ℕ → ℕ) (f : IsFine (side h top w r)) (own : (q : ℕ) → w q ≡ one_if (nat_eq p q) + x q) (is : IsWritten h p o h') where
+  -- what else is owned is as it was
+  pub write_near : (q : ℕ) → 1 ≤ x q → h' q ≡ h q
+  write_near q k = written_other h h' p o is q (other (nat_eq p q) (w q) (r q) (x q) k (own q) (f.apart q))
+    where
+      other : (b : Bool) (w r x : ℕ) → 1 ≤ x → w ≡ one_if b + x → (1 ≤ w → w + r ≤ 1) → b ≡ false
+      other true w r x k e a = absurd (let z = a (omega arith) in omega arith)
+      other false w r x k e a = refl
+
+  -- an owned cell is written
+  pub step_write : (w' r' : ℕ → ℕ) → ((q : ℕ) → w' q ≡ w q) → ((q : ℕ) → r' q ≡ 0) → Step (side h top w r) [] [] (side h' top w' r')
+  step_write w' r' e z = own_is_replaced h h' top p o w r w' r' f (own_written p w x own) (written_at h p o h' is) e (none_read r r' z)
+
+-- an owned cell is freed
+pub step_free : (h h' : Heap) (top p : ℕ) (w r x : ℕ → ℕ) → IsFine (side h top w r) → ((q : ℕ) → w q ≡ one_if (nat_eq p q) + x q) → IsWritten h p None h'
+    → (w' r' : ℕ → ℕ) → ((q : ℕ) → w' q ≡ x q) → ((q : ℕ) → r' q ≡ 0) → Step (side h top w r) [] (p ∷ []) (side h' top w' r')
+step_free h h' top p w r x f own is w' r' e z =
+    frees_are_steps h h' top p w r w' r' f (written_at h p None h' is) (λ q. let a = own q in let b = e q in omega arith) (none_read r r' z)
+
+-- an owned cell is written, and then a cell is made above all others
+module _ (h h1 h' : Heap) (top p : ℕ) (o c : Option Cell) (w r : ℕ → ℕ) (f : IsFine (side h top w r)) (own : (q : ℕ) → w q ≡ one_if (nat_eq p q) + 0)
+    (is : IsWritten h p o h1) (is' : IsWritten h1 (top + 1) c h') where
+  -- the owned cell isn't the one that is made
+  pub make_near : h' p ≡ h1 p
+  make_near =
+      let k = own_written p w (λ q. 0) own in
+      written_other h1 h' (top + 1) c is' p (⊎_elim (λ e. absurd (let z = f.low p (omega arith) in omega arith)) (λ e. e) (is_or_not (top + 1) p))
+
+  own_step : Step (side h top w r) [] [] (side h1 top w r)
+  own_step = own_is_replaced h h1 top p o w r w r f (own_written p w (λ q. 0) own) (written_at h p o h1 is) (λ q. refl) (λ q k. k)
+
+  pub step_make : (w' r' : ℕ → ℕ) → ((q : ℕ) → w' q ≡ one_if (nat_eq p q) + one_if (nat_eq (top + 1) q)) → ((q : ℕ) → r' q ≡ 0)
+      → Step (side h top w r) ((top + 1) ∷ []) [] (side h' (top + 1) w' r')
+  step_make w' r' e z = steps_follow (side h top w r) (side h1 top w r) (side h' (top + 1) w' r') [] [] ((top + 1) ∷ []) [] f own_step
+      (next_is_made h1 h' top c w r w' r' (step_fine (side h top w r) (side h1 top w r) [] [] f own_step) (written_at h1 (top + 1) c h' is')
+      (λ q. let a = e q in let b = own q in omega arith) (none_read r r' z))

@@ -10,7 +10,7 @@ pub by_count : {A : Type 0} → (n : ℕ) → (n ≡ 0 → A) → (1 ≤ n → A
 by_count zero none some = none refl
 by_count (suc n) none some = some (omega arith)
 
-none_is_not : {A : Type 0} → (o : Option A) → IsSome o → o ≡ None → ⊥
+pub none_is_not : {A : Type 0} → (o : Option A) → IsSome o → o ≡ None → ⊥
 none_is_not o s n = cc
 
 -- nothing is done, and the same may be written

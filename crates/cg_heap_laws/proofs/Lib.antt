@@ -18,6 +18,7 @@ pub mod Owned
 pub mod LibraryParts
 pub mod Present
 pub mod Rising
+pub mod Steps
 pub mod Stores
 pub mod Tuples
 pub mod LibraryWhole

@@ -32,7 +32,7 @@ counted_is W W p q k = (refl, one (nat_eq p q) refl k)
 some_is : {A : Type 0} (o : Option A) (x : A) → o ≡ Some x → IsSome o
 some_is o x e = cc
 
-either : (x y : ℕ) → 1 ≤ x + y → (1 ≤ x) ⊎ (1 ≤ y)
+pub either : (x y : ℕ) → 1 ≤ x + y → (1 ≤ x) ⊎ (1 ≤ y)
 either x y k = grind arith
 
 module _ (world : HeapWorld) where

@@ -5,10 +5,13 @@
 //! Promises also: `scalars_fill_slots`, `represented_fits`, `observed_is_represented`, `observed_is_read`, `frames_stand_beside`.
 //! Promises also: `footprints_are_there`, `aliased_is_not_apart`, `escaping_reads_nothing`, `shared_writes_nothing`.
 //! Promises also: `steps_keep_fine`, `arrays_are_there`, `answers_suffice`, `addresses_rise`, `good_arguments_suffice`.
+//! Promises also: `steps_follow`, `steps_stand_beside`, `parts_are_fine`, `nothing_is_a_step`, `writes_are_steps`.
+//! Promises also: `frees_are_steps`, `makes_are_steps`, `freed_is_exact`, `held_is_fine`.
 #![tactic(auto)]
 
 mod law;
 mod library_law;
+mod step_law;
 
 pub use law::{
     aliased_is_not_apart, escaping_reads_nothing, footprints_are_there, footprints_suffice,
@@ -18,4 +21,8 @@ pub use law::{
 pub use library_law::{
     addresses_rise, answers_suffice, arrays_are_there, good_arguments_suffice, library_does,
     steps_are_frames, steps_keep_fine,
+};
+pub use step_law::{
+    freed_is_exact, frees_are_steps, held_is_fine, makes_are_steps, nothing_is_a_step,
+    parts_are_fine, steps_follow, steps_stand_beside, writes_are_steps,
 };
