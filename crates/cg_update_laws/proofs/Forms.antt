@@ -103,7 +103,7 @@ unboxed_apart t u = refl
 abbrev plain : World
 plain = record { is_of = λ f ts t. false; holds = λ x v. false }
 
-scalar_given : (sort : Sort) (t : Tau) → IsTrue (takes sort t) → IsTrue (takes equality (type_given sort t))
+pub scalar_given : (sort : Sort) (t : Tau) → IsTrue (takes sort t) → IsTrue (takes equality (type_given sort t))
 scalar_given arithmetic t h = first_holds (is_word t) (is_bool t) h
 scalar_given equality t h = refl
 scalar_given order t h = refl

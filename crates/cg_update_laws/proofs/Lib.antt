@@ -4,6 +4,7 @@ pub mod Forms
 pub mod Held
 pub mod Named
 pub mod Nodes
+pub mod Places
 pub mod Turns
 pub mod Whole
 pub mod Sources

@@ -1,7 +1,6 @@
 -- Calls of instances agree, by an induction on the fuel of evaluation, and so does what comes of an instance.
-use Rattle.std.proofs.Common.{◌≡◌, ◌⊎◌, inl, inr, ℕ, zero, suc, ◌+◌, ◌-◌, ◌^◌, ◌<◌, ◌≤◌, Bool, true, false, ◌&&◌, cond, IsTrue, Option, Some, None, option_map, List, [], ◌∷◌, get_or, length, map, slice_get, refl, sym, ap, ◌∙◌, arith, subst as at}
+use Rattle.std.proofs.Common.{◌≡◌, ℕ, zero, suc, ◌+◌, ◌-◌, ◌^◌, ◌<◌, ◌≤◌, Bool, true, ◌&&◌, cond, IsTrue, Option, Some, None, option_map, List, [], ◌∷◌, slice_get, refl, sym, ap, ◌∙◌, arith, subst as at}
 use Rattle.std.proofs.lemmas.Bool.{and_parts}
-use Rattle.std.proofs.lemmas.Option.{slice_get_cases, slice_get_within}
 use Rattle.std.specs.List.{list_all}
 use Rattle.std.specs.Prelude.{if◌then◌else◌}
 use Rattle.cg_base.specs.declared.fun.Fun.{Fun}
@@ -10,25 +9,17 @@ use Rattle.cg_base.specs.declared.fun.Lib.{Lib}
 use Rattle.cg_base.specs.declared.fun.Lib.TheVariants.{Seq32, Seq64, Seq32Break}
 use Rattle.cg_base.specs.declared.kind.Word.TheVariants.{U32}
 use Rattle.cg_base.specs.Types.{Tau, arrow, word}
-use Rattle.cg_core.specs.Kernels.{Function}
-use Rattle.cg_core.specs.Terms.{Arg, Note, Tree, term}
+use Rattle.cg_core.specs.Terms.{Note, Tree, term}
 use Rattle.cg_eval_laws.proofs.Checked.{has_checked_type}
 use Rattle.cg_heap.specs.Calls.{heap_of}
 use Rattle.cg_heap.specs.declared.cell.Scalar.{Scalar}
 use Rattle.cg_heap.specs.declared.cell.Scalar.TheVariants.{Word}
 use Rattle.cg_heap.specs.Reps.{first_number, Heap, HeapWorld, Holds}
-use Rattle.cg_inst.proofs.SameInstance.{instance_is}
-use Rattle.cg_inst.specs.Lists.{same_instance}
-use Rattle.cg_inst_laws.proofs.Closed.{closed_stays}
-use Rattle.cg_inst_laws.specs.Laws.{place_in}
-use Rattle.cg_kinds.specs.Kinds.{subst}
 use Rattle.cg_eval_def.specs.Evaluation as values
 use Rattle.cg_eval_def.specs.Evaluation.{Table, Run, apply, call, cost_of, enter, evaluate, evaluation, iterated, only, spent, stuck, with_fuel}
-use Rattle.cg_mono_laws.proofs.Listed.{found_at_place, is_found}
-use Rattle.cg_mono_laws.specs.Laws.{body_in, copies_table}
+use Rattle.cg_mono_laws.specs.Laws.{copies_table}
 use Rattle.cg_eval_operations.specs.Iterators.{is_iterator}
-use Rattle.cg_typing.specs.Functions.{arg_types, fun_type}
-use Rattle.cg_typing.specs.Instances.{Entry, Instance, IsDerivedBody, IsDerivedMaybe, IsEntry, as_arguments, is_closed, nodes_of}
+use Rattle.cg_typing.specs.Instances.{Entry, Instance, IsDerivedBody, IsDerivedMaybe, IsEntry, nodes_of}
 use Rattle.cg_typing.specs.Library.{library_type}
 use Rattle.cg_typing.specs.Parts.{given_by, taken_by}
 use Rattle.cg_update.proofs.Budgets.{depth_is_free}
@@ -39,39 +30,15 @@ use Rattle.cg_update.specs.Outcomes.{State, Outcome, gives, no_result, starting,
 use Rattle.cg_update.specs.Updates as updates
 use Rattle.cg_update.specs.Updates.{Calls, Result, calls_source, calls_within, entered, entered_by, given_outside, is_of_source, place_of, result_of, update, updated}
 use Rattle.cg_value.specs.Values.{Val, function, number}
-use Rattle.cg_update_laws.specs.Laws.{AreUnboxed, UnboxedIsUpdated, WordsAreUpdated, instances_among, value_of, world_among}
+use Rattle.cg_update_laws.specs.Laws.{AreUnboxed, UnboxedIsUpdated, WordsAreUpdated, world_among}
 use Rattle.cg_update.specs.Unboxed.{is_sequence, is_unboxed, is_unboxed_by, is_unboxed_node}
 use Rattle.cg_update_laws.proofs.Agreeing.{Agrees, formed_agrees, pay_agrees, same_agrees}
 use Rattle.cg_update_laws.proofs.Contexts.{only_held}
 use Rattle.cg_update_laws.proofs.Held.{holds_machine}
 use Rattle.cg_update_laws.proofs.Nodes.{CallsAgree, MentionsHold, RunsAgree, node_agrees}
+use Rattle.cg_update_laws.proofs.Places.{IsThere, call_is, core_call, known, library_type_is, mention_holds, source_body, there}
 use Rattle.cg_update_laws.proofs.Turns.{TurnsAgree, sequence_agrees}
 use Rattle.cg_base.proofs.Counts.{no_steps as never}
-use Rattle.cg_typing.proofs.Lists.{types_back as same_types}
-use Rattle.cg_base.proofs.Options.{later}
-
--- ---- lists of instances
-
--- the instance stands at its place
-place_is : (x : Instance) (ys : List Instance) (k : ℕ) → place_of x ys ≡ Some k → slice_get ys k ≡ Some x
-unfolding place_of
-place_is x [] k e = absurd (cc)
-place_is x (y ∷ ys) k e = by_test (same_instance x y) refl e (place_is x ys)
-  where
-    by_test : (b : Bool) → same_instance x y ≡ b → cond b (Some zero) (option_map suc (place_of x ys)) ≡ Some k → ((j : ℕ) → place_of x ys ≡ Some j → slice_get ys j ≡ Some x)
-        → slice_get (y ∷ ys) k ≡ Some x
-    by_test true q h rest = let first : zero ≡ k = cc in at (λ i. slice_get (y ∷ ys) i ≡ Some x) first (ap Some (sym (instance_is x y q)))
-    by_test false q h rest = let j = later (place_of x ys) k h in at (λ i. slice_get (y ∷ ys) i ≡ Some x) j.2 (rest j.0 j.1)
-
--- the type of a function is by the types of its arguments alone
-same_fun_type : (functions : List Function) (f : Fun) (args : List Arg) → fun_type functions f (as_arguments (arg_types args)) ≡ fun_type functions f args
-same_fun_type functions (User i) args = ap (λ ts. option_map (λ g. subst ts g.ty.ty) (slice_get functions i)) (same_types (arg_types args))
-same_fun_type functions (OfLib l) args = ap (λ ts. Some (library_type l ts)) (same_types (arg_types args))
-
--- types without type variables stay what they are
-pub all_stay : (ts : List Tau) → IsTrue (list_all is_closed ts) → map (subst []) ts ≡ ts
-all_stay [] c = refl
-all_stay (t ∷ ts) c = let b = and_parts (is_closed t) _ c in let p = closed_stays [] t b.0 in let q = all_stay ts b.1 in cc
 
 -- an iterator over numbers is one
 sequence_iterates : (lib : Lib) → IsTrue (is_sequence lib) → is_iterator lib ≡ true
@@ -79,40 +46,6 @@ sequence_iterates Seq32 h = refl
 sequence_iterates Seq64 h = refl
 sequence_iterates Seq32Break h = refl
 sequence_iterates _ h = never h
-
--- ---- values of functions
-
--- an instance that stands at a place among some
-record IsThere (p : Program) (among : ℕ → Bool) (k : ℕ) (f : Val) (t : Tau) : Type 0 where
-  instance : Instance
-  entry : Entry
-  chosen : among k ≡ true
-  listed : slice_get p.list k ≡ Some instance
-  has_entry : slice_get p.entries k ≡ Some entry
-  value : function instance.fun instance.types ≡ f
-  typed : entry.ty ≡ t
-
--- what is told of a function that there is
-abbrev value_in : Val → Option (Val × Tau) → Val
-value_in v None = v
-value_in v (Some r) = r.0
-
-abbrev type_in : Tau → Option (Val × Tau) → Tau
-type_in t None = t
-type_in t (Some r) = r.1
-
-there : (p : Program) (among : ℕ → Bool) (k : ℕ) (f : Val) (t : Tau) → instances_among p among k ≡ Some (f, t) → IsThere p among k f t
-there p among k f t e = by_all (among k) (slice_get p.list k) (slice_get p.entries k) refl refl refl e
-  where
-    by_all : (b : Bool) (o : Option Instance) (q : Option Entry) → among k ≡ b → slice_get p.list k ≡ o → slice_get p.entries k ≡ q → (if b then value_of o q else None) ≡ Some (f, t) → IsThere p among k f t
-    by_all true (Some x) (Some y) c l m h = record { instance = x; entry = y; chosen = c; listed = l; has_entry = m; value = ap (value_in f) h; typed = ap (type_in t) h }
-    by_all true (Some x) None c l m h = absurd (cc)
-    by_all true None q c l m h = absurd (cc)
-    by_all false o q c l m h = absurd (cc)
-
--- so its type is known
-known : (p : Program) (among : ℕ → Bool) (k : ℕ) (v : Val) (t : Tau) → instances_among p among k ≡ Some (v, t) → types_of p k ≡ Some t
-known p among k v t e = let r = there p among k v t e in ap (option_map (λ y. y.ty)) r.has_entry ∙ ap Some r.typed
 
 -- ---- calls
 
@@ -134,47 +67,7 @@ module _ (p : Program) (among : ℕ → Bool) (u : AreUnboxed p among) (h : Heap
 
   -- the place of a mention stands for the function
   mentions_hold : MentionsHold p among W h s (known p among)
-  unfolding Holds
-  mentions_hold f args k t typed closed found chosen = by_entry (slice_get_cases p.entries k).1
-    where
-      instance : Instance
-      instance = record { fun = f; types = arg_types args }
-
-      listed : slice_get p.list k ≡ Some instance
-      listed = place_is instance p.list k found
-
-      by_entry : ((e : Entry) × (k < length p.entries) × (slice_get p.entries k ≡ Some e) × (get_or p.entries k e ≡ e)) ⊎ ((length p.entries ≤ k) × (slice_get p.entries k ≡ None))
-          → H t (updates.number k) (function f (map (subst []) (arg_types args)))
-      by_entry (inl q) =
-          let entry = u.instances.each k instance q.0 listed q.2 in
-          let type_is : Some q.0.ty ≡ Some t = sym entry.is ∙ same_fun_type p.functions f args ∙ typed in
-          let ty_is : q.0.ty ≡ t = cc in
-          let arrow_is : q.0.ty ≡ arrow entry.argument entry.result = entry.is_arrow in
-          at (λ z. H z (updates.number k) (function f (map (subst []) (arg_types args)))) (sym arrow_is ∙ ty_is) (
-            refl,
-            ap (λ b. if b then value_of (slice_get p.list k) (slice_get p.entries k) else None) chosen ∙ ap (λ o. value_of o (slice_get p.entries k)) listed ∙ ap (value_of (Some instance)) q.2
-                ∙ ap (λ ts. Some (function f ts, q.0.ty)) (sym (all_stay (arg_types args) closed)) ∙ ap (λ z. Some (function f (map (subst []) (arg_types args)), z)) arrow_is,
-          )
-      by_entry (inr q) = let within = slice_get_within p.list k instance listed in let many = u.instances.as_many in absurd (omega (arith, within, many, q.0))
-
-  -- an instance with a body: its body over the copies, and what a call of it does
-  user_body : (k : ℕ) (x : Instance) (e : Entry) (i : ℕ) (core : Tree Note) → slice_get p.list k ≡ Some x → slice_get p.entries k ≡ Some e → x.fun ≡ User i → e.body ≡ Some core
-      → T.body i x.types ≡ Some (record { term = core; types = [] })
-  user_body k x e i core l m f b =
-      let same : record { fun = User i; types = x.types } ≡ x = ap (λ g. record { fun = g; types = x.types }) (sym f) in
-      let place : place_in p.list x ≡ k = u.apart (place_in p.list x) k x (found_at_place p.list x (is_found p.list k x l)) l in
-      ap (λ z. option_map (λ c. record { term = c; types = [] }) (body_in (slice_get p.entries (place_in p.list z)))) same
-      ∙ ap (λ z. option_map (λ c. record { term = c; types = [] }) (body_in (slice_get p.entries z))) place
-      ∙ ap (λ z. option_map (λ c. record { term = c; types = [] }) (body_in z)) m ∙ ap (option_map (λ c. record { term = c; types = [] })) b
-
-  call_is : (d k : ℕ) (x : Instance) (e : Entry) (ws : List Scalar) (left : ℕ) → slice_get p.list k ≡ Some x → slice_get p.entries k ≡ Some e
-      → calls_within p (suc d) k ws s left ≡ entered_by p (calls_within p d) x e.ty e.body ws s left
-  unfolding calls_within
-  call_is d k x e ws left l m = ap (λ o. entered p (calls_within p d) o (slice_get p.entries k) ws s left) l ∙ ap (λ o. entered p (calls_within p d) (Some x) o ws s left) m
-
-  core_call : (d k : ℕ) (x : Instance) (e : Entry) (core : Tree Note) (ws : List Scalar) (left : ℕ) → slice_get p.list k ≡ Some x → slice_get p.entries k ≡ Some e → e.body ≡ Some core
-      → calls_within p (suc d) k ws s left ≡ update p (calls_within p d) core (ws ∷ []) s left
-  core_call d k x e core ws left l m b = call_is d k x e ws left l m ∙ ap (λ o. entered_by p (calls_within p d) x e.ty o ws s left) b
+  mentions_hold f args k t typed closed found chosen = mention_holds p u.instances among h f args k t typed closed found chosen
 
   -- a body agrees
   core_agrees : (run : Run) (calls : Calls) → Runs run calls → (k : ℕ) (x : Instance) (e : Entry) (core : Tree Note) (a b : Tau) (ws : List Scalar) (v : Val) (left : ℕ)
@@ -201,8 +94,8 @@ module _ (p : Program) (among : ℕ → Bool) (u : AreUnboxed p among) (h : Heap
       by_body : (o : Option (Tree Note)) → e.body ≡ o → IsTrue (is_unboxed_by p.list among (User i) o) → A b (enter T run i v left (T.body i x.types)) (calls_within p (suc d) k ws s left)
       by_body None q n = never n
       by_body (Some core) q n =
-          same_agrees W h s b _ _ _ (core_call d k x e core ws left l m q)
-          (at (λ z. A b (enter T run i v left z) (update p (calls_within p d) core (ws ∷ []) s left)) (sym (user_body k x e i core l m f q))
+          same_agrees W h s b _ _ _ (core_call p d k x e core ws s left l m q)
+          (at (λ z. A b (enter T run i v left z) (update p (calls_within p d) core (ws ∷ []) s left)) (sym (source_body p u.apart k x e i (Some core) l m f q))
           (core_agrees run (calls_within p d) runs k x e core a b ws v left l m q ty ua n k0))
 
   -- what iterators call agrees
@@ -232,20 +125,15 @@ module _ (p : Program) (among : ℕ → Bool) (u : AreUnboxed p among) (h : Heap
       inner : Calls
       inner = calls_within p (suc d)
 
-      type_here : (z : Option Tau) → z ≡ Some e.ty → Some t ≡ z → t ≡ e.ty
-      type_here z p q = cc
-
       here : t ≡ e.ty
-      here =
-          type_here (fun_type p.functions x.fun (as_arguments x.types)) (u.instances.each k x e l m).is
-          (ap (λ ts. Some (library_type lib ts)) (sym (same_types x.types)) ∙ ap (λ g. fun_type p.functions g (as_arguments x.types)) (sym f))
+      here = library_type_is p u.instances k x e lib l m f
 
       on_scalars : Tau → Outcome
       on_scalars z = updates.iterated p inner lib x.types (record { ty = taken_by z; scalars = ws }) s left
 
       called : e.body ≡ None → is_iterator lib ≡ true → calls_within p (suc (suc d)) k ws s left ≡ on_scalars t
       called q i =
-          call_is (suc d) k x e ws left l m ∙ ap (λ o. entered_by p inner x e.ty o ws s left) q ∙ ap (λ g. given_outside p inner g x.types e.ty ws s left) f
+          call_is p (suc d) k x e ws s left l m ∙ ap (λ o. entered_by p inner x e.ty o ws s left) q ∙ ap (λ g. given_outside p inner g x.types e.ty ws s left) f
           ∙ ap (λ z. cond z (on_scalars e.ty) (library lib x.types ws s left)) i ∙ ap on_scalars (sym here)
 
       evaluated : is_iterator lib ≡ true → apply T run (function (OfLib lib) x.types) v left ≡ iterated T run lib v left
@@ -308,8 +196,8 @@ module _ (p : Program) (among : ℕ → Bool) (u : AreUnboxed p among) (h : Heap
       by_fun (User i) f =
           let nodes : IsTrue (list_all (is_unboxed_node p.list among) (nodes_of core)) =
           at (λ o. IsTrue (is_unboxed_by p.list among (User i) o)) body (at (λ z. IsTrue (is_unboxed_by p.list among z e.body)) f (and_parts (is_unboxed (taken_by e.ty)) _ fine).1) in
-          same_agrees W h s (given_by e.ty) _ _ _ (core_call (n + n) k x e core us n l m body)
-          (at (λ z. A (given_by e.ty) (enter T (evaluate T) i v n z) (update p (calls_within p (n + n)) core (us ∷ []) s n)) (sym (user_body k x e i core l m f body))
+          same_agrees W h s (given_by e.ty) _ _ _ (core_call p (n + n) k x e core us s n l m body)
+          (at (λ z. A (given_by e.ty) (enter T (evaluate T) i v n z) (update p (calls_within p (n + n)) core (us ∷ []) s n)) (sym (source_body p u.apart k x e i (Some core) l m f body))
           (core_agrees (with_fuel T n) (calls_within p (n + n)) (runs_agree n (n + n) (omega arith)) k x e core (taken_by e.ty) (given_by e.ty) us v n l m body arrow_is
           (and_parts (is_unboxed (taken_by e.ty)) _ fine).0 nodes k0))
 

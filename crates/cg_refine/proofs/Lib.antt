@@ -1,0 +1,12 @@
+pub mod Addresses
+pub mod Contexts
+pub mod Joined
+pub mod Nodes
+pub mod Parting
+pub mod Parts
+pub mod Records
+pub mod Sequence
+pub mod Start
+pub mod Then
+pub mod Variants
+pub mod Whole
