@@ -1,0 +1,13 @@
+pub mod Arrays
+pub mod Breaks
+pub mod Fields
+pub mod Folds
+pub mod Instances
+pub mod Iterators
+pub mod Known
+pub mod Library
+pub mod Loops
+pub mod Maps
+pub mod Turns
+pub mod Unchanged
+pub mod Whole
