@@ -33,6 +33,7 @@ use Rattle.cg_mono.specs.declared.copies.Copy.{Copy as OneCopy}
 use Rattle.cg_mono.specs.declared.copies.Mono.{Mono}
 use Rattle.cg_mono.specs.Monos.{copies_in as kept_copies}
 use Rattle.cg_driver_laws.proofs.Represented.{unboxed_is_represented}
+use Rattle.cg_driver_laws.proofs.Refined.{sources_are_refined}
 use Rattle.cg_driver_laws.specs.Laws.{SourcesPrint, copies_in, copies_over}
 use Rattle.cg_driver_steps.specs.declared.report.Report.{Report}
 use Rattle.cg_driver_steps.specs.declared.report.Step.{Step}
@@ -47,7 +48,7 @@ use Rattle.cg_driver.specs.Built.{IsWritten, IsListed, KeepsCopies, RefusesCerti
 use Rattle.cg_driver.specs.Commands.{Judges, IsBuilt, certifiable, instanced}
 use Rattle.cg_driver.specs.declared.build.Built.{Built}
 use Rattle.cg_driver.specs.Found.{Found, certificate_limit, functions, with_copies}
-use Rattle.cg_driver.specs.Instanced.{HasInstances, IsCompiled, IsMeant, IsProved, IsRepresented, IsRepresentedOver, PassesInstances, bodies_in, certified_text, emitted, too_large, too_many, too_wide}
+use Rattle.cg_driver.specs.Instanced.{HasInstances, IsCompiled, IsMeant, IsProved, IsRefined, IsRefinedOver, IsRepresented, IsRepresentedOver, PassesInstances, bodies_in, certified_text, emitted, too_large, too_many, too_wide}
 use Rattle.cg_driver.specs.Judged.{CanBeBuilt, HoldsCores, HoldsMarks, functions_in}
 use Rattle.cg_driver.specs.Lines.{built_line as written_line, limit_line, limit_name}
 use Rattle.cg_driver.specs.Executed.{cores_of}
@@ -191,6 +192,15 @@ represented checked marks copies p simulates cores derived =
     here list is same among without at n k x core us m v w there stands body holds gives =
         unboxed_is_represented checked list p (kept_trees checked marks) is (subst (λ cs. IsSimulated cs p) same simulates) among without at n k x core us m v w there stands body holds gives
 
+-- what the C does on any heap
+refined : (checked : Checked) → HoldsMarks checked → (copies : List Copy) (p : Program) → IsSimulated copies p → IsRefined (functions_in checked) copies p
+refined checked marks copies p simulates cores derived =
+    subst (λ b. IsRefinedOver (functions_in checked) b copies p) (bodies_same checked ∙ ap bodies_in (one_list (functions_in checked) (cores_of checked) cores (map (function_tree (functions_in checked)) (functions_in checked), marks.kept) derived)) here
+  where
+    here : IsRefinedOver (functions_in checked) (core_in checked) copies p
+    here list is same among without at n k x core us m v w writes reads there stands body holds low gives =
+        sources_are_refined checked list p (kept_trees checked marks) is (subst (λ cs. IsSimulated cs p) same simulates) among without at n k x core us m v w writes reads there stands body holds low gives
+
 proved : (checked : Checked) → CanBeBuilt checked → IsProved (functions_in checked)
 proved checked ready =
     let fs = functions_in checked in
@@ -209,7 +219,12 @@ built_said checked list built found ready b kept kernel fs k is line said =
       said ∙ ap (λ g. written_line g built.instances) functions_are ∙ ap (written_line (functions found)) count,
       subst (λ fs. IsCompiled fs found.copies) (sym kept.same)
           (subst (λ cs. IsCompiled (functions_in checked) cs) (sym kept.copies)
-          (record { meant = b.meant; represents = represented checked ready.marks (copies_in checked list) b.meant.program b.meant.simulates; proved = proved checked ready })),
+          (record {
+            meant = b.meant;
+            refines = refined checked ready.marks (copies_in checked list) b.meant.program b.meant.simulates;
+            represents = represented checked ready.marks (copies_in checked list) b.meant.program b.meant.simulates;
+            proved = proved checked ready;
+          })),
     )
 
 -- what is said once all is written

@@ -1,6 +1,6 @@
 -- The instances of a source, and what is written of it: its C text, and its certificate (docs/LANGUAGE.md, "Instances", "The C of instances"
 -- and "Certificates").
-use Rattle.std.specs.Prelude.{◌≡◌, ℕ, Bool, true, List, Option, Some, map, slice_get}
+use Rattle.std.specs.Prelude.{◌≡◌, ℕ, ◌<◌, Bool, true, List, Option, Some, None, map, slice_get}
 use Rattle.cg_base.specs.declared.limit.Limit.TheVariants.{Core, Instances, Ty}
 use Rattle.cg_cert.specs.Certificates.{certificate}
 use Rattle.cg_cert.specs.declared.cert.Cert.{Cert}
@@ -17,7 +17,7 @@ use Rattle.cg_ctree.specs.Trees.{Program}
 use Rattle.cg_inst.specs.Judged.{AreTooMany, HaveLargeTypes, HaveTooManyNodes, IsWithin}
 use Rattle.cg_heap.specs.Calls.{heap_of}
 use Rattle.cg_heap.specs.declared.cell.Scalar.{Scalar}
-use Rattle.cg_heap.specs.Reps.{Holds}
+use Rattle.cg_heap.specs.Reps.{Holds, Represents}
 use Rattle.cg_heap.specs.Stored.{Stored}
 use Rattle.cg_inst.specs.Lists.{Cores, IsList}
 use Rattle.cg_inst_laws.specs.Laws.{entry_of}
@@ -26,7 +26,7 @@ use Rattle.cg_eval_def.specs.Foreigns.{table_over}
 use Rattle.cg_cgen_def.specs.Names.{function_name}
 use Rattle.cg_lower.specs.Programs.{lowered}
 use Rattle.cg_lower.specs.Promises.{IsSimulated}
-use Rattle.cg_driver_laws.specs.Laws.{GivesRepresented, copies_over, program_over}
+use Rattle.cg_driver_laws.specs.Laws.{AreConcrete, GivesRefined, GivesRepresented, copies_over, program_over}
 use Rattle.cg_typing.specs.Holds.{kept_at}
 use Rattle.cg_typing.specs.Instances.{Instance}
 use Rattle.cg_typing.specs.Kept.{AreKept}
@@ -93,6 +93,23 @@ IsRepresentedOver functions cores copies program =
 abbrev pub IsRepresented : List Function → List Copy → Program → Type 0
 IsRepresented functions copies program = (cores : List (Option (Tree Note))) → AreCores functions cores → IsRepresentedOver functions (bodies_in cores) copies program
 
+-- From any heap that represents the argument of an instance that reaches no abstract function, in which no function does either, and that has no
+-- cell above its highest address, the C of this instance ends within 32k + 32 steps with what represents the value that evaluation of the function
+-- gives at cost k: each cell that could be written is written by the result or freed, once, what was made too, and all others are as they were.
+abbrev pub IsRefinedOver : List Function → Cores → List Copy → Program → Type 0
+IsRefinedOver functions cores copies program =
+    (list : List Instance) → IsList functions cores list → copies ≡ copies_over functions cores list
+    → (among : ℕ → Bool) → AreConcrete (program_over functions cores list) among
+    → (at n k : ℕ) (x : Instance) (core : Tree Note) (us : List Scalar) (m : Stored) (v w : Val) (writes reads : ℕ → ℕ) → slice_get list at ≡ Some x → among at ≡ true
+    → (entry_of functions cores x).body ≡ Some core
+    → Represents (world_among (program_over functions cores list) among) (heap_of m) (taken_by (entry_of functions cores x).ty) us v writes reads
+    → ((q : ℕ) → m.top < q → heap_of m q ≡ None)
+    → evaluation (table_over no_foreign functions cores) n (function x.fun x.types) v ≡ Some (w, k)
+    → GivesRefined (world_among (program_over functions cores list) among) program (function_name at) us m writes reads (given_by (entry_of functions cores x).ty) w k
+
+abbrev pub IsRefined : List Function → List Copy → Program → Type 0
+IsRefined functions copies program = (cores : List (Option (Tree Note))) → AreCores functions cores → IsRefinedOver functions (bodies_in cores) copies program
+
 -- the certificate of an accepted kernel: that of the derivations with the occurrence marks; and its text
 abbrev pub certificate_of : List Function → Cert
 certificate_of functions = certificate functions (map (function_tree functions) functions)
@@ -105,9 +122,10 @@ pub record IsProved (functions : List Function) : Type 0 where
   pub written : CertText (certified_text functions) (certificate_of functions)
   pub spells : SpellsDerivation functions (certificate_of functions)
 
--- What `build` writes means what it should: the C text means what the instances do, and what evaluation of the source gives where no cells are
--- needed; and the certificate is one of the source.
+-- What `build` writes means what it should: the C text means what the instances do; it refines the source, on any heap, and does so without
+-- touching one where no cells are needed; and the certificate is one of the source.
 pub record IsCompiled (functions : List Function) (copies : List Copy) : Type 0 where
   pub meant : IsMeant copies
+  pub refines : IsRefined functions copies meant.program
   pub represents : IsRepresented functions copies meant.program
   pub proved : IsProved functions

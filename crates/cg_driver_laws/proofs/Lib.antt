@@ -13,4 +13,6 @@ pub mod Whole
 pub mod Sound
 pub mod Reached
 pub mod Entries
+pub mod Fitted
 pub mod Represented
+pub mod Refined

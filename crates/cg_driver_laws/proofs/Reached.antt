@@ -38,7 +38,7 @@ use Rattle.cg_driver_laws.proofs.Without.{HasClosedArguments, IsClosedNode, node
 use Rattle.cg_graphs.proofs.Found.{inside as high}
 use Rattle.cg_check_laws.proofs.Basics.{or_false as neither}
 use Rattle.cg_typing_laws.proofs.Positions.{no_truth as not_true}
-use Rattle.cg_update_laws.proofs.Whole.{all_stay as types_stay}
+use Rattle.cg_update_laws.proofs.Places.{all_stay as types_stay}
 use Rattle.cg_driver_entry.proofs.Closed.{low}
 
 -- ---- lists

@@ -26,13 +26,13 @@ use Rattle.cg_base.proofs.Counts.{no_steps as never}
 
 -- ---- names apart
 
-none_named : (n : List ℕ) (ps : Parts) → list_any (bytes_eq n) (part_names ps) ≡ false → is_there (part_named n ps) ≡ false
+pub none_named : (n : List ℕ) (ps : Parts) → list_any (bytes_eq n) (part_names ps) ≡ false → is_there (part_named n ps) ≡ false
 none_named n end h = refl
 none_named n (part name t taken ps) h =
     let b = neither (bytes_eq n name) (list_any (bytes_eq n) (part_names ps)) h in
     at (λ b. is_there (if b then Some (record { name = name; ty = t; taken = taken }) else part_named n ps) ≡ false) (sym b.0) (none_named n ps b.1)
 
-apart_is : (ps : Parts) → AreApart (part_names ps) → IsTrue (are_apart ps)
+pub apart_is : (ps : Parts) → AreApart (part_names ps) → IsTrue (are_apart ps)
 unfolding are_apart
 apart_is end h = refl
 apart_is (part name t taken ps) h = and_from (not (is_there (part_named name ps))) _ (ap not (none_named name ps h.0)) (apart_is ps h.1)

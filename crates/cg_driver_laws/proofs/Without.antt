@@ -39,7 +39,7 @@ use Rattle.cg_driver_laws.specs.Laws.{copies_over, program_over}
 use Rattle.cg_driver_laws.proofs.Instances.{HaveProperNodes, IsFine, entry_proper, list_fine}
 use Rattle.cg_driver_laws.proofs.ProperNodes.{HasProper}
 use Rattle.cg_driver_laws.proofs.Unboxed.{closed_unboxed, library_unboxed, taken_unboxed}
-use Rattle.cg_update_laws.proofs.Whole.{all_stay as types_stay}
+use Rattle.cg_update_laws.proofs.Places.{all_stay as types_stay}
 use Rattle.cg_base.proofs.Counts.{no_steps as never}
 use Rattle.cg_typing.proofs.Lists.{types_back}
 

@@ -1,7 +1,9 @@
 -- The C of the instances of a source (docs/LANGUAGE.md, "The C of instances"): it can be printed, and without cells it runs to what represents what
 -- evaluation gives, from any store. And what is known of an entry (docs/LANGUAGE.md, "Entries").
-use Rattle.std.specs.Prelude.{◌≡◌, ℕ, ◌+◌, ◌*◌, ◌^◌, ◌<◌, ◌≤◌, Bool, true, false, IsTrue, List, [], map, slice_get, Some}
-use Rattle.cg_base.specs.declared.fun.Fun.TheVariants.{User}
+use Rattle.std.specs.Prelude.{◌≡◌, ◌⊎◌, ◌↔◌, ℕ, ◌+◌, ◌*◌, ◌^◌, ◌<◌, ◌≤◌, Bool, true, false, IsTrue, List, [], map, slice_get, Option, Some, None}
+use Rattle.std.specs.List.{list_all}
+use Rattle.cg_base.specs.declared.fun.Fun.{Fun}
+use Rattle.cg_base.specs.declared.fun.Fun.TheVariants.{User, Lib as OfLib}
 use Rattle.cg_base.specs.declared.kind.Word.TheVariants.{U32}
 use Rattle.cg_base.specs.Types.{Tau, arrow, word}
 use Rattle.cg_driver_cells.specs.Cells.{ReachesCells}
@@ -15,7 +17,9 @@ use Rattle.cg_driver_entry.specs.Entries.{ReachesAbstract}
 use Rattle.cg_heap.specs.Calls.{heap_of}
 use Rattle.cg_heap.specs.declared.cell.Scalar.{Scalar}
 use Rattle.cg_heap.specs.NoForeignHeap.{no_foreign_heap}
-use Rattle.cg_heap.specs.Reps.{HeapWorld, Holds}
+use Rattle.cg_heap.specs.Frames.{Frame}
+use Rattle.cg_heap.specs.Reps.{HeapWorld, Holds, Represents}
+use Rattle.cg_heap.specs.Steps.{count}
 use Rattle.cg_heap.specs.Stored.{Stored}
 use Rattle.cg_inst.specs.Judged.{core_in, functions_in}
 use Rattle.cg_inst.specs.Lists.{Cores, IsList}
@@ -26,17 +30,18 @@ use Rattle.cg_eval_def.specs.Evaluation.{evaluation, outcome, stuck}
 use Rattle.cg_eval_def.specs.Foreigns.{is_known, table_of}
 use Rattle.cg_typing.specs.declared.checked.Checked.{Checked}
 use Rattle.cg_typing.specs.Holds.{cores_in, trees_in}
-use Rattle.cg_typing.specs.Instances.{Instance, IsIn}
+use Rattle.cg_typing.specs.Instances.{Entry, Instance, IsIn, nodes_of}
 use Rattle.cg_typing.specs.Kept.{AreKept, maybe_core, maybe_tree}
 use Rattle.cg_typing.specs.Parts.{given_by, taken_by}
 use Rattle.cg_update.specs.Calls.{Program}
+use Rattle.cg_update.specs.Unboxed.{is_mention_among}
 use Rattle.cg_update_laws.specs.Laws.{AreWithoutCells, world_among}
 use Rattle.cg_value.specs.Fits.{fits}
 use Rattle.cg_value.specs.Foreign.{Foreign, IsLawful, first_order}
 use Rattle.cg_value.specs.NoForeign.{no_foreign}
 use Rattle.cg_value.specs.Values.{Val, function, number}
 use Rattle.cg_driver_cells.specs.WithoutCells.{IsWithoutCells}
-use Rattle.cg_cmachine_def.specs.Outcomes.{done}
+use Rattle.cg_cmachine_def.specs.Outcomes.{State, done}
 use Rattle.cg_cmachine_def.specs.Runs.{crun}
 use Rattle.cg_cmachine_def.specs.WordRuns.{RunsTo, alone}
 
@@ -63,6 +68,50 @@ pub record GivesRepresented (world : HeapWorld) (program : CText) (name : List �
   pub left : ℕ
   pub ends : crun (alone program) (32 * cost + 32) name us m ≡ done given (record { store = m; made = []; freed = [] }) left
   pub represents : Holds world (heap_of m) t given value
+
+-- What a C function gives on scalars that represent a value, from a heap in which these addresses may be written and read, where evaluation gives
+-- this value at this cost: within 32k + 32 steps scalars that represent it, in a heap that is as it was but for what was written or made; what is
+-- read was read before, and what was freed has no repeats and is exactly what was written or made and isn't written any more (the paper's
+-- refinement, section 3).
+pub record GivesRefined (world : HeapWorld) (program : CText) (name : List ℕ) (us : List Scalar) (m : Stored) (writes reads : ℕ → ℕ) (t : Tau) (value : Val) (cost : ℕ) : Type 0 where
+  pub given : List Scalar
+  pub state : State
+  pub left : ℕ
+  pub ends : crun (alone program) (32 * cost + 32) name us m ≡ done given state left
+  pub writes' : ℕ → ℕ
+  pub reads' : ℕ → ℕ
+  pub represents : Represents world (heap_of state.store) t given value writes' reads'
+  pub read_before : (q : ℕ) → 1 ≤ reads' q → 1 ≤ reads q
+  pub frame : Frame (heap_of m) writes (heap_of state.store) writes'
+  pub freed_once : (q : ℕ) → count q state.freed ≤ 1
+  pub freed_exactly : (q : ℕ) → (1 ≤ count q state.freed) ↔ (((1 ≤ writes q) ⊎ (1 ≤ count q state.made)) × (writes' q ≡ 0))
+
+-- Among some places of a list of instances: a body mentions only instances that stand there, and no function of the source there is abstract.
+module _ (list : List Instance) (among : ℕ → Bool) where
+  abbrev pub is_concrete_by : Fun → Option (Tree Note) → Bool
+  is_concrete_by (User i) (Some core) = list_all (is_mention_among list among) (nodes_of core)
+  is_concrete_by (User i) None = false
+  is_concrete_by (OfLib lib) body = true
+
+-- so it is of all at these places: none of them reaches an abstract function
+abbrev pub AreConcrete : Program → (ℕ → Bool) → Type 0
+AreConcrete p among = (k : ℕ) (x : Instance) (e : Entry) → among k ≡ true → slice_get p.list k ≡ Some x → slice_get p.entries k ≡ Some e → IsTrue (is_concrete_by p.list among x.fun e.body)
+
+-- Where evaluation of an instance that reaches no abstract function gives a value on a value in which no function does, the C function of this
+-- instance gives what represents it, from any heap that represents the argument and has no cell above its highest address.
+abbrev pub SourcesAreRefined : Type 0
+SourcesAreRefined =
+    (checked : Checked) (list : List Instance) (program : CText)
+    → AreKept (functions_in checked) (functions_in checked) (map maybe_core (cores_in checked)) (map maybe_tree (trees_in checked))
+    → IsList (functions_in checked) (core_in checked) list → IsSimulated (copies_in checked list) program
+    → (among : ℕ → Bool) → AreConcrete (program_over (functions_in checked) (core_in checked) list) among
+    → (at n k : ℕ) (x : Instance) (core : Tree Note) (us : List Scalar) (m : Stored) (v w : Val) (writes reads : ℕ → ℕ) → slice_get list at ≡ Some x → among at ≡ true
+    → (entry_of (functions_in checked) (core_in checked) x).body ≡ Some core
+    → Represents (world_among (program_over (functions_in checked) (core_in checked) list) among) (heap_of m) (taken_by (entry_of (functions_in checked) (core_in checked) x).ty) us v writes reads
+    → ((q : ℕ) → m.top < q → heap_of m q ≡ None)
+    → evaluation (table_of no_foreign checked) n (function x.fun x.types) v ≡ Some (w, k)
+    → GivesRefined (world_among (program_over (functions_in checked) (core_in checked) list) among) program (function_name at) us m writes reads
+    (given_by (entry_of (functions_in checked) (core_in checked) x).ty) w k
 
 -- A function without type variables has an instance in the list of a source.
 abbrev pub FunctionsStand : Type 0

@@ -1,5 +1,5 @@
 // The laws of the C of sources, and of their entries.
-ghost use Rattle.cg_driver_laws.specs.Laws.{EntriesAreSound, EntriesRun, FunctionsStand, SourcesArePrograms, SourcesPrint, UnboxedIsRepresented, UnboxedRun};
+ghost use Rattle.cg_driver_laws.specs.Laws.{EntriesAreSound, EntriesRun, FunctionsStand, SourcesArePrograms, SourcesAreRefined, SourcesPrint, UnboxedIsRepresented, UnboxedRun};
 
 /// A function without type variables has an instance in the list of a source.
 pub fn functions_stand()
@@ -39,4 +39,11 @@ pub fn entries_run()
 /// and no cell is made or freed.
 pub fn unboxed_is_represented()
     ensures { UnboxedIsRepresented }
+{}
+
+/// Where evaluation of an instance that reaches no abstract function gives a value at cost k, on a value in which no function does, the C function
+/// of this instance, from any heap that represents the argument, ends within 32k + 32 steps with scalars that represent that value: each cell
+/// that could be written is written by what it gives or freed, once, none is leaked, and all others are as they were.
+pub fn sources_are_refined()
+    ensures { SourcesAreRefined }
 {}

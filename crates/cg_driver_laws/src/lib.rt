@@ -2,13 +2,13 @@
 //! Role: laws.
 //! Promises: `functions_stand`, `sources_print`, `sources_are_programs`, `unboxed_run`, `unboxed_is_represented`.
 //! May cite: definitions, laws and public crates below; no code above.
-//! Promises also: `entries_are_sound`, `entries_run`.
+//! Promises also: `sources_are_refined`, `entries_are_sound`, `entries_run`.
 //! docs/LANGUAGE.md, "The C of instances", says it in words.
 #![tactic(auto)]
 
 mod law;
 
 pub use law::{
-    entries_are_sound, entries_run, functions_stand, sources_are_programs, sources_print,
-    unboxed_is_represented, unboxed_run,
+    entries_are_sound, entries_run, functions_stand, sources_are_programs, sources_are_refined,
+    sources_print, unboxed_is_represented, unboxed_run,
 };
