@@ -72,7 +72,7 @@ module _ (world : HeapWorld) (h : Heap) where
   )
 
 -- types of one slot
-record_slot : (ps : Parts) → slots (fields ps W) ≡ 1
+pub record_slot : (ps : Parts) → slots (fields ps W) ≡ 1
 unfolding slots
 record_slot ps = refl
 

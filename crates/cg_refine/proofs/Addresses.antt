@@ -1,18 +1,14 @@
 -- The list of the addresses that scalars reach has each as often as it is reached.
-use Rattle.std.proofs.Common.{◌≡◌, ℕ, zero, suc, ◌+◌, true, false, List, [], ◌∷◌, ◌++◌, take, drop, refl, arith}
+use Rattle.std.proofs.Common.{◌≡◌, ℕ, zero, suc, true, false, List, take, drop, refl, arith}
 use Rattle.cg_base.specs.declared.kind.Sigil.{Sigil}
 use Rattle.cg_base.specs.declared.kind.Sigil.TheVariants.{R, W, U}
 use Rattle.cg_base.specs.Types.{Tau, var, seen, unit, word, bool, arrow, abs, variant, fields, Parts, end, part}
 use Rattle.cg_heap.specs.declared.cell.Scalar.{Scalar}
 use Rattle.cg_heap.specs.Reps.{Heap, counted, first_address, first_number, foot, foot_all, foot_at, inner, slots, tail}
 use Rattle.cg_heap.specs.Steps.{count}
+use Rattle.cg_heap_laws.proofs.Steps.{count_append}
 use Rattle.cg_refine.specs.Laws.{AddressesAreReached}
 use Rattle.cg_refine_def.specs.Addresses.{own, reached, reached_all, reached_at}
-
--- two lists, one behind the other, have what both have
-count_joined : (q : ℕ) (xs ys : List ℕ) → count q (xs ++ ys) ≡ count q xs + count q ys
-count_joined q [] ys = omega arith
-count_joined q (x ∷ xs) ys = let a = count_joined q xs ys in omega arith
 
 -- a cell's own address stands there as often as it is counted
 own_count : (m s : Sigil) (p q : ℕ) → count q (own m s p) ≡ counted m s p q
@@ -39,7 +35,7 @@ module _ (h : Heap) (m : Sigil) where
     reached_count (abs name args s) us q = own_count m s (first_address us) q
     reached_count (variant ps) us q = reached_at_count ps (first_number us) (tail us) q
     reached_count (fields ps s) us q =
-        let j = count_joined q (own m s (first_address us)) (reached_all h m ps (inner h s us)) in
+        let j = count_append q (own m s (first_address us)) (reached_all h m ps (inner h s us)) in
         let a = own_count m s (first_address us) q in
         let b = reached_all_count ps (inner h s us) q in
         omega arith
@@ -49,7 +45,7 @@ module _ (h : Heap) (m : Sigil) where
     reached_all_count end us q = refl
     reached_all_count (part name t true ps) us q = reached_all_count ps (drop (slots t) us) q
     reached_all_count (part name t false ps) us q =
-        let j = count_joined q (reached h m t (take (slots t) us)) (reached_all h m ps (drop (slots t) us)) in
+        let j = count_append q (reached h m t (take (slots t) us)) (reached_all h m ps (drop (slots t) us)) in
         let a = reached_count t (take (slots t) us) q in
         let b = reached_all_count ps (drop (slots t) us) q in
         omega arith

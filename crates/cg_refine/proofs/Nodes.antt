@@ -1,7 +1,6 @@
 -- Evaluation of a node is refined by its update where those of its parts are: one lemma a form.
 use Rattle.std.proofs.Common.{◌≡◌, ℕ, ◌+◌, Bool, true, false, ◌&&◌, not, cond, nat_eq, IsTrue, Option, Some, None, List, [], ◌∷◌, ◌++◌, get_or, inr, map, refl, sym, ap, ◌∙◌, append_assoc, arith, subst as at}
 use Rattle.std.proofs.lemmas.Bool.{and_parts}
-use Rattle.std.proofs.lemmas.List.Folds.{list_all-append}
 use Rattle.std.specs.List.{list_all}
 use Rattle.std.specs.Prelude.{if◌then◌else◌}
 use Rattle.cg_base.proofs.Counts.{no_steps as never}
@@ -42,7 +41,6 @@ use Rattle.cg_typing.specs.Operators.{along, equality, takes, gives as type_give
 use Rattle.cg_typing.specs.Parts.{alternative_in, field_in, held, is_last, is_left, is_read_only, is_there, may_be_put_over, widens, with_part}
 use Rattle.cg_typing.specs.Rules.{Derives, DerivesShape, DerivesFields, parts_made, type_at}
 use Rattle.cg_typing.specs.Trees.{first_marks, later_marks, later_parts, marks_of, nth, strings_of, the_parts}
-use Rattle.cg_typing_laws.proofs.Named.{left_is_there as left_there}
 use Rattle.cg_update.specs.Calls.{Program, types_of}
 use Rattle.cg_update.specs.Machines.{is_machine, part_at, type_of_part}
 use Rattle.cg_update.specs.Outcomes.{State, Outcome, gives, on, where_true}
@@ -52,23 +50,10 @@ use Rattle.cg_update.specs.Updates as updates
 use Rattle.cg_update.specs.Updates.{Calls, place_of, read, row_of, sigil_of, update, update_fields, update_shape, write}
 use Rattle.cg_update_laws.proofs.Forms.{cast_held, con_held, last_is, literal_held, name_held, nothing_held, operated_both_held, operated_held, others_are_held, scalar_given, truth_held, truth_is}
 use Rattle.cg_update_laws.proofs.Held.{holds_machine}
-use Rattle.cg_update_laws.proofs.Named.{named_type}
+use Rattle.cg_update_laws.proofs.Nodes.{all_back, all_front, field_type_is}
 use Rattle.cg_value.specs.Forms as forms
 use Rattle.cg_value.specs.Forms.{has_name, is_true, payload_in, with_field, without}
 use Rattle.cg_value.specs.Values.{Val, chosen, function, gone, parts, to_vals}
-
--- what holds of all of two lists holds of those of each
-all_front : {A : Type 0} (f : A → Bool) (xs ys : List A) → IsTrue (list_all f (xs ++ ys)) → IsTrue (list_all f xs)
-all_front f xs ys h = (and_parts (list_all f xs) _ (sym (list_all-append f xs ys) ∙ h)).0
-
-all_back : {A : Type 0} (f : A → Bool) (xs ys : List A) → IsTrue (list_all f (xs ++ ys)) → IsTrue (list_all f ys)
-all_back f xs ys h = (and_parts (list_all f xs) _ (sym (list_all-append f xs ys) ∙ h)).1
-
--- the type of a field by its place
-field_type_is : (n : List ℕ) (t : Tau) → IsTrue (is_left (field_in n t)) → type_of_part (position n t) (fields_in t) ≡ held (field_in n t)
-unfolding position
-field_type_is n (fields ps s) l = named_type n ps (left_there (field_in n (fields ps s)) l)
-field_type_is n _ l = never l
 
 -- words are compared
 word_is_equal : (t : Tau) → IsTrue (is_word t) → IsTrue (takes equality t)

@@ -17,6 +17,7 @@ use Rattle.cg_heap_laws.proofs.ByKinds.{no_writes}
 use Rattle.cg_inst.proofs.Names.{by_cases, either_way}
 use Rattle.cg_typing.specs.Parts.{held, is_left, is_there, may_be_put_over, part_named, parts_with}
 use Rattle.cg_update.specs.Machines.{only_at, part_at, with_part_at}
+use Rattle.cg_update_laws.proofs.Named.{room}
 use Rattle.cg_value.specs.Values.{Val}
 
 -- ---- plain facts
@@ -25,7 +26,7 @@ swapped : (a b : ℕ) → a + b ≡ b + a
 swapped a b = omega arith
 
 -- the same in front of both
-in_front : (a b c d : ℕ) → b + c ≡ d → (a + b) + c ≡ a + d
+pub in_front : (a b c d : ℕ) → b + c ≡ d → (a + b) + c ≡ a + d
 in_front a b c d e = omega arith
 
 in_front_of_both : (a b l c d : ℕ) → b + l ≡ c + d → (a + b) + l ≡ (a + c) + d
@@ -38,10 +39,7 @@ where_none a b = omega arith
 where_some : (a b c : ℕ) → (a + b) + c ≡ (c + b) + a
 where_some a b c = omega arith
 
--- there is room for the first, and for the others behind it
-room : (n m k : ℕ) → m ≡ n + k → n ≤ m
-room n m k e = omega arith
-
+-- the others stand behind the first
 behind : (n m k : ℕ) (us : List Scalar) → length us ≡ n + k → length (drop n us) ≡ k
 behind n m k us e = omega (arith, length-drop n us)
 

@@ -19,7 +19,7 @@ use Rattle.cg_heap_laws.proofs.Same.{holds_all_same, holds_same}
 use Rattle.cg_heap_laws.proofs.Steps.{nothing_is_a_step, writes_are_steps}
 use Rattle.cg_heap_laws.specs.StepLaws.{IsWrittenAt}
 use Rattle.cg_heap_laws.proofs.Stores.{get_insert, written_here, written_other}
-use Rattle.cg_refine.proofs.Parts.{lost, nothing_lost, put_foot, put_row, put_row_is, taken_foot}
+use Rattle.cg_refine.proofs.Parts.{in_front, lost, nothing_lost, put_foot, put_row, put_row_is, taken_foot}
 use Rattle.cg_refine_def.specs.Refined.{IsGiven, side_of}
 use Rattle.cg_typing.specs.Parts.{field_in, held, is_left, is_read_only, is_there, may_be_put_over, part_named, parts_with, with_part}
 use Rattle.cg_typing_laws.proofs.Named.{left_is_there as left_there}
@@ -38,10 +38,6 @@ use Rattle.cg_value.specs.Values.{Val, Vals, to_vals, val_list}
 
 within : (a b c : ℕ) → a + b ≡ c → b ≤ c
 within a b c e = omega arith
-
--- what stands before both
-before_both : (p a b c : ℕ) → a + b ≡ c → (p + a) + b ≡ p + c
-before_both p a b c e = omega arith
 
 -- ---- a field that is read
 module _ (world : HeapWorld) (h : Heap) where
@@ -62,7 +58,7 @@ module _ (world : HeapWorld) (h : Heap) where
   record_sum : (n : List ℕ) (ps : Parts) (s : Sigil) (us ws : List Scalar) → IsTrue (is_left (part_named n ps)) → part_at (position_among n ps) ps (inner h s us) ≡ Some ws
       → (m : Sigil) (q : ℕ) → foot h m (fields (parts_with n true ps) s) us q + foot h m (held (part_named n ps)) ws q ≡ foot h m (fields ps s) us q
   unfolding foot
-  record_sum n ps s us ws l e m q = before_both (counted m s (first_address us) q) _ _ _ (taken_foot h m q n ps (inner h s us) ws l e)
+  record_sum n ps s us ws l e m q = in_front (counted m s (first_address us) q) _ _ _ (taken_foot h m q n ps (inner h s us) ws l e)
 
   pub field_read : (n : List ℕ) (t : Tau) (us : List Scalar) (v : Val) → H t us v → IsTrue (is_left (field_in n t)) → FieldRead n t us v
   unfolding Holds position field without

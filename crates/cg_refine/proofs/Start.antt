@@ -1,20 +1,16 @@
 -- Where a run begins: of an argument alone.
-use Rattle.std.proofs.Common.{◌≡◌, ℕ, zero, suc, ◌+◌, ◌<◌, ◌≤◌, Option, Some, None, List, [], ◌∷◌, refl, arith}
-use Rattle.std.specs.Option.{IsSome}
+use Rattle.std.proofs.Common.{◌≡◌, ℕ, zero, suc, ◌+◌, ◌<◌, ◌≤◌, Some, None, List, [], ◌∷◌, refl, arith}
 use Rattle.cg_base.specs.declared.kind.Sigil.{Sigil}
 use Rattle.cg_base.specs.declared.kind.Sigil.TheVariants.{R, W}
 use Rattle.cg_base.specs.Types.{Tau}
 use Rattle.cg_heap.specs.declared.cell.Scalar.{Scalar}
 use Rattle.cg_heap.specs.Reps.{AreApart, Heap, HeapWorld, Holds, foot}
 use Rattle.cg_heap.specs.Steps.{IsFine, side}
+use Rattle.cg_heap_laws.proofs.Frames.{none_is_not}
 use Rattle.cg_heap_laws.proofs.There.{foot_there}
 use Rattle.cg_refine.proofs.Contexts.{only_foot}
 use Rattle.cg_refine_def.specs.Contexts.{context_foot}
 use Rattle.cg_value.specs.Values.{Val}
-
--- an option isn't both some and none
-none_is_not : {A : Type 0} → (o : Option A) → IsSome o → o ≡ None → ⊥
-none_is_not o s n = cc
 
 -- a number that isn't at least one is zero
 is_zero : (n : ℕ) → (1 ≤ n → ⊥) → n ≡ 0

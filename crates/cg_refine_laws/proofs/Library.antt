@@ -16,7 +16,7 @@ use Rattle.cg_heap.specs.Calls.{Does, Out, heap_of}
 use Rattle.cg_heap.specs.declared.cell.Cell.TheVariants.{Words}
 use Rattle.cg_heap.specs.declared.cell.Scalar.{Scalar}
 use Rattle.cg_heap.specs.declared.cell.Scalar.TheVariants.{Word as AWord, Address}
-use Rattle.cg_heap.specs.Reps.{Heap, HeapWorld, Holds, address_of, first_address, foot, head, number_of, slots}
+use Rattle.cg_heap.specs.Reps.{Heap, HeapWorld, Holds, address_of, first_address, foot, head, number_of}
 use Rattle.cg_heap.specs.Stored.{Stored, cell_at}
 use Rattle.cg_heap_laws.proofs.Allocations.{next_is}
 use Rattle.cg_heap_laws.proofs.Arrays.{length_is_word}
@@ -24,7 +24,7 @@ use Rattle.cg_heap_laws.proofs.LibraryForms.{array_is, state_is, word_is}
 use Rattle.cg_heap_laws.proofs.LibraryFunctions.{state_slots}
 use Rattle.cg_heap_laws.proofs.LibraryObserved.{seen_array, seen_slot}
 use Rattle.cg_heap_laws.proofs.LibraryWhole.{library_meets}
-use Rattle.cg_heap_laws.proofs.Owned.{array_slot, at_both, one_address, one_scalar, two_are, word_slot}
+use Rattle.cg_heap_laws.proofs.Owned.{array_slot, at_both, one_address, one_scalar, record_slot, two_are, word_slot}
 use Rattle.cg_heap_laws.proofs.Slots.{holds_slots}
 use Rattle.cg_heap_laws.proofs.Tuples.{pair_is, triple_is}
 use Rattle.cg_heap_laws.specs.LibraryLaws.{is_argument}
@@ -77,11 +77,6 @@ words_there w ns a = and_from (nat_lt (length ns) (2 ^ 32)) (list_all (λ n. nat
 slots_there : (world : HeapWorld) (h : Heap) (ps : Parts) (u : Scalar) (v : Val) → Holds world h (fields ps W) (u ∷ []) v → are_slots (h (address_of u)) ≡ true
 unfolding Holds
 slots_there world h ps u v r = ap are_slots r.1.1
-
--- a record that can be written has one slot
-record_slot : (ps : Parts) → slots (fields ps W) ≡ 1
-unfolding slots
-record_slot ps = refl
 
 module _ (world : HeapWorld) (m : Stored) where
   -- the cells that a function uses are there, and it costs what it does by the value

@@ -40,7 +40,7 @@ is_untaken zero (part x t taken ps) = not taken
 is_untaken (suc i) (part x t taken ps) = is_untaken i ps
 
 -- the first of so many scalars and more is there
-room : (n m k : ℕ) → m ≡ n + k → n ≤ m
+pub room : (n m k : ℕ) → m ≡ n + k → n ≤ m
 room n m k e = omega arith
 
 less : (m n k r : ℕ) → m ≡ n + k → r ≡ m - n → r ≡ k

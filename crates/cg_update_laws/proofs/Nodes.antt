@@ -47,14 +47,14 @@ use Rattle.cg_typing_laws.proofs.Named.{left_is_there as left_there}
 use Rattle.cg_base.proofs.Counts.{no_steps as never}
 
 -- what holds of all of two lists holds of those of each
-all_front : {A : Type 0} (f : A → Bool) (xs ys : List A) → IsTrue (list_all f (xs ++ ys)) → IsTrue (list_all f xs)
+pub all_front : {A : Type 0} (f : A → Bool) (xs ys : List A) → IsTrue (list_all f (xs ++ ys)) → IsTrue (list_all f xs)
 all_front f xs ys h = (and_parts (list_all f xs) _ (sym (list_all-append f xs ys) ∙ h)).0
 
-all_back : {A : Type 0} (f : A → Bool) (xs ys : List A) → IsTrue (list_all f (xs ++ ys)) → IsTrue (list_all f ys)
+pub all_back : {A : Type 0} (f : A → Bool) (xs ys : List A) → IsTrue (list_all f (xs ++ ys)) → IsTrue (list_all f ys)
 all_back f xs ys h = (and_parts (list_all f xs) _ (sym (list_all-append f xs ys) ∙ h)).1
 
 -- the type of a field by its place
-field_type_is : (n : List ℕ) (t : Tau) → IsTrue (is_left (field_in n t)) → type_of_part (position n t) (fields_in t) ≡ held (field_in n t)
+pub field_type_is : (n : List ℕ) (t : Tau) → IsTrue (is_left (field_in n t)) → type_of_part (position n t) (fields_in t) ≡ held (field_in n t)
 unfolding position
 field_type_is n (fields ps s) l = named_type n ps (left_there (field_in n (fields ps s)) l)
 field_type_is n _ l = never l
