@@ -1,6 +1,6 @@
 -- What a table of abstract functions gives on heaps: what its types are there, what its functions do, and the laws of both
 -- (docs/LANGUAGE.md, "Abstract functions").
-use Rattle.std.specs.Prelude.{◌≡◌, ℕ, ◌+◌, ◌<◌, ◌≤◌, ◌&&◌, Bool, IsTrue, List, codes, length, Option, Some, None, if◌then◌else◌}
+use Rattle.std.specs.Prelude.{◌≡◌, ℕ, ◌+◌, ◌-◌, ◌<◌, ◌≤◌, ◌&&◌, Bool, IsTrue, List, codes, length, Option, Some, None, if◌then◌else◌}
 use Rattle.std.specs.List.{range_with_len}
 use Rattle.std.specs.Str.{bytes_eq}
 use Rattle.cg_base.specs.Types.{Tau, arrow, abs, variant, fields, none, Parts, end, part}
@@ -58,7 +58,7 @@ pub record IsAnswered (world : HeapWorld) (s : Stored) (from to : Tau) (us : Lis
   pub in_order : o.made ≡ range_with_len (s.top + 1) (length o.made)
   pub rises : o.store.top ≡ s.top + length o.made
   pub few : length o.made ≤ most_made
-  pub granted : length o.made + answers_left to v' ≤ answers_left from v
+  pub granted : length o.made ≤ answers_left from v - answers_left to v'
 
 -- a call is answered: at this cost, and with what is to come of it
 abbrev pub Answers : HeapWorld → Stored → (from to : Tau) → List Scalar → (v v' : Val) → ℕ → Option Answer → Type 0
