@@ -1,6 +1,7 @@
 pub mod Bodies
 pub mod Circles
 pub mod Closed
+pub mod ClosedBodies
 pub mod Each
 pub mod Entries
 pub mod Growth
