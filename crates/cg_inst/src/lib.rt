@@ -1,6 +1,6 @@
 //! Stage: instances. The list of instances of a checked source, and its limits.
 //! Role: public.
-//! Promises: `instances` gives exactly the defined list, or the first limit that it passes; `Instances`, `is_closed`.
+//! Promises: `instances` gives exactly the defined list, or the first limit that it passes; `Instances` finds the place of an instance.
 //! May cite: anything of its stage and of those below; no crate above.
 //! docs/LANGUAGE.md, "Instances", says it in words.
 #![tactic(auto)]
@@ -21,4 +21,3 @@ pub use fault::InstFault;
 pub use instance::Instance;
 pub use list::Instances;
 pub use make::instances;
-pub use widths::is_closed;

@@ -1,7 +1,7 @@
 // How many nodes types have with types for their type variables, told without going through them again.
 #![tactic(auto, using(crate::proofs::WidthSteps::width_steps), unfolding(crate::specs::Measured::own_nodes, crate::specs::Measured::variables_in))]
 
-ghost use Rattle.std.specs.Prelude.{◌≡◌, ◌+◌, ◌↔◌, [], ◌++◌, map, slice_get, IfOk, IsTrue, OnOk};
+ghost use Rattle.std.specs.Prelude.{◌≡◌, ◌+◌, ◌↔◌, ◌++◌, map, slice_get, IfOk, IsTrue, OnOk};
 ghost use Rattle.cg_base.specs.Types.{type_of, part_of, to_parts, to_taus};
 ghost use Rattle.cg_inst.specs.Measured.{AreSmallBy, nodes_by, own_nodes, own_nodes_all, own_nodes_parts, variables_in, variables_in_all, variables_in_parts, width_in, width_of};
 ghost use Rattle.cg_kinds.specs.Kinds.{or_unit};
@@ -39,15 +39,6 @@ fn measured(alloc: Global, ty: &Ty) -> Result<Width, Memory>
     let mut variables = Vec::new(alloc);
     let base = push_type(&mut variables, ty)?;
     Ok(Width { base, variables })
-}
-
-/// Whether no type variable stands in a type. Want of memory is its one refusal.
-pub fn is_closed(alloc: Global, ty: &Ty) -> Result<bool, Memory>
-    ensures { IfOk result (λ closed. IsTrue closed ↔ (variables_in (type_of ty.now) ≡ [])) }
-{
-    let mut variables = Vec::new(alloc);
-    push_type(&mut variables, ty)?;
-    Ok(variables.is_empty())
 }
 
 // The type variables of a type behind these, and how many of its nodes are none, u32::MAX standing for that many or more.

@@ -1,4 +1,3 @@
-pub mod Closed
 pub mod Copies
 pub mod Fields
 pub mod Monos

@@ -1,7 +1,8 @@
 // How copies are made.
 #![tactic(auto, using(crate::proofs::Entries::entry_steps))]
 
-ghost use Rattle.std.specs.Prelude.{◌≡◌, None, Some, map, slice_get, IfOk, MatchOption};
+ghost use Rattle.std.specs.Prelude.{◌≡◌, None, Some, length, map, slice_get, IfOk, IsSomeAnd, MatchOption};
+ghost use Rattle.std.specs.Bool.{OnTrue};
 ghost use Rattle.std.specs.Option.{option_map};
 ghost use Rattle.cg_base.specs.Types.{type_of};
 ghost use Rattle.cg_core.specs.Kernels.{function_of, the_core};
@@ -17,7 +18,6 @@ ghost use Rattle.cg_typing.specs.Instances.{as_arguments};
 ghost use Rattle.cg_typing.specs.Kept.{maybe_core};
 ghost use Rattle.cg_typing.specs.Subst.{subst_core};
 
-use crate::closed::is_closed_core;
 use crate::copies::{Body, Copy, Mono};
 use crate::cores::specialise;
 use cg_base::{Fun, Items, Memory, Ty};
@@ -48,11 +48,28 @@ fn type_at(alloc: Global, checked: &Checked, instance: &Instance) -> Result<Ty, 
     }
 }
 
-// A core with these types for its type variables: itself, where none stands in it.
-fn body<'a>(alloc: Global, core: &'a Term<Typed>, types: &Items<Ty>) -> Result<Body<'a>, Memory>
+// Whether the function at a position has no type variables.
+fn has_no_variables(checked: &Checked, at: u32) -> bool
+    ensures { OnTrue result (IsSomeAnd (slice_get (functions_in checked.now) at) (λ f. length f.vars ≡ 0)) }
+{
+    match declared(checked, at) {
+        Some(function) => function.vars.len() == 0,
+        None => false,
+    }
+}
+
+// The core of the function at a position with these types for its type variables: itself, where it has none.
+fn body<'a>(
+    alloc: Global,
+    checked: &Checked,
+    at: u32,
+    core: &'a Term<Typed>,
+    types: &Items<Ty>,
+) -> Result<Body<'a>, Memory>
+    requires { core_in checked.now at ≡ Some (the_core core.now) }
     ensures { IfOk result (λ b. the_core (core_by b) ≡ subst_core (map type_of types.now) (the_core core.now)) }
 {
-    if is_closed_core(alloc, core)? {
+    if has_no_variables(checked, at) {
         return Ok(Body::Source(core));
     }
     Ok(Body::Own(specialise(alloc, core, types)?))
@@ -69,7 +86,7 @@ fn body_at<'a>(
 {
     match instance.fun {
         Fun::User(at) => match checked.core(at) {
-            Some(core) => Ok(Some(body(alloc, core, &instance.args)?)),
+            Some(core) => Ok(Some(body(alloc, checked, at, core, &instance.args)?)),
             None => Ok(None),
         },
         Fun::Lib(_) => Ok(None),

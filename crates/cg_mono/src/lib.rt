@@ -5,7 +5,6 @@
 #![tactic(auto)]
 
 mod build;
-mod closed;
 mod copies;
 mod cores;
 

@@ -1,8 +1,10 @@
 use Rattle.std.proofs.Common.{map, sym}
+use Rattle.std.proofs.lemmas.Bool.{OnTrue_at}
 use Rattle.cg_base.specs.Types.{type_of}
 use Rattle.cg_core.specs.Kernels.{the_core}
-use Rattle.cg_mono.proofs.Staying.{core_stays}
+use Rattle.cg_mono.proofs.Entries.{source_stays}
 use Rattle.cg_mono.proofs.build.body.Goals as goal
 
-pub returns-then-branch : goal.returns-then-branch
-returns-then-branch c = sym (core_stays (map type_of c.args.types.now) (the_core c.args.core.now) (c.in_ok-is_closed_core.ensures c.if-branch.true))
+pub returns-then-has_no_variables : goal.returns-then-has_no_variables
+returns-then-has_no_variables c =
+    sym (source_stays c.args.checked.now c.args.at (the_core c.args.core.now) (OnTrue_at c.if-has_no_variables.true c.has_no_variables.ensures) c.requires (map type_of c.args.types.now))
