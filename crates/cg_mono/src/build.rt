@@ -65,14 +65,17 @@ fn body<'a>(
     at: u32,
     core: &'a Term<Typed>,
     types: &Items<Ty>,
-) -> Result<Body<'a>, Memory>
+) -> Result<Option<Body<'a>>, Memory>
     requires { core_in checked.now at ≡ Some (the_core core.now) }
-    ensures { IfOk result (λ b. the_core (core_by b) ≡ subst_core (map type_of types.now) (the_core core.now)) }
+    ensures { IfOk result (λ b. maybe_core (option_map core_by b) ≡ Some (subst_core (map type_of types.now) (the_core core.now))) }
 {
     if has_no_variables(checked, at) {
-        return Ok(Body::Source(core));
+        return Ok(Some(Body::Source(core)));
     }
-    Ok(Body::Own(specialise(alloc, core, types)?))
+    match specialise(alloc, core, types) {
+        Ok(core) => Ok(Some(Body::Own(core))),
+        Err(wanting) => Err(wanting),
+    }
 }
 
 // The body of an instance, where it has one.
@@ -86,10 +89,30 @@ fn body_at<'a>(
 {
     match instance.fun {
         Fun::User(at) => match checked.core(at) {
-            Some(core) => Ok(Some(body(alloc, checked, at, core, &instance.args)?)),
+            Some(core) => body(alloc, checked, at, core, &instance.args),
             None => Ok(None),
         },
         Fun::Lib(_) => Ok(None),
+    }
+}
+
+// An instance with its type and its body.
+fn with_instance<'a>(
+    alloc: Global,
+    instance: &Instance,
+    ty: Ty,
+    body: Option<Body<'a>>,
+) -> Result<Copy<'a>, Memory>
+    ensures same { IfOk result (λ copy. instance_of copy.instance ≡ instance_of instance.now) }
+    ensures is { IfOk result (λ copy. (copy.ty ≡ ty) × (copy.body ≡ body.entry)) }
+{
+    match instance.copy(alloc) {
+        Ok(instance) => Ok(Copy { instance, ty, body }),
+        Err(wanting) => {
+            drop(body);
+            drop(ty);
+            Err(wanting)
+        }
     }
 }
 
@@ -99,12 +122,13 @@ fn copy_at<'a>(alloc: Global, checked: &'a Checked, instance: &Instance) -> Resu
     ensures is { IfOk result (λ copy. copy_of copy ≡ entry_of (functions_in checked.now) (core_in checked.now) (instance_of instance.now)) }
 {
     let ty = type_at(alloc, checked, instance)?;
-    let body = body_at(alloc, checked, instance)?;
-    Ok(Copy {
-        instance: instance.copy(alloc)?,
-        ty,
-        body,
-    })
+    match body_at(alloc, checked, instance) {
+        Ok(body) => with_instance(alloc, instance, ty, body),
+        Err(wanting) => {
+            drop(ty);
+            Err(wanting)
+        }
+    }
 }
 
 /// The copies of the instances of a list, over a checked source (docs/LANGUAGE.md, "Instances"). Want of memory is its one refusal.
@@ -115,7 +139,13 @@ pub fn mono<'a>(alloc: Global, checked: &'a Checked, list: &Instances) -> Result
     let mut copies = Vec::new(alloc);
     let instances = list.as_slice();
     for instance in instances {
-        copies.push(copy_at(alloc, checked, instance)?)?;
+        match copy_at(alloc, checked, instance) {
+            Ok(copy) => copies.push(copy)?,
+            Err(wanting) => {
+                drop(copies);
+                return Err(wanting);
+            }
+        }
     }
     Ok(Mono { copies })
 }

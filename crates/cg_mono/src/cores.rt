@@ -151,7 +151,13 @@ fn in_terms(
 {
     let mut made = Items::new(alloc);
     for term in terms.as_slice() {
-        made.push(specialise(alloc, term, types)?)?;
+        match specialise(alloc, term, types) {
+            Ok(term) => made.push(term)?,
+            Err(wanting) => {
+                drop(made);
+                return Err(wanting);
+            }
+        }
     }
     Ok(made)
 }
@@ -166,8 +172,13 @@ fn in_fields(
 {
     let mut made = Items::new(alloc);
     for field in fields.as_slice() {
-        let term = specialise(alloc, &field.term, types)?;
-        made.push(named(alloc, &field.name, term)?)?;
+        match specialise(alloc, &field.term, types) {
+            Ok(term) => made.push(named(alloc, &field.name, term)?)?,
+            Err(wanting) => {
+                drop(made);
+                return Err(wanting);
+            }
+        }
     }
     Ok(made)
 }
@@ -369,7 +380,13 @@ fn in_args(alloc: Global, args: &Items<TyArg>, types: &Items<Ty>) -> Result<Item
 {
     let mut made = Items::new(alloc);
     for arg in args.as_slice() {
-        made.push(in_written(alloc, arg, types)?)?;
+        match in_written(alloc, arg, types) {
+            Ok(written) => made.push(written)?,
+            Err(wanting) => {
+                drop(made);
+                return Err(wanting);
+            }
+        }
     }
     Ok(made)
 }
