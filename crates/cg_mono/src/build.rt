@@ -1,8 +1,7 @@
 // How copies are made.
 #![tactic(auto, using(crate::proofs::Entries::entry_steps))]
 
-ghost use Rattle.std.specs.Prelude.{◌≡◌, None, Some, length, map, slice_get, IfOk, IsSomeAnd, MatchOption};
-ghost use Rattle.std.specs.Bool.{OnTrue};
+ghost use Rattle.std.specs.Prelude.{◌≡◌, None, Some, map, slice_get, IfOk, MatchOption};
 ghost use Rattle.std.specs.Option.{option_map};
 ghost use Rattle.cg_base.specs.Types.{type_of};
 ghost use Rattle.cg_core.specs.Kernels.{function_of, the_core};
@@ -48,16 +47,6 @@ fn type_at(alloc: Global, checked: &Checked, instance: &Instance) -> Result<Ty, 
     }
 }
 
-// Whether the function at a position has no type variables.
-fn has_no_variables(checked: &Checked, at: u32) -> bool
-    ensures { OnTrue result (IsSomeAnd (slice_get (functions_in checked.now) at) (λ f. length f.vars ≡ 0)) }
-{
-    match declared(checked, at) {
-        Some(function) => function.vars.len() == 0,
-        None => false,
-    }
-}
-
 // The core of the function at a position with these types for its type variables: itself, where it has none.
 fn body<'a>(
     alloc: Global,
@@ -69,8 +58,10 @@ fn body<'a>(
     requires { core_in checked.now at ≡ Some (the_core core.now) }
     ensures { IfOk result (λ b. maybe_core (option_map core_by b) ≡ Some (subst_core (map type_of types.now) (the_core core.now))) }
 {
-    if has_no_variables(checked, at) {
-        return Ok(Some(Body::Source(core)));
+    if let Some(function) = declared(checked, at) {
+        if function.vars.len() == 0 {
+            return Ok(Some(Body::Source(core)));
+        }
     }
     match specialise(alloc, core, types) {
         Ok(core) => Ok(Some(Body::Own(core))),

@@ -106,8 +106,10 @@ fn in_boxed(
 ) -> Result<Box<Term<Typed>>, Memory>
     ensures { IfOk result (λ t. the_core t.value ≡ subst_core (map type_of types.now) (the_core core.now)) }
 {
-    let term = specialise(alloc, core, types)?;
-    Ok(Box::new(alloc, term)?)
+    match specialise(alloc, core, types) {
+        Ok(term) => Ok(Box::new(alloc, term)?),
+        Err(wanting) => Err(wanting),
+    }
 }
 
 // Two terms.
@@ -381,7 +383,12 @@ fn in_args(alloc: Global, args: &Items<TyArg>, types: &Items<Ty>) -> Result<Item
     let mut made = Items::new(alloc);
     for arg in args.as_slice() {
         match in_written(alloc, arg, types) {
-            Ok(written) => made.push(written)?,
+            Ok(written) => {
+                if let Err(wanting) = made.push(written) {
+                    drop(made);
+                    return Err(wanting);
+                }
+            }
             Err(wanting) => {
                 drop(made);
                 return Err(wanting);
@@ -396,7 +403,10 @@ fn copy_seen(alloc: Global, seen: &Items<Seen>) -> Result<Items<Seen>, Memory>
 {
     let mut copies = Items::new(alloc);
     for one in seen.as_slice() {
-        copies.push(*one)?;
+        if let Err(wanting) = copies.push(*one) {
+            drop(copies);
+            return Err(wanting);
+        }
     }
     Ok(copies)
 }
