@@ -20,6 +20,8 @@ use Rattle.cg_ctext.specs.Printed.{printed}
 use Rattle.cg_ctree.specs.Spells.{CSpells, IsPrintable}
 use Rattle.cg_ctree.specs.Trees.{Program}
 use Rattle.cg_resolve_def.specs.Desugar.{deepest_body}
+use Rattle.cg_heap.specs.ForeignHeaps.{ForeignHeap, IsLawfulOnHeaps}
+use Rattle.cg_heap.specs.NoForeignHeap.{no_foreign_heap, none_is_lawful_on_heaps}
 use Rattle.cg_inst.specs.Answered.{Answers}
 use Rattle.cg_inst.specs.declared.fault.InstFault.TheVariants.{Limit as OverLimit}
 use Rattle.cg_inst.specs.Judged.{AreTooMany, HaveLargeTypes, HaveTooManyNodes, IsWithin, core_in}
@@ -32,7 +34,6 @@ use Rattle.cg_mono.specs.Copies.{copy_of}
 use Rattle.cg_mono.specs.declared.copies.Copy.{Copy as OneCopy}
 use Rattle.cg_mono.specs.declared.copies.Mono.{Mono}
 use Rattle.cg_mono.specs.Monos.{copies_in as kept_copies}
-use Rattle.cg_driver_laws.proofs.Represented.{unboxed_is_represented}
 use Rattle.cg_driver_laws.proofs.Refined.{sources_are_refined}
 use Rattle.cg_driver_laws.specs.Laws.{SourcesPrint, copies_in, copies_over}
 use Rattle.cg_driver_steps.specs.declared.report.Report.{Report}
@@ -48,13 +49,15 @@ use Rattle.cg_driver.specs.Built.{IsWritten, IsListed, KeepsCopies, RefusesCerti
 use Rattle.cg_driver.specs.Commands.{Judges, IsBuilt, certifiable, instanced}
 use Rattle.cg_driver.specs.declared.build.Built.{Built}
 use Rattle.cg_driver.specs.Found.{Found, certificate_limit, functions, with_copies}
-use Rattle.cg_driver.specs.Instanced.{HasInstances, IsCompiled, IsMeant, IsProved, IsRefined, IsRefinedOver, IsRepresented, IsRepresentedOver, PassesInstances, bodies_in, certified_text, emitted, too_large, too_many, too_wide}
+use Rattle.cg_driver.specs.Instanced.{HasInstances, IsCompiled, IsMeant, IsProved, PassesInstances, RefinesOver, RefinesWith, bodies_in, certified_text, emitted, too_large, too_many, too_wide}
 use Rattle.cg_driver.specs.Judged.{CanBeBuilt, HoldsCores, HoldsMarks, functions_in}
 use Rattle.cg_driver.specs.Lines.{built_line as written_line, limit_line, limit_name}
 use Rattle.cg_driver.specs.Executed.{cores_of}
 use Rattle.cg_driver.proofs.Cores.{one_list}
 use Rattle.cg_driver.proofs.Executing.{bodies_same}
 use Rattle.cg_driver.proofs.Saying.{steps_judged}
+use Rattle.cg_value.specs.Foreign.{Foreign, IsLawful}
+use Rattle.cg_value.specs.NoForeign.{no_foreign, none_is_lawful}
 
 -- ---- instances
 
@@ -183,23 +186,16 @@ module _ (checked : Checked) (list : List Instance) (found : Found) (built : Bui
 kept_trees : (checked : Checked) → HoldsMarks checked → AreKept (functions_in checked) (functions_in checked) (map maybe_core (cores_in checked)) (map maybe_tree (trees_in checked))
 kept_trees checked marks = subst (λ ds. AreKept (functions_in checked) (functions_in checked) (map maybe_core (cores_in checked)) ds) (sym marks.are) marks.kept
 
--- what the C does on any store, where no cells are needed
-represented : (checked : Checked) → HoldsMarks checked → (copies : List Copy) (p : Program) → IsSimulated copies p → IsRepresented (functions_in checked) copies p
-represented checked marks copies p simulates cores derived =
-    subst (λ b. IsRepresentedOver (functions_in checked) b copies p) (bodies_same checked ∙ ap bodies_in (one_list (functions_in checked) (cores_of checked) cores (map (function_tree (functions_in checked)) (functions_in checked), marks.kept) derived)) here
+-- what the C does on any heap, over any lawful table
+refined : (x : Foreign) (y : ForeignHeap) → IsLawful x → IsLawfulOnHeaps x y → (checked : Checked) → HoldsMarks checked → (copies : List Copy) (p : Program) → IsSimulated copies p
+    → RefinesWith x y (functions_in checked) copies p
+refined x y lawful on_heaps checked marks copies p simulates cores derived =
+    subst (λ b. RefinesOver x y (functions_in checked) b copies p) (bodies_same checked ∙ ap bodies_in (one_list (functions_in checked) (cores_of checked) cores (map (function_tree (functions_in checked)) (functions_in checked), marks.kept) derived)) here
   where
-    here : IsRepresentedOver (functions_in checked) (core_in checked) copies p
-    here list is same among without at n k x core us m v w there stands body holds gives =
-        unboxed_is_represented checked list p (kept_trees checked marks) is (subst (λ cs. IsSimulated cs p) same simulates) among without at n k x core us m v w there stands body holds gives
-
--- what the C does on any heap
-refined : (checked : Checked) → HoldsMarks checked → (copies : List Copy) (p : Program) → IsSimulated copies p → IsRefined (functions_in checked) copies p
-refined checked marks copies p simulates cores derived =
-    subst (λ b. IsRefinedOver (functions_in checked) b copies p) (bodies_same checked ∙ ap bodies_in (one_list (functions_in checked) (cores_of checked) cores (map (function_tree (functions_in checked)) (functions_in checked), marks.kept) derived)) here
-  where
-    here : IsRefinedOver (functions_in checked) (core_in checked) copies p
-    here list is same among without at n k x core us m v w writes reads there stands body holds low gives =
-        sources_are_refined checked list p (kept_trees checked marks) is (subst (λ cs. IsSimulated cs p) same simulates) among without at n k x core us m v w writes reads there stands body holds low gives
+    here : RefinesOver x y (functions_in checked) (core_in checked) copies p
+    here list is same links linked among known at n k z core us m v w writes reads there stands body holds low gives =
+        sources_are_refined x y lawful on_heaps checked list p (kept_trees checked marks) is (subst (λ cs. IsSimulated cs p) same simulates) links linked among known
+        at n k z core us m v w writes reads there stands body holds low gives
 
 proved : (checked : Checked) → CanBeBuilt checked → IsProved (functions_in checked)
 proved checked ready =
@@ -221,8 +217,8 @@ built_said checked list built found ready b kept kernel fs k is line said =
           (subst (λ cs. IsCompiled (functions_in checked) cs) (sym kept.copies)
           (record {
             meant = b.meant;
-            refines = refined checked ready.marks (copies_in checked list) b.meant.program b.meant.simulates;
-            represents = represented checked ready.marks (copies_in checked list) b.meant.program b.meant.simulates;
+            refines = refined no_foreign no_foreign_heap none_is_lawful none_is_lawful_on_heaps checked ready.marks (copies_in checked list) b.meant.program b.meant.simulates;
+            refines_with = λ x y lawful on_heaps. refined x y lawful on_heaps checked ready.marks (copies_in checked list) b.meant.program b.meant.simulates;
             proved = proved checked ready;
           })),
     )

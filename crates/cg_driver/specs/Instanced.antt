@@ -17,7 +17,10 @@ use Rattle.cg_ctree.specs.Trees.{Program}
 use Rattle.cg_inst.specs.Judged.{AreTooMany, HaveLargeTypes, HaveTooManyNodes, IsWithin}
 use Rattle.cg_heap.specs.Calls.{heap_of}
 use Rattle.cg_heap.specs.declared.cell.Scalar.{Scalar}
-use Rattle.cg_heap.specs.Reps.{Holds, Represents}
+use Rattle.cg_heap.specs.declared.foreign.Link.{Link}
+use Rattle.cg_heap.specs.ForeignHeaps.{ForeignHeap, IsLawfulOnHeaps}
+use Rattle.cg_heap.specs.NoForeignHeap.{no_foreign_heap}
+use Rattle.cg_heap.specs.Reps.{Represents}
 use Rattle.cg_heap.specs.Stored.{Stored}
 use Rattle.cg_inst.specs.Lists.{Cores, IsList}
 use Rattle.cg_inst_laws.specs.Laws.{entry_of}
@@ -26,12 +29,13 @@ use Rattle.cg_eval_def.specs.Foreigns.{table_over}
 use Rattle.cg_cgen_def.specs.Names.{function_name}
 use Rattle.cg_lower.specs.Programs.{lowered}
 use Rattle.cg_lower.specs.Promises.{IsSimulated}
-use Rattle.cg_driver_laws.specs.Laws.{AreConcrete, GivesRefined, GivesRepresented, copies_over, program_over}
+use Rattle.cg_driver_laws.specs.Laws.{AreLinked, GivesRefined, ReachKnown, copies_over, linked_over, program_over}
 use Rattle.cg_typing.specs.Holds.{kept_at}
 use Rattle.cg_typing.specs.Instances.{Instance}
 use Rattle.cg_typing.specs.Kept.{AreKept}
 use Rattle.cg_typing.specs.Parts.{given_by, taken_by}
-use Rattle.cg_update_laws.specs.Laws.{AreWithoutCells, world_among}
+use Rattle.cg_update_laws.specs.Laws.{world_among}
+use Rattle.cg_value.specs.Foreign.{Foreign, IsLawful}
 use Rattle.cg_value.specs.NoForeign.{no_foreign}
 use Rattle.cg_value.specs.Values.{Val, function}
 use Rattle.cg_driver.specs.Lines.{limit_line, limit_name}
@@ -77,38 +81,28 @@ pub record IsMeant (copies : List Copy) : Type 0 where
   pub spelled : CSpells (emitted copies) program
   pub simulates : IsSimulated copies program
 
--- From any store in which scalars represent the argument of an instance that stands among bodies without cells, the C of this instance ends
--- with scalars that represent what evaluation of the function gives at cost k, within 32k + 32 steps; the store is as it was. The cores of the
--- source, and the list of its instances, are any that are derived, and that are one.
-abbrev pub IsRepresentedOver : List Function → Cores → List Copy → Program → Type 0
-IsRepresentedOver functions cores copies program =
-    (list : List Instance) → IsList functions cores list → copies ≡ copies_over functions cores list
-    → (among : ℕ → Bool) → AreWithoutCells (program_over functions cores list) among
-    → (at n k : ℕ) (x : Instance) (core : Tree Note) (us : List Scalar) (m : Stored) (v w : Val) → slice_get list at ≡ Some x → among at ≡ true
-    → (entry_of functions cores x).body ≡ Some core
-    → Holds (world_among (program_over functions cores list) among) (heap_of m) (taken_by (entry_of functions cores x).ty) us v
-    → evaluation (table_over no_foreign functions cores) n (function x.fun x.types) v ≡ Some (w, k)
-    → GivesRepresented (world_among (program_over functions cores list) among) program (function_name at) us m (given_by (entry_of functions cores x).ty) w k
-
-abbrev pub IsRepresented : List Function → List Copy → Program → Type 0
-IsRepresented functions copies program = (cores : List (Option (Tree Note))) → AreCores functions cores → IsRepresentedOver functions (bodies_in cores) copies program
-
--- From any heap that represents the argument of an instance that reaches no abstract function, in which no function does either, and that has no
--- cell above its highest address, the C of this instance ends within 32k + 32 steps with what represents the value that evaluation of the function
--- gives at cost k: each cell that could be written is written by the result or freed, once, what was made too, and all others are as they were.
-abbrev pub IsRefinedOver : List Function → Cores → List Copy → Program → Type 0
-IsRefinedOver functions cores copies program =
-    (list : List Instance) → IsList functions cores list → copies ≡ copies_over functions cores list
-    → (among : ℕ → Bool) → AreConcrete (program_over functions cores list) among
-    → (at n k : ℕ) (x : Instance) (core : Tree Note) (us : List Scalar) (m : Stored) (v w : Val) (writes reads : ℕ → ℕ) → slice_get list at ≡ Some x → among at ≡ true
-    → (entry_of functions cores x).body ≡ Some core
-    → Represents (world_among (program_over functions cores list) among) (heap_of m) (taken_by (entry_of functions cores x).ty) us v writes reads
+-- Over a table of abstract functions whose C names are linked: from any heap that represents the argument of an instance that reaches only
+-- abstract functions that the table knows, in which all functions do so, and that has no cell above its highest address, the C of this instance
+-- ends within 32k + 32 steps with what represents the value that evaluation of the function gives at cost k: each cell that could be written is
+-- written by the result or freed, once, what was made too, and all others are as they were. The list is any of the source's instances.
+abbrev pub RefinesOver : Foreign → ForeignHeap → List Function → Cores → List Copy → Program → Type 0
+RefinesOver x y functions cores copies program =
+    (list : List Instance) → IsList functions cores list → copies ≡ copies_over functions cores list → (links : List Link) → AreLinked x functions list links
+    → (among : ℕ → Bool) → ReachKnown (program_over x y functions cores list) among
+    → (at n k : ℕ) (z : Instance) (core : Tree Note) (us : List Scalar) (m : Stored) (v w : Val) (writes reads : ℕ → ℕ) → slice_get list at ≡ Some z → among at ≡ true
+    → (entry_of functions cores z).body ≡ Some core
+    → Represents (world_among (program_over x y functions cores list) among) (heap_of m) (taken_by (entry_of functions cores z).ty) us v writes reads
     → ((q : ℕ) → m.top < q → heap_of m q ≡ None)
-    → evaluation (table_over no_foreign functions cores) n (function x.fun x.types) v ≡ Some (w, k)
-    → GivesRefined (world_among (program_over functions cores list) among) program (function_name at) us m writes reads (given_by (entry_of functions cores x).ty) w k
+    → evaluation (table_over x functions cores) n (function z.fun z.types) v ≡ Some (w, k)
+    → GivesRefined (world_among (program_over x y functions cores list) among) (linked_over program links y) (function_name at) us m writes reads (given_by (entry_of functions cores z).ty) w k
 
-abbrev pub IsRefined : List Function → List Copy → Program → Type 0
-IsRefined functions copies program = (cores : List (Option (Tree Note))) → AreCores functions cores → IsRefinedOver functions (bodies_in cores) copies program
+-- so it is whichever cores are derived of the source
+abbrev pub RefinesWith : Foreign → ForeignHeap → List Function → List Copy → Program → Type 0
+RefinesWith x y functions copies program = (cores : List (Option (Tree Note))) → AreCores functions cores → RefinesOver x y functions (bodies_in cores) copies program
+
+-- and over no table, for what reaches no abstract function
+abbrev pub Refines : List Function → List Copy → Program → Type 0
+Refines = RefinesWith no_foreign no_foreign_heap
 
 -- the certificate of an accepted kernel: that of the derivations with the occurrence marks; and its text
 abbrev pub certificate_of : List Function → Cert
@@ -122,10 +116,10 @@ pub record IsProved (functions : List Function) : Type 0 where
   pub written : CertText (certified_text functions) (certificate_of functions)
   pub spells : SpellsDerivation functions (certificate_of functions)
 
--- What `build` writes means what it should: the C text means what the instances do; it refines the source, on any heap, and does so without
--- touching one where no cells are needed; and the certificate is one of the source.
+-- What `build` writes means what it should: the C text means what the instances do; it refines the source, on any heap, and does so over any
+-- lawful table of abstract functions too; and the certificate is one of the source.
 pub record IsCompiled (functions : List Function) (copies : List Copy) : Type 0 where
   pub meant : IsMeant copies
-  pub refines : IsRefined functions copies meant.program
-  pub represents : IsRepresented functions copies meant.program
+  pub refines : Refines functions copies meant.program
+  pub refines_with : (x : Foreign) (y : ForeignHeap) → IsLawful x → IsLawfulOnHeaps x y → RefinesWith x y functions copies meant.program
   pub proved : IsProved functions

@@ -78,8 +78,8 @@ pub fn cogent<F: Files, O: Sink>(
         (world (F.held files.new) (F.failed_reads files.new) (F.failed_writes files.new))
         × (asked words.now).line found text × (O.taken out.new ≡ append_known (O.taken out.old) text) }
 
-    // At status 0 of `build` the C text means what the instances do, and where no cells are needed what evaluation gives, and the certificate is
-    // one of the source, whatever counts rose: both are those of what its steps found, which wrote them.
+    // At status 0 of `build` the C text refines the source on any heap, over any lawful table of abstract functions, and the certificate is one of
+    // the source, whatever counts rose: both are those of what its steps found, which wrote them.
     ensures compiles { result ≡ Status.Done → (file text certificate : List ℕ)
         → command_of (texts words.now) ≡ Some (build file text certificate) → (found : Found)
         × Runs Judges (reads_source file ∷ build_steps file text certificate) nothing

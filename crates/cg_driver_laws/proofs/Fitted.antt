@@ -20,6 +20,7 @@ use Rattle.cg_eval_laws.proofs.Mentions.{value_made}
 use Rattle.cg_heap.specs.declared.cell.Cell.{Cell}
 use Rattle.cg_heap.specs.declared.cell.Cell.TheVariants.{Words, Answers}
 use Rattle.cg_heap.specs.declared.cell.Scalar.{Scalar}
+use Rattle.cg_heap.specs.ForeignHeaps.{ForeignHeap}
 use Rattle.cg_heap.specs.Reps.{Heap, HeapWorld, Holds, HoldsAll, HoldsAt, StandsFor, first_address, first_number, inner, slots, tail}
 use Rattle.cg_inst.specs.Judged.{core_in, functions_in}
 use Rattle.cg_inst.specs.Lists.{IsList}
@@ -38,7 +39,7 @@ use Rattle.cg_typing.specs.Parts.{given_by, is_there, part_named, taken_by}
 use Rattle.cg_update.specs.Calls.{Program}
 use Rattle.cg_update_laws.specs.Laws.{value_of, world_among}
 use Rattle.cg_value.specs.Fits.{World, fits, fits_abstract, fits_alternative, fits_fields, is_answers, is_array, is_gone}
-use Rattle.cg_value.specs.NoForeign.{no_foreign, none_is_lawful}
+use Rattle.cg_value.specs.Foreign.{Foreign, IsLawful}
 use Rattle.cg_value.specs.Values as values
 use Rattle.cg_value.specs.Values.{Val, Vals, function}
 
@@ -114,14 +115,14 @@ abbrev type_in : Tau → Option (Val × Tau) → Tau
 type_in d None = d
 type_in d (Some r) = r.1
 
-module _ (checked : Checked) (list : List Instance)
+module _ (foreign : Foreign) (heaps : ForeignHeap) (lawful : IsLawful foreign) (checked : Checked) (list : List Instance)
     (kept : AreKept (functions_in checked) (functions_in checked) (map maybe_core (cores_in checked)) (map maybe_tree (trees_in checked)))
     (is : IsList (functions_in checked) (core_in checked) list) where
   abbrev entry : Instance → Entry
   entry = entry_of (functions_in checked) (core_in checked)
 
   abbrev program : Program
-  program = program_over (functions_in checked) (core_in checked) list
+  program = program_over foreign heaps (functions_in checked) (core_in checked) list
 
   pub derived : AreInstances (functions_in checked) list (map entry list)
   derived = instances checked list is kept
@@ -146,7 +147,7 @@ module _ (checked : Checked) (list : List Instance)
 
   -- an instance of the list is a value of its type
   instance_fits : (k : ℕ) (x : Instance) (e : Entry) (a b : Tau) → slice_get list k ≡ Some x → slice_get (map entry list) k ≡ Some e → e.ty ≡ arrow a b
-      → IsTrue (fits (world_over no_foreign (functions_in checked) list) (arrow a b) (function x.fun x.types))
+      → IsTrue (fits (world_over foreign (functions_in checked) list) (arrow a b) (function x.fun x.types))
   unfolding fits
   instance_fits k x e a b here there ty =
       let good = instances_are_good checked list is k x here in
@@ -157,33 +158,37 @@ module _ (checked : Checked) (list : List Instance)
   module _ (among : ℕ → Bool) where
     -- and so is what stands for one on a heap
     among_fits : (k : ℕ) (v : Val) (a b : Tau) → (world_among program among).instance_at k ≡ Some (v, arrow a b)
-        → IsTrue (fits (world_over no_foreign (functions_in checked) list) (arrow a b) v)
+        → IsTrue (fits (world_over foreign (functions_in checked) list) (arrow a b) v)
     among_fits k v a b = go (among k) (slice_get list k) (slice_get (map entry list) k) refl refl
       where
         go : (q : Bool) (o : Option Instance) (u : Option Entry) → slice_get list k ≡ o → slice_get (map entry list) k ≡ u → (if q then value_of o u else None) ≡ Some (v, arrow a b)
-            → IsTrue (fits (world_over no_foreign (functions_in checked) list) (arrow a b) v)
+            → IsTrue (fits (world_over foreign (functions_in checked) list) (arrow a b) v)
         go true (Some x) (Some e) here there is_this =
             let value : function x.fun x.types ≡ v = ap (value_in v) is_this in
             let ty : e.ty ≡ arrow a b = ap (type_in e.ty) is_this in
-            at (λ v. IsTrue (fits (world_over no_foreign (functions_in checked) list) (arrow a b) v)) value (instance_fits k x e a b here there ty)
+            at (λ v. IsTrue (fits (world_over foreign (functions_in checked) list) (arrow a b) v)) value (instance_fits k x e a b here there ty)
         go true (Some x) None here there is_this = absurd (cc)
         go true None u here there is_this = absurd (cc)
         go false o u here there is_this = absurd (cc)
 
+    -- what stands for a value of an abstract type is one that the table's type holds
+    owned : (name ns : List ℕ) (v : Val) → IsTrue ((world_among program among).stands name ns v) → IsTrue ((world_over foreign (functions_in checked) list).holds name v)
+    owned name ns v stands = (and_parts (foreign.owns name && foreign.holds name v) (heaps.stands name ns v) stands).0
+
     -- an argument of an instance fits what it takes
     argument_fits : (h : Heap) (k : ℕ) (x : Instance) (us : List Scalar) (v : Val) → slice_get list k ≡ Some x → Holds (world_among program among) h (taken_by (entry x).ty) us v
-        → IsTrue (fits (world_over no_foreign (functions_in checked) list) (taken_by (entry x).ty) v)
+        → IsTrue (fits (world_over foreign (functions_in checked) list) (taken_by (entry x).ty) v)
     argument_fits h k x us v here holds =
-        held_fits (world_among program among) (world_over no_foreign (functions_in checked) list) among_fits (λ name ns v stands. absurd (cc)) h (taken_by (entry x).ty) us v
+        held_fits (world_among program among) (world_over foreign (functions_in checked) list) among_fits owned h (taken_by (entry x).ty) us v
         (argument_proper k x here) holds
 
     -- evaluation over the copies
     pub over_copies : (h : Heap) (place n k : ℕ) (x : Instance) (us : List Scalar) (v w : Val) → slice_get list place ≡ Some x
-        → Holds (world_among program among) h (taken_by (entry x).ty) us v → evaluation (table_of no_foreign checked) n (function x.fun x.types) v ≡ Some (w, k)
-        → evaluation (copies_table no_foreign (functions_in checked) list (map entry list)) n (function x.fun x.types) v ≡ Some (w, k)
+        → Holds (world_among program among) h (taken_by (entry x).ty) us v → evaluation (table_of foreign checked) n (function x.fun x.types) v ≡ Some (w, k)
+        → evaluation (copies_table foreign (functions_in checked) list (map entry list)) n (function x.fun x.types) v ≡ Some (w, k)
     unfolding evaluation
     over_copies h place n k x us v w here holds gives =
-        ap (cost_of (copies_table no_foreign (functions_in checked) list (map entry list)) n)
-        (evaluation_is_kept no_foreign none_is_lawful checked list is (taken_by (entry x).ty) (given_by (entry x).ty) (function x.fun x.types) v n
+        ap (cost_of (copies_table foreign (functions_in checked) list (map entry list)) n)
+        (evaluation_is_kept foreign lawful checked list is (taken_by (entry x).ty) (given_by (entry x).ty) (function x.fun x.types) v n
         (instance_fits place x (entry x) (taken_by (entry x).ty) (given_by (entry x).ty) here (entered place x here) (arrow_is place x here)) (argument_fits h place x us v here holds)).same
         ∙ gives

@@ -14,5 +14,5 @@ pub mod Sound
 pub mod Reached
 pub mod Entries
 pub mod Fitted
-pub mod Represented
 pub mod Refined
+pub mod Linking

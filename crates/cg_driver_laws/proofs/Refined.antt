@@ -1,4 +1,5 @@
--- From any heap that represents an argument, the C of an instance that reaches no abstract function gives what represents what evaluation gives.
+-- Over any lawful table: from any heap that represents an argument, the C of an instance that reaches only abstract functions that the table knows
+-- gives what represents what evaluation gives.
 use Rattle.std.proofs.Common.{◌≡◌, ℕ, ◌*◌, ◌+◌, ◌<◌, ◌≤◌, ◌⊎◌, ◌↔◌, Bool, true, IsTrue, Option, Some, None, List, [], ◌∷◌, map, slice_get, refl, sym, ◌∙◌, subst as at}
 use Rattle.std.proofs.lemmas.Bool.{and_from, and_parts}
 use Rattle.std.specs.List.{list_all}
@@ -8,7 +9,6 @@ use Rattle.cg_base.specs.declared.kind.Sigil.TheVariants.{R, W}
 use Rattle.cg_base.specs.Types.{Tau, variant}
 use Rattle.cg_cmachine_def.specs.Outcomes.{done}
 use Rattle.cg_cmachine_def.specs.Runs.{crun}
-use Rattle.cg_cmachine_def.specs.WordRuns.{alone}
 use Rattle.cg_core.specs.Terms.{Note, Tree}
 use Rattle.cg_ctree.specs.Trees.{Program as CText}
 use Rattle.cg_driver_laws.proofs.Fitted.{derived, entered, is_proper, over_copies}
@@ -17,13 +17,14 @@ use Rattle.cg_driver_laws.proofs.Proper.{IsProper}
 use Rattle.cg_driver_laws.proofs.ProperNodes.{HasProper}
 use Rattle.cg_driver_laws.proofs.Unboxed.{apart_is}
 use Rattle.cg_driver_laws.proofs.Whole.{program_is}
-use Rattle.cg_driver_laws.specs.Laws.{AreConcrete, GivesRefined, SourcesAreRefined, copies_in, is_concrete_by, program_over}
+use Rattle.cg_driver_laws.specs.Laws.{AreLinked, GivesRefined, ReachKnown, SourcesAreRefined, copies_in, linked_over, program_over, reaches_known_by}
 use Rattle.cg_eval_def.specs.Evaluation.{evaluation}
 use Rattle.cg_eval_def.specs.Foreigns.{table_of}
 use Rattle.cg_heap.specs.Calls.{heap_of}
 use Rattle.cg_heap.specs.declared.cell.Scalar.{Scalar}
+use Rattle.cg_heap.specs.declared.foreign.Link.{Link}
+use Rattle.cg_heap.specs.ForeignHeaps.{ForeignHeap, IsLawfulOnHeaps}
 use Rattle.cg_heap.specs.Frames.{Frame}
-use Rattle.cg_heap.specs.NoForeignHeap.{none_is_lawful_on_heaps}
 use Rattle.cg_heap.specs.Reps.{AreApart, Heap, HeapWorld, Represents, foot}
 use Rattle.cg_heap.specs.Steps.{IsFine, Side, count, side}
 use Rattle.cg_heap.specs.Stored.{Stored}
@@ -50,7 +51,7 @@ use Rattle.cg_update.specs.Calls.{Program}
 use Rattle.cg_update.specs.Turns.{alternatives_in}
 use Rattle.cg_update.specs.Unboxed.{are_apart, is_mention_among}
 use Rattle.cg_update_laws.specs.Laws.{world_among}
-use Rattle.cg_value.specs.NoForeign.{no_foreign, none_is_lawful}
+use Rattle.cg_value.specs.Foreign.{Foreign, IsLawful}
 use Rattle.cg_value.specs.Values.{Val, function}
 
 -- ---- counts of addresses that are the same
@@ -83,46 +84,46 @@ module _ (list : List Instance) (among : ℕ → Bool) where
 
 -- ---- the law
 
-module _ (checked : Checked) (list : List Instance)
+module _ (foreign : Foreign) (heaps : ForeignHeap) (lawful : IsLawful foreign) (on_heaps : IsLawfulOnHeaps foreign heaps) (checked : Checked) (list : List Instance)
     (kept : AreKept (functions_in checked) (functions_in checked) (map maybe_core (cores_in checked)) (map maybe_tree (trees_in checked)))
-    (is : IsList (functions_in checked) (core_in checked) list) (among : ℕ → Bool) (concrete : AreConcrete (program_over (functions_in checked) (core_in checked) list) among)
-    (text : CText) (simulated : IsSimulated (copies_in checked list) text) where
+    (is : IsList (functions_in checked) (core_in checked) list) (among : ℕ → Bool) (known : ReachKnown (program_over foreign heaps (functions_in checked) (core_in checked) list) among)
+    (text : CText) (simulated : IsSimulated (copies_in checked list) text) (links : List Link) (linked : AreLinked foreign (functions_in checked) list links) where
   abbrev entry : Instance → Entry
   entry = entry_of (functions_in checked) (core_in checked)
 
   abbrev program : Program
-  program = program_over (functions_in checked) (core_in checked) list
+  program = program_over foreign heaps (functions_in checked) (core_in checked) list
 
   abbrev world : HeapWorld
   world = world_among program among
 
-  body_refinable : (i : ℕ) (o : Option (Tree Note)) → HaveProperNodes o → IsTrue (is_concrete_by list among (User i) o) → IsTrue (is_refinable_by program among (User i) o)
-  body_refinable i None p c = absurd (cc)
+  body_refinable : (i : ℕ) (o : Option (Tree Note)) → HaveProperNodes o → IsTrue (reaches_known_by program among (User i) o) → IsTrue (is_refinable_by program among (User i) o)
+  body_refinable i None p c = c
   body_refinable i (Some core) p c = nodes_clear list among (nodes_of core) p c
 
-  -- an entry with a concrete body, or of the library, is refinable
+  -- an entry that reaches what is known is refinable
   entry_refinable : (f : Fun) (types : List Tau) → HaveProperNodes (entry (record { fun = f; types = types })).body
-      → IsTrue (is_concrete_by list among f (entry (record { fun = f; types = types })).body) → IsTrue (is_refinable_by program among f (entry (record { fun = f; types = types })).body)
+      → IsTrue (reaches_known_by program among f (entry (record { fun = f; types = types })).body) → IsTrue (is_refinable_by program among f (entry (record { fun = f; types = types })).body)
   entry_refinable (User i) types p c = body_refinable i (entry (record { fun = User i; types = types })).body p c
   entry_refinable (OfLib lib) types p c = refl
 
   refinable : AreRefinable program among
   refinable = record {
-    instances = derived checked list kept is;
+    instances = derived foreign heaps lawful checked list kept is;
     apart = instances_are_apart checked list is;
     many = λ k x there. (instances_are_good checked list is k x there).many;
     good = λ k x there. (instances_are_good checked list is k x there).good;
-    lawful = none_is_lawful;
-    on_heaps = none_is_lawful_on_heaps;
+    lawful = lawful;
+    on_heaps = on_heaps;
     refinable = λ k x e stands there g.
-        let same : Some (entry x) ≡ Some e = sym (entered checked list kept is k x there) ∙ g in let q : entry x ≡ e = cc in
+        let same : Some (entry x) ≡ Some e = sym (entered foreign heaps lawful checked list kept is k x there) ∙ g in let q : entry x ≡ e = cc in
         at (λ (e : Entry). IsTrue (is_refinable_by program among x.fun e.body)) q
-        (entry_refinable x.fun x.types (is_proper checked list kept is k x there).nodes (concrete k x (entry x) stands there (entered checked list kept is k x there)));
+        (entry_refinable x.fun x.types (is_proper foreign heaps lawful checked list kept is k x there).nodes (known k x (entry x) stands there (entered foreign heaps lawful checked list kept is k x there)));
   }
 
   module _ (place n k : ℕ) (x : Instance) (core : Tree Note) (us : List Scalar) (m : Stored) (v w : Val) (writes reads : ℕ → ℕ) (here : slice_get list place ≡ Some x)
       (stands : among place ≡ true) (body : (entry x).body ≡ Some core) (represents : Represents world (heap_of m) (taken_by (entry x).ty) us v writes reads)
-      (low : (q : ℕ) → m.top < q → heap_of m q ≡ None) (gives : evaluation (table_of no_foreign checked) n (function x.fun x.types) v ≡ Some (w, k)) where
+      (low : (q : ℕ) → m.top < q → heap_of m q ≡ None) (gives : evaluation (table_of foreign checked) n (function x.fun x.types) v ≡ Some (w, k)) where
     -- what the argument reaches
     abbrev before : Side
     before = side (heap_of m) m.top (foot (heap_of m) W (taken_by (entry x).ty) us) (foot (heap_of m) R (taken_by (entry x).ty) us)
@@ -135,8 +136,8 @@ module _ (checked : Checked) (list : List Instance)
     -- the update semantics
     updates : IsUpdatedTo program among n place us m (taken_by (entry x).ty) (given_by (entry x).ty) w k
     updates =
-        instances_are_refined program among refinable n place k x (entry x) us m v w here (entered checked list kept is place x here) stands represents.holds fine
-        (over_copies checked list kept is among (heap_of m) place n k x us v w here represents.holds gives)
+        instances_are_refined program among refinable n place k x (entry x) us m v w here (entered foreign heaps lawful checked list kept is place x here) stands represents.holds fine
+        (over_copies foreign heaps lawful checked list kept is among (heap_of m) place n k x us v w here represents.holds gives)
 
     -- and C
     module _ (u : IsUpdatedTo program among n place us m (taken_by (entry x).ty) (given_by (entry x).ty) w k) where
@@ -149,14 +150,14 @@ module _ (checked : Checked) (list : List Instance)
           at (λ c. (1 ≤ count q u.result.state.freed) ↔ (((1 ≤ c) ⊎ (1 ≤ count q u.result.state.made)) × (after.writes q ≡ 0))) (sym (represents.are_writes q))
           (freed_is_exact before after u.result.state.made u.result.state.freed fine u.step q).1
 
-      refined : GivesRefined world text (function_name place) us m writes reads (given_by (entry x).ty) w k
+      refined : GivesRefined world (linked_over text links heaps) (function_name place) us m writes reads (given_by (entry x).ty) w k
       refined =
-          let ends = simulated program [] (program_is checked list is kept) n place x (entry x) core us m u.result here (entered checked list kept is place x here) body u.is in
+          let ends = simulated program links (program_is checked list is kept foreign heaps links linked) n place x (entry x) core us m u.result here (entered foreign heaps lawful checked list kept is place x here) body u.is in
           record {
             given = u.result.value;
             state = as_run u.result.state;
             left = ends.0;
-            ends = at (λ c. crun (alone text) (32 * c + 32) (function_name place) us m ≡ done u.result.value (as_run u.result.state) ends.0) u.same_cost ends.1;
+            ends = at (λ c. crun (linked_over text links heaps) (32 * c + 32) (function_name place) us m ≡ done u.result.value (as_run u.result.state) ends.0) u.same_cost ends.1;
             writes' = after.writes;
             reads' = after.reads;
             represents = record {
@@ -174,6 +175,6 @@ module _ (checked : Checked) (list : List Instance)
           }
 
 pub sources_are_refined : SourcesAreRefined
-sources_are_refined checked list program kept is simulated among concrete at n k x core us m v w writes reads here stands body represents low gives =
-    refined checked list kept is among concrete program simulated at n k x core us m v w writes reads here stands body represents low gives
-    (updates checked list kept is among concrete program simulated at n k x core us m v w writes reads here stands body represents low gives)
+sources_are_refined foreign heaps lawful on_heaps checked list program kept is simulated links linked among known at n k z core us m v w writes reads here stands body represents low gives =
+    refined foreign heaps lawful on_heaps checked list kept is among known program simulated links linked at n k z core us m v w writes reads here stands body represents low gives
+    (updates foreign heaps lawful on_heaps checked list kept is among known program simulated links linked at n k z core us m v w writes reads here stands body represents low gives)

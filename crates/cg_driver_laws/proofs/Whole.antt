@@ -12,6 +12,9 @@ use Rattle.cg_core.specs.Terms.{Note, Tree}
 use Rattle.cg_ctree.specs.Trees.{Program as CText}
 use Rattle.cg_driver_entry.specs.Types.{needs_cells}
 use Rattle.cg_heap.specs.declared.cell.Scalar.TheVariants.{Word}
+use Rattle.cg_heap.specs.declared.foreign.Link.{Link}
+use Rattle.cg_heap.specs.ForeignHeaps.{ForeignHeap}
+use Rattle.cg_heap.specs.NoForeignHeap.{no_foreign_heap}
 use Rattle.cg_inst.specs.Judged.{core_in, functions_in}
 use Rattle.cg_inst.specs.Lists.{IsList}
 use Rattle.cg_inst_laws.proofs.Bodies.{AreTyped, source_typed, tree_in}
@@ -37,16 +40,17 @@ use Rattle.cg_typing.specs.Subst.{subst_core}
 use Rattle.cg_update_laws.proofs.Whole.{words_are_updated}
 use Rattle.cg_update_laws.specs.Laws.{GivesWord}
 use Rattle.cg_value.specs.Fits.{fits}
+use Rattle.cg_value.specs.Foreign.{Foreign}
 use Rattle.cg_value.specs.NoForeign.{no_foreign, none_is_lawful}
 use Rattle.cg_value.specs.Values.{Val, function, number}
 use Rattle.cg_driver_cells.specs.WithoutCells.{IsWithoutCells}
-use Rattle.cg_driver_laws.specs.Laws.{FunctionsStand, RunsAlike, SourcesArePrograms, SourcesPrint, UnboxedRun, copies_in, program_over}
+use Rattle.cg_driver_laws.specs.Laws.{AreLinked, FunctionsStand, RunsAlike, SourcesArePrograms, SourcesPrint, UnboxedRun, copies_in, program_alone, program_over}
 use Rattle.cg_cmachine_def.specs.WordRuns.{no_cells}
 use Rattle.cg_driver_laws.proofs.Depths.{are_shallow}
 use Rattle.cg_driver_laws.proofs.Fronts.{user_in}
 use Rattle.cg_driver_laws.proofs.Instances.{IsFine, IsProperEntry, entry_proper, list_fine}
 use Rattle.cg_driver_laws.proofs.Printed.{printable_once}
-use Rattle.cg_driver_laws.proofs.Programs.{is_program}
+use Rattle.cg_driver_laws.proofs.Programs.{is_program, none_linked}
 use Rattle.cg_driver_laws.proofs.Stable.{alike_stable}
 use Rattle.cg_driver_laws.proofs.Structs.{have_fields}
 use Rattle.cg_driver_laws.proofs.Without.{among_free, are_unboxed, body_there, stands_free}
@@ -68,8 +72,14 @@ module _ (checked : Checked) (list : List Instance) (is : IsList (functions_in c
     pub instances : AreInstances (functions_in checked) list (map (entry_of (functions_in checked) (core_in checked)) list)
     instances = list_derived (functions_in checked) (core_in checked) (tree_in checked) typed list is
 
-    pub program_is : IsProgramOf (program_over (functions_in checked) (core_in checked) list) [] (copies_in checked list)
-    program_is = is_program (functions_in checked) (core_in checked) list instances (instances_are_good checked list is)
+    -- over any table
+    pub program_is : (x : Foreign) (y : ForeignHeap) (links : List Link) → AreLinked x (functions_in checked) list links
+        → IsProgramOf (program_over x y (functions_in checked) (core_in checked) list) links (copies_in checked list)
+    program_is x y links linked = is_program (functions_in checked) (core_in checked) x y (tree_in checked) typed list links linked instances (instances_are_good checked list is)
+
+    -- and over none
+    alone_is : IsProgramOf (program_alone (functions_in checked) (core_in checked) list) [] (copies_in checked list)
+    alone_is = program_is no_foreign no_foreign_heap [] (none_linked (functions_in checked) list)
 
     -- the copies have proper types
     copies_proper : Each (λ (c : Copy). IsProperEntry c.1) (copies_in checked list)
@@ -120,9 +130,9 @@ module _ (checked : Checked) (list : List Instance) (is : IsList (functions_in c
           ∙ gives
 
       -- the update semantics
-      updates : GivesWord (program_over (functions_in checked) (core_in checked) list) n at x no_cells v k
+      updates : GivesWord (program_alone (functions_in checked) (core_in checked) list) n at x no_cells v k
       updates =
-          words_are_updated (program_over (functions_in checked) (core_in checked) list) among_these
+          words_are_updated (program_alone (functions_in checked) (core_in checked) list) among_these
           (are_unboxed (functions_in checked) (core_in checked) (tree_in checked) typed list is among without) n at k x one (entry_of (functions_in checked) (core_in checked) one) body.0 no_cells v here entered
           body.1 free ty small moved
 
@@ -130,7 +140,7 @@ module _ (checked : Checked) (list : List Instance) (is : IsList (functions_in c
       runs : (program : CText) → IsSimulated (copies_in checked list) program → RunsAlike program (function_name at) x v k
       runs program simulated =
           let u = updates in
-          let ends = simulated (program_over (functions_in checked) (core_in checked) list) [] program_is n at one (entry_of (functions_in checked) (core_in checked) one) body.0 (Word x ∷ []) no_cells _ here entered body.1 u.is in
+          let ends = simulated (program_alone (functions_in checked) (core_in checked) list) [] alone_is n at one (entry_of (functions_in checked) (core_in checked) one) body.0 (Word x ∷ []) no_cells _ here entered body.1 u.is in
           (u.given, u.value, u.small, ends.0, ends.1)
 
 pub functions_stand : FunctionsStand
@@ -140,11 +150,11 @@ pub sources_print : SourcesPrint
 sources_print checked list program is shallow printed =
     ∥∥₁_elim checked.kept (printable_once program) (λ kept.
     let good = list_good (functions_in checked) (core_in checked) (tree_in checked) (typed checked list is kept) list is in
-    printed (program_over (functions_in checked) (core_in checked) list) [] (program_is checked list is kept) (have_fields (copies_in checked list) (copies_proper checked list is kept))
+    printed (program_alone (functions_in checked) (core_in checked) list) [] (alone_is checked list is kept) (have_fields (copies_in checked list) (copies_proper checked list is kept))
     (are_shallow (functions_in checked) (core_in checked) (tree_in checked) (typed checked list is kept) list good shallow))
 
 pub sources_are_programs : SourcesArePrograms
-sources_are_programs checked list is = ∥∥₁_map checked.kept (λ kept. program_is checked list is kept)
+sources_are_programs x y checked list links is linked = ∥∥₁_map checked.kept (λ kept. program_is checked list is kept x y links linked)
 
 pub unboxed_run : UnboxedRun
 unboxed_run checked list program is simulated among without at i n k x v here stands ty small gives =

@@ -35,7 +35,7 @@ use Rattle.cg_update_laws.specs.Laws.{AreUnboxed}
 use Rattle.cg_update.specs.Unboxed.{is_mention_among, is_place_among, is_unboxed, is_unboxed_by, is_unboxed_entry, is_unboxed_node}
 use Rattle.cg_update.specs.Updates.{place_of}
 use Rattle.cg_driver_cells.specs.WithoutCells.{HasBodyWithoutCells, IsAmong, IsNodeWithoutCells, IsWithoutCells}
-use Rattle.cg_driver_laws.specs.Laws.{copies_over, program_over}
+use Rattle.cg_driver_laws.specs.Laws.{copies_over, program_alone}
 use Rattle.cg_driver_laws.proofs.Instances.{HaveProperNodes, IsFine, entry_proper, list_fine}
 use Rattle.cg_driver_laws.proofs.ProperNodes.{HasProper}
 use Rattle.cg_driver_laws.proofs.Unboxed.{closed_unboxed, library_unboxed, taken_unboxed}
@@ -193,7 +193,7 @@ module _ (functions : List Function) (cores : Cores) (trees : ℕ → Option Der
       entry_unboxed x.fun x.types k h (each_at IsFineHere list k x (list_fine functions cores trees typed list is) h) both.0
       (not_true (needs_cells (entry_of functions cores x).ty) (sym (ap is_free h) ∙ both.1)) (derived.each k x (entry_of functions cores x) h (entered k x h))
 
-  pub are_unboxed : AreUnboxed (program_over functions cores list) among_free
+  pub are_unboxed : AreUnboxed (program_alone functions cores list) among_free
   are_unboxed = record {
     instances = derived;
     apart = apart;

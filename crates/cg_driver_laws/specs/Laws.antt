@@ -1,6 +1,6 @@
 -- The C of the instances of a source (docs/LANGUAGE.md, "The C of instances"): it can be printed, and without cells it runs to what represents what
 -- evaluation gives, from any store. And what is known of an entry (docs/LANGUAGE.md, "Entries").
-use Rattle.std.specs.Prelude.{◌≡◌, ◌⊎◌, ◌↔◌, ℕ, ◌+◌, ◌*◌, ◌^◌, ◌<◌, ◌≤◌, Bool, true, false, IsTrue, List, [], map, slice_get, Option, Some, None}
+use Rattle.std.specs.Prelude.{◌≡◌, ◌⊎◌, ◌↔◌, ℕ, ◌+◌, ◌*◌, ◌^◌, ◌<◌, ◌≤◌, Bool, true, false, IsTrue, List, [], length, map, slice_get, Option, Some, None}
 use Rattle.std.specs.List.{list_all}
 use Rattle.cg_base.specs.declared.fun.Fun.{Fun}
 use Rattle.cg_base.specs.declared.fun.Fun.TheVariants.{User, Lib as OfLib}
@@ -16,9 +16,11 @@ use Rattle.cg_resolve_def.specs.Desugar.{deepest_body}
 use Rattle.cg_driver_entry.specs.Entries.{ReachesAbstract}
 use Rattle.cg_heap.specs.Calls.{heap_of}
 use Rattle.cg_heap.specs.declared.cell.Scalar.{Scalar}
+use Rattle.cg_heap.specs.declared.foreign.Link.{Link}
+use Rattle.cg_heap.specs.ForeignHeaps.{ForeignHeap, IsLawfulOnHeaps}
 use Rattle.cg_heap.specs.NoForeignHeap.{no_foreign_heap}
 use Rattle.cg_heap.specs.Frames.{Frame}
-use Rattle.cg_heap.specs.Reps.{HeapWorld, Holds, Represents}
+use Rattle.cg_heap.specs.Reps.{HeapWorld, Represents}
 use Rattle.cg_heap.specs.Steps.{count}
 use Rattle.cg_heap.specs.Stored.{Stored}
 use Rattle.cg_inst.specs.Judged.{core_in, functions_in}
@@ -28,6 +30,7 @@ use Rattle.cg_cgen_def.specs.Names.{function_name}
 use Rattle.cg_lower.specs.Promises.{CanBePrinted, IsProgramOf, IsSimulated}
 use Rattle.cg_eval_def.specs.Evaluation.{evaluation, outcome, stuck}
 use Rattle.cg_eval_def.specs.Foreigns.{is_known, table_of}
+use Rattle.cg_refine_laws.specs.Laws.{knows_at}
 use Rattle.cg_typing.specs.declared.checked.Checked.{Checked}
 use Rattle.cg_typing.specs.Holds.{cores_in, trees_in}
 use Rattle.cg_typing.specs.Instances.{Entry, Instance, IsIn, nodes_of}
@@ -35,15 +38,15 @@ use Rattle.cg_typing.specs.Kept.{AreKept, maybe_core, maybe_tree}
 use Rattle.cg_typing.specs.Parts.{given_by, taken_by}
 use Rattle.cg_update.specs.Calls.{Program}
 use Rattle.cg_update.specs.Unboxed.{is_mention_among}
-use Rattle.cg_update_laws.specs.Laws.{AreWithoutCells, world_among}
+use Rattle.cg_update_laws.specs.Laws.{world_among}
 use Rattle.cg_value.specs.Fits.{fits}
 use Rattle.cg_value.specs.Foreign.{Foreign, IsLawful, first_order}
 use Rattle.cg_value.specs.NoForeign.{no_foreign}
 use Rattle.cg_value.specs.Values.{Val, function, number}
 use Rattle.cg_driver_cells.specs.WithoutCells.{IsWithoutCells}
 use Rattle.cg_cmachine_def.specs.Outcomes.{State, done}
-use Rattle.cg_cmachine_def.specs.Runs.{crun}
-use Rattle.cg_cmachine_def.specs.WordRuns.{RunsTo, alone}
+use Rattle.cg_cmachine_def.specs.Runs.{Linked, crun, linked_to}
+use Rattle.cg_cmachine_def.specs.WordRuns.{RunsTo}
 
 -- the copies of a list of instances
 abbrev pub copies_over : List Function → Cores → List Instance → List Copy
@@ -52,32 +55,42 @@ copies_over functions cores list = map (λ x. (x, entry_of functions cores x)) l
 abbrev pub copies_in : Checked → List Instance → List Copy
 copies_in checked list = copies_over (functions_in checked) (core_in checked) list
 
--- the program of the update semantics that the instances of a source make, over no table
-abbrev pub program_over : List Function → Cores → List Instance → Program
-program_over functions cores list = record { functions = functions; list = list; entries = map (entry_of functions cores) list; foreign = no_foreign; on_heaps = no_foreign_heap }
+-- the program of the update semantics that the instances of a source make, over a table of abstract functions
+abbrev pub program_over : Foreign → ForeignHeap → List Function → Cores → List Instance → Program
+program_over x y functions cores list = record { functions = functions; list = list; entries = map (entry_of functions cores) list; foreign = x; on_heaps = y }
+
+-- and over none
+abbrev pub program_alone : List Function → Cores → List Instance → Program
+program_alone = program_over no_foreign no_foreign_heap
+
+-- a C program with what a table answers to calls of the functions that these links name
+abbrev pub linked_over : CText → List Link → ForeignHeap → Linked
+linked_over program links y = record { program = program; links = links; asked = y.asked }
+
+-- the C name of each abstract function of a list that a table knows is linked to it
+abbrev pub AreLinked : Foreign → List Function → List Instance → List Link → Type 0
+AreLinked x functions list links =
+    (k i : ℕ) (types : List Tau) (f : Function) → slice_get list k ≡ Some (record { fun = User i; types = types }) → slice_get functions i ≡ Some f → f.body ≡ None → is_known x f ≡ true
+    → linked_to (function_name k) links ≡ Some f.at.name
+
+-- There are such links of any list that isn't longer than 2^64, whatever a table knows.
+abbrev pub LinksExist : Type 0
+LinksExist = (x : Foreign) (functions : List Function) (list : List Instance) → length list ≤ 2 ^ 64 → (links : List Link) × AreLinked x functions list links
 
 -- What a C function gives on a word, where evaluation gives this value at this cost: the same word within 32k + 32 steps, and no cell is
 -- made or freed.
 abbrev pub RunsAlike : CText → List ℕ → ℕ → Val → ℕ → Type 0
 RunsAlike program name arg value cost = (r : ℕ) × (value ≡ number r) × (r < 2 ^ 32) × (left : ℕ) × RunsTo program name arg (32 * cost + 32) r left
 
--- What a C function gives on scalars in a store, where evaluation gives this value of a type at this cost: within 32k + 32 steps scalars that
--- represent it. The store is as it was, and no cell is made or freed.
-pub record GivesRepresented (world : HeapWorld) (program : CText) (name : List ℕ) (us : List Scalar) (m : Stored) (t : Tau) (value : Val) (cost : ℕ) : Type 0 where
-  pub given : List Scalar
-  pub left : ℕ
-  pub ends : crun (alone program) (32 * cost + 32) name us m ≡ done given (record { store = m; made = []; freed = [] }) left
-  pub represents : Holds world (heap_of m) t given value
-
 -- What a C function gives on scalars that represent a value, from a heap in which these addresses may be written and read, where evaluation gives
 -- this value at this cost: within 32k + 32 steps scalars that represent it, in a heap that is as it was but for what was written or made; what is
 -- read was read before, and what was freed has no repeats and is exactly what was written or made and isn't written any more (the paper's
 -- refinement, section 3).
-pub record GivesRefined (world : HeapWorld) (program : CText) (name : List ℕ) (us : List Scalar) (m : Stored) (writes reads : ℕ → ℕ) (t : Tau) (value : Val) (cost : ℕ) : Type 0 where
+pub record GivesRefined (world : HeapWorld) (linked : Linked) (name : List ℕ) (us : List Scalar) (m : Stored) (writes reads : ℕ → ℕ) (t : Tau) (value : Val) (cost : ℕ) : Type 0 where
   pub given : List Scalar
   pub state : State
   pub left : ℕ
-  pub ends : crun (alone program) (32 * cost + 32) name us m ≡ done given state left
+  pub ends : crun linked (32 * cost + 32) name us m ≡ done given state left
   pub writes' : ℕ → ℕ
   pub reads' : ℕ → ℕ
   pub represents : Represents world (heap_of state.store) t given value writes' reads'
@@ -86,32 +99,35 @@ pub record GivesRefined (world : HeapWorld) (program : CText) (name : List ℕ) 
   pub freed_once : (q : ℕ) → count q state.freed ≤ 1
   pub freed_exactly : (q : ℕ) → (1 ≤ count q state.freed) ↔ (((1 ≤ writes q) ⊎ (1 ≤ count q state.made)) × (writes' q ≡ 0))
 
--- Among some places of a list of instances: a body mentions only instances that stand there, and no function of the source there is abstract.
-module _ (list : List Instance) (among : ℕ → Bool) where
-  abbrev pub is_concrete_by : Fun → Option (Tree Note) → Bool
-  is_concrete_by (User i) (Some core) = list_all (is_mention_among list among) (nodes_of core)
-  is_concrete_by (User i) None = false
-  is_concrete_by (OfLib lib) body = true
+-- Among some places of the list of a program: a body mentions only instances that stand there, and an abstract function is one that the table
+-- knows.
+module _ (p : Program) (among : ℕ → Bool) where
+  abbrev pub reaches_known_by : Fun → Option (Tree Note) → Bool
+  reaches_known_by (User i) (Some core) = list_all (is_mention_among p.list among) (nodes_of core)
+  reaches_known_by (User i) None = knows_at p (slice_get p.functions i)
+  reaches_known_by (OfLib lib) body = true
 
--- so it is of all at these places: none of them reaches an abstract function
-abbrev pub AreConcrete : Program → (ℕ → Bool) → Type 0
-AreConcrete p among = (k : ℕ) (x : Instance) (e : Entry) → among k ≡ true → slice_get p.list k ≡ Some x → slice_get p.entries k ≡ Some e → IsTrue (is_concrete_by p.list among x.fun e.body)
+  -- so it is of all at these places: each of them reaches only abstract functions that the table knows
+  abbrev pub ReachKnown : Type 0
+  ReachKnown = (k : ℕ) (z : Instance) (e : Entry) → among k ≡ true → slice_get p.list k ≡ Some z → slice_get p.entries k ≡ Some e → IsTrue (reaches_known_by z.fun e.body)
 
--- Where evaluation of an instance that reaches no abstract function gives a value on a value in which no function does, the C function of this
--- instance gives what represents it, from any heap that represents the argument and has no cell above its highest address.
+-- Over any lawful table: where evaluation of an instance that reaches only abstract functions that the table knows gives a value, on a value in
+-- which all functions do so, the C function of this instance gives what represents it, from any heap that represents the argument and has no cell
+-- above its highest address.
 abbrev pub SourcesAreRefined : Type 0
 SourcesAreRefined =
-    (checked : Checked) (list : List Instance) (program : CText)
+    (x : Foreign) (y : ForeignHeap) → IsLawful x → IsLawfulOnHeaps x y → (checked : Checked) (list : List Instance) (program : CText)
     → AreKept (functions_in checked) (functions_in checked) (map maybe_core (cores_in checked)) (map maybe_tree (trees_in checked))
     → IsList (functions_in checked) (core_in checked) list → IsSimulated (copies_in checked list) program
-    → (among : ℕ → Bool) → AreConcrete (program_over (functions_in checked) (core_in checked) list) among
-    → (at n k : ℕ) (x : Instance) (core : Tree Note) (us : List Scalar) (m : Stored) (v w : Val) (writes reads : ℕ → ℕ) → slice_get list at ≡ Some x → among at ≡ true
-    → (entry_of (functions_in checked) (core_in checked) x).body ≡ Some core
-    → Represents (world_among (program_over (functions_in checked) (core_in checked) list) among) (heap_of m) (taken_by (entry_of (functions_in checked) (core_in checked) x).ty) us v writes reads
+    → (links : List Link) → AreLinked x (functions_in checked) list links
+    → (among : ℕ → Bool) → ReachKnown (program_over x y (functions_in checked) (core_in checked) list) among
+    → (at n k : ℕ) (z : Instance) (core : Tree Note) (us : List Scalar) (m : Stored) (v w : Val) (writes reads : ℕ → ℕ) → slice_get list at ≡ Some z → among at ≡ true
+    → (entry_of (functions_in checked) (core_in checked) z).body ≡ Some core
+    → Represents (world_among (program_over x y (functions_in checked) (core_in checked) list) among) (heap_of m) (taken_by (entry_of (functions_in checked) (core_in checked) z).ty) us v writes reads
     → ((q : ℕ) → m.top < q → heap_of m q ≡ None)
-    → evaluation (table_of no_foreign checked) n (function x.fun x.types) v ≡ Some (w, k)
-    → GivesRefined (world_among (program_over (functions_in checked) (core_in checked) list) among) program (function_name at) us m writes reads
-    (given_by (entry_of (functions_in checked) (core_in checked) x).ty) w k
+    → evaluation (table_of x checked) n (function z.fun z.types) v ≡ Some (w, k)
+    → GivesRefined (world_among (program_over x y (functions_in checked) (core_in checked) list) among) (linked_over program links y) (function_name at) us m writes reads
+    (given_by (entry_of (functions_in checked) (core_in checked) z).ty) w k
 
 -- A function without type variables has an instance in the list of a source.
 abbrev pub FunctionsStand : Type 0
@@ -125,11 +141,12 @@ SourcesPrint =
     (checked : Checked) (list : List Instance) (program : CText) → IsList (functions_in checked) (core_in checked) list → deepest_body (functions_in checked) ≤ 2048
     → CanBePrinted (copies_in checked list) program → IsPrintable program
 
--- The instances of a source make such a program, without links.
+-- The instances of a source make such a program over any table, where the abstract functions that it knows are linked.
 abbrev pub SourcesArePrograms : Type 0
 SourcesArePrograms =
-    (checked : Checked) (list : List Instance) → IsList (functions_in checked) (core_in checked) list
-    → ∥ IsProgramOf (program_over (functions_in checked) (core_in checked) list) [] (copies_in checked list) ∥₁
+    (x : Foreign) (y : ForeignHeap) (checked : Checked) (list : List Instance) (links : List Link) → IsList (functions_in checked) (core_in checked) list
+    → AreLinked x (functions_in checked) list links
+    → ∥ IsProgramOf (program_over x y (functions_in checked) (core_in checked) list) links (copies_in checked list) ∥₁
 
 -- Where evaluation of a function from words to words gives a value on a word, and its instance stands among bodies without cells, the C function
 -- of this instance gives the same.
@@ -141,21 +158,6 @@ UnboxedRun =
     → (entry_of (functions_in checked) (core_in checked) (record { fun = User i; types = [] })).ty ≡ arrow (word U32) (word U32) → x < 2 ^ 32
     → evaluation (table_of no_foreign checked) n (function (User i) []) (number x) ≡ Some (v, k)
     → RunsAlike program (function_name at) x v k
-
--- Where evaluation of an instance that stands among bodies without cells gives a value on a value, the C function of this instance gives scalars
--- that represent it, from any store in which scalars represent the argument.
-abbrev pub UnboxedIsRepresented : Type 0
-UnboxedIsRepresented =
-    (checked : Checked) (list : List Instance) (program : CText)
-    → AreKept (functions_in checked) (functions_in checked) (map maybe_core (cores_in checked)) (map maybe_tree (trees_in checked))
-    → IsList (functions_in checked) (core_in checked) list → IsSimulated (copies_in checked list) program
-    → (among : ℕ → Bool) → AreWithoutCells (program_over (functions_in checked) (core_in checked) list) among
-    → (at n k : ℕ) (x : Instance) (core : Tree Note) (us : List Scalar) (m : Stored) (v w : Val) → slice_get list at ≡ Some x → among at ≡ true
-    → (entry_of (functions_in checked) (core_in checked) x).body ≡ Some core
-    → Holds (world_among (program_over (functions_in checked) (core_in checked) list) among) (heap_of m) (taken_by (entry_of (functions_in checked) (core_in checked) x).ty) us v
-    → evaluation (table_of no_foreign checked) n (function x.fun x.types) v ≡ Some (w, k)
-    → GivesRepresented (world_among (program_over (functions_in checked) (core_in checked) list) among) program (function_name at) us m
-    (given_by (entry_of (functions_in checked) (core_in checked) x).ty) w k
 
 -- an instance whose body needs cells is the one at a place, or is reached from it by mentions in bodies
 abbrev pub CopiesReachCells : List Copy → ℕ → Type 0

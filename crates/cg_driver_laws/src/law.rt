@@ -1,5 +1,5 @@
 // The laws of the C of sources, and of their entries.
-ghost use Rattle.cg_driver_laws.specs.Laws.{EntriesAreSound, EntriesRun, FunctionsStand, SourcesArePrograms, SourcesAreRefined, SourcesPrint, UnboxedIsRepresented, UnboxedRun};
+ghost use Rattle.cg_driver_laws.specs.Laws.{EntriesAreSound, EntriesRun, FunctionsStand, LinksExist, SourcesArePrograms, SourcesAreRefined, SourcesPrint, UnboxedRun};
 
 /// A function without type variables has an instance in the list of a source.
 pub fn functions_stand()
@@ -11,9 +11,14 @@ pub fn sources_print()
     ensures { SourcesPrint }
 {}
 
-/// The instances of a source make a program of the update semantics over no table, whose links may be none.
+/// The instances of a source make a program of the update semantics over any table, where the abstract functions that it knows are linked.
 pub fn sources_are_programs()
     ensures { SourcesArePrograms }
+{}
+
+/// The abstract functions of any list of instances can be linked, whatever a table knows: no two instances have one C name.
+pub fn links_exist()
+    ensures { LinksExist }
 {}
 
 /// Where evaluation of a function from words to words gives a value on a word at cost k, and its instance stands among bodies without cells,
@@ -34,16 +39,10 @@ pub fn entries_run()
     ensures { EntriesRun }
 {}
 
-/// Where evaluation of an instance that stands among bodies without cells gives a value at cost k, the C function of this instance, from any
-/// store in which scalars represent the argument, gives scalars that represent that value within 32k + 32 steps; the store is as it was,
-/// and no cell is made or freed.
-pub fn unboxed_is_represented()
-    ensures { UnboxedIsRepresented }
-{}
-
-/// Where evaluation of an instance that reaches no abstract function gives a value at cost k, on a value in which no function does, the C function
-/// of this instance, from any heap that represents the argument, ends within 32k + 32 steps with scalars that represent that value: each cell
-/// that could be written is written by what it gives or freed, once, none is leaked, and all others are as they were.
+/// Over any lawful table: where evaluation of an instance that reaches only abstract functions that the table knows gives a value at cost k, on a
+/// value in which all functions do so, the C function of this instance, with those abstract functions linked by its names, from any heap that
+/// represents the argument, ends within 32k + 32 steps with scalars that represent that value: each cell that could be written is written by
+/// what it gives or freed, once, none is leaked, and all others are as they were.
 pub fn sources_are_refined()
     ensures { SourcesAreRefined }
 {}
