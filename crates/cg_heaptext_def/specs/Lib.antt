@@ -1,0 +1,5 @@
+pub mod Grammar
+pub mod HeapText
+pub mod Reading
+pub mod Tokens
+pub mod Trees

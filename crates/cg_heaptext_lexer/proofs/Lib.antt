@@ -1,0 +1,3 @@
+pub mod Cuts
+pub mod Munch
+pub mod Walking
