@@ -1,6 +1,6 @@
 -- What the lexer cuts from the bytes that are left: white space, and what stands behind it.
 use Rattle.std.proofs.Common.{◌≡◌, ℕ, Bool, true, false, List, [], ◌∷◌, ◌++◌, length, take, drop, refl, sym, ap, ◌∙◌, subst, arith}
-use Rattle.std.specs.List.{prefix_len}
+use Rattle.std.specs.List.{prefix_len, AllByRecursion}
 use Rattle.std.proofs.lemmas.List.{append-nil, take-append-drop}
 use Rattle.std.proofs.Math.Seq.{take-append_seam, drop-append_seam}
 use Rattle.std.proofs.lemmas.Bool.Decides.{nat_tests}
@@ -29,15 +29,15 @@ white_no_large : (b : ℕ) → large b ≡ true → white b ≡ false
 white_no_large b h = grind (arith, nat_tests)
 
 -- a text that begins with no white space, whatever follows it
-IsDark : List ℕ → Type 0
+abbrev IsDark : List ℕ → Type 0
 IsDark x = (rest : List ℕ) → Stops white (x ++ rest)
 
 dark_sign : AllByRecursion IsDark signs
-dark_sign = (λ r. refl, λ r. refl, λ r. refl, λ r. refl, λ r. refl, λ r. refl, λ r. refl, λ r. refl, λ r. refl, λ r. refl, λ r. refl, λ r. refl, tt)
+dark_sign = (λ r. refl, (λ r. refl, (λ r. refl, (λ r. refl, (λ r. refl, (λ r. refl, (λ r. refl, (λ r. refl, (λ r. refl, (λ r. refl, (λ r. refl, (λ r. refl, tt))))))))))))
 
 dark_from : (p : ℕ → Bool) → ((b : ℕ) → p b ≡ true → white b ≡ false) → (x rest : List ℕ) → Starts p x → Stops white (x ++ rest)
-dark_from p no [] rest h = absurd h
-dark_from p no (b ∷ x) rest h = no b h
+dark_from p never [] rest h = absurd h
+dark_from p never (b ∷ x) rest h = never b h
 
 dark : (t : Token) (rest : List ℕ) → IsToken t → Stops white (token_text t ++ rest)
 dark (number x) rest h = dark_from digit white_no_digit x rest h.0
@@ -46,22 +46,30 @@ dark (upper x) rest h = dark_from large white_no_large x rest h.0
 dark (sign x) rest h = among IsDark signs x dark_sign h rest
 
 -- a token is its kind and its text
-same_token : (t u : Token) → kind_of t ≡ kind_of u → token_text t ≡ token_text u → t ≡ u
+abbrev code : TokenKind → ℕ
+code Number = 0
+code Lower = 1
+code Upper = 2
+code Sign = 3
+code Unknown = 4
+code End = 5
+
+same_token : (t u : Token) → code (kind_of t) ≡ code (kind_of u) → token_text t ≡ token_text u → t ≡ u
 same_token (number x) (number y) k e = ap number e
-same_token (number x) (lower y) k e = absurd (cc)
-same_token (number x) (upper y) k e = absurd (cc)
-same_token (number x) (sign y) k e = absurd (cc)
-same_token (lower x) (number y) k e = absurd (cc)
+same_token (number x) (lower y) k e = absurd (omega arith)
+same_token (number x) (upper y) k e = absurd (omega arith)
+same_token (number x) (sign y) k e = absurd (omega arith)
+same_token (lower x) (number y) k e = absurd (omega arith)
 same_token (lower x) (lower y) k e = ap lower e
-same_token (lower x) (upper y) k e = absurd (cc)
-same_token (lower x) (sign y) k e = absurd (cc)
-same_token (upper x) (number y) k e = absurd (cc)
-same_token (upper x) (lower y) k e = absurd (cc)
+same_token (lower x) (upper y) k e = absurd (omega arith)
+same_token (lower x) (sign y) k e = absurd (omega arith)
+same_token (upper x) (number y) k e = absurd (omega arith)
+same_token (upper x) (lower y) k e = absurd (omega arith)
 same_token (upper x) (upper y) k e = ap upper e
-same_token (upper x) (sign y) k e = absurd (cc)
-same_token (sign x) (number y) k e = absurd (cc)
-same_token (sign x) (lower y) k e = absurd (cc)
-same_token (sign x) (upper y) k e = absurd (cc)
+same_token (upper x) (sign y) k e = absurd (omega arith)
+same_token (sign x) (number y) k e = absurd (omega arith)
+same_token (sign x) (lower y) k e = absurd (omega arith)
+same_token (sign x) (upper y) k e = absurd (omega arith)
 same_token (sign x) (sign y) k e = ap sign e
 
 -- texts of one length in front of the same bytes
@@ -77,7 +85,7 @@ one_takes at bytes r q t u k l =
     let one = one_text t.token u.token r q k.fits k.ends l.fits l.ends g.1 in
     let same = same_front (token_text t.token) (token_text u.token) r q one.1 g.1 in
     let place : t.place ≡ u.place = k.stands ∙ ap (place_after at) g.0 ∙ sym l.stands in
-    let token = same_token t.token u.token one.0 same.0 in
+    let token = same_token t.token u.token (ap code one.0) same.0 in
     (λ i. record { token = token i; place = place i }, same.1)
 
 -- ---- cuts
@@ -102,7 +110,7 @@ none_taken at bytes gap rest c none t after k =
     none t.token after k.fits k.ends g.1
 
 module _ (old : Cursor) (gap rest text after : List ℕ) (place behind : Place) (parts : rest ≡ text ++ after) (c : IsCut old.rest gap rest) (p : place ≡ place_after old.place gap) (q : behind ≡ place_after place text) where
-  new : Cursor
+  abbrev new : Cursor
   new = record { rest = after; place = behind }
 
   token_stands : (t : Token) → token_text t ≡ text → IsRead t after → Stands old (record { token = t; place = place }) new

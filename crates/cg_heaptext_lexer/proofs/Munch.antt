@@ -3,6 +3,7 @@ use Rattle.std.proofs.Common.{◌≡◌, ℕ, ◌≤◌, Bool, true, false, List
 use Rattle.std.specs.Prelude.{◌==◌, ◌||◌, if◌then◌else◌}
 use Rattle.std.specs.List.{prefix_len, list_any, AllByRecursion}
 use Rattle.std.specs.Str.{bytes_eq}
+use Rattle.std.proofs.lemmas.Bool.{false≢true}
 use Rattle.std.proofs.lemmas.Bool.Decides.{nat_tests}
 use Rattle.cg_base.specs.Bytes.{digit, Starts}
 use Rattle.cg_base.proofs.Spans.{either_way, front_passes, spans}
@@ -34,55 +35,75 @@ large_part b h = grind (arith, nat_tests)
 
 -- ---- a token that stands in front is found
 
-kind_of : Token → TokenKind
+abbrev pub kind_of : Token → TokenKind
 kind_of (number x) = Number
 kind_of (lower x) = Lower
 kind_of (upper x) = Upper
 kind_of (sign x) = Sign
 
 -- a sign is found, whatever follows it
-IsFound : List ℕ → Type 0
+abbrev IsFound : List ℕ → Type 0
 IsFound x = (rest : List ℕ) → found (x ++ rest) ≡ found_of Sign (length x)
 
 -- a byte that begins neither a number, nor a name, nor a longer sign
 abbrev IsShort : ℕ → Type 0
 IsShort b = (digit b ≡ false) × (small b ≡ false) × (large b ≡ false) × ((b == 35) ≡ false) × (is_sign (b ∷ []) ≡ true)
 
-short_is : (b : ℕ) → IsShort b → IsFound (b ∷ [])
-short_is b h [] = rw (h.0, h.1, h.2, h.4) refl
-short_is b h (c ∷ rest) = rw (h.0, h.1, h.2, h.3, h.4) refl
+short_found_is : (b : ℕ) → is_sign (b ∷ []) ≡ true → short_found b ≡ found_of Sign 1
+short_found_is b h = rw h refl
+
+sign_found_is : (b c : ℕ) (rest : List ℕ) → (b == 35) ≡ false → sign_found (b ∷ c ∷ rest) ≡ short_found b
+sign_found_is b c rest h = rw h refl
+
+-- what begins neither a number nor a name
+abbrev IsOther : ℕ → Type 0
+IsOther b = (digit b ≡ false) × (small b ≡ false) × (large b ≡ false)
+
+other_found : (b : ℕ) (bytes : List ℕ) → IsOther b → found (b ∷ bytes) ≡ sign_found (b ∷ bytes)
+other_found b bytes o = rw (o.0, o.1, o.2) refl
+
+short_is : (b : ℕ) → IsOther b → (b == 35) ≡ false → is_sign (b ∷ []) ≡ true → IsFound (b ∷ [])
+short_is b o h is [] = other_found b [] o ∙ short_found_is b is
+short_is b o h is (c ∷ rest) = other_found b (c ∷ rest) o ∙ sign_found_is b c rest h ∙ short_found_is b is
 
 long_is : IsFound (codes "#{")
 long_is rest = refl
 
 each_found : AllByRecursion IsFound signs
-each_found = (
-  short_is 64 (refl, refl, refl, refl, refl),
-  short_is 61 (refl, refl, refl, refl, refl),
-  short_is 44 (refl, refl, refl, refl, refl),
-  short_is 123 (refl, refl, refl, refl, refl),
-  short_is 125 (refl, refl, refl, refl, refl),
-  long_is,
-  short_is 91 (refl, refl, refl, refl, refl),
-  short_is 93 (refl, refl, refl, refl, refl),
-  short_is 60 (refl, refl, refl, refl, refl),
-  short_is 62 (refl, refl, refl, refl, refl),
-  short_is 40 (refl, refl, refl, refl, refl),
-  short_is 41 (refl, refl, refl, refl, refl),
-  tt,
-)
+each_found =
+    let at = short_is 64 (refl, refl, refl) refl refl in
+    let equals = short_is 61 (refl, refl, refl) refl refl in
+    let comma = short_is 44 (refl, refl, refl) refl refl in
+    let begin = short_is 123 (refl, refl, refl) refl refl in
+    let end' = short_is 125 (refl, refl, refl) refl refl in
+    let bracket = short_is 91 (refl, refl, refl) refl refl in
+    let bracket' = short_is 93 (refl, refl, refl) refl refl in
+    let angle = short_is 60 (refl, refl, refl) refl refl in
+    let angle' = short_is 62 (refl, refl, refl) refl refl in
+    let paren = short_is 40 (refl, refl, refl) refl refl in
+    let paren' = short_is 41 (refl, refl, refl) refl refl in
+    (at, (equals, (comma, (begin, (end', (long_is, (bracket, (bracket', (angle, (angle', (paren, (paren', tt))))))))))))
+
+digit_first : (b : ℕ) (bytes : List ℕ) → digit b ≡ true → found (b ∷ bytes) ≡ found_of Number (prefix_len digit (b ∷ bytes))
+digit_first b bytes h = rw h refl
+
+small_first : (b : ℕ) (bytes : List ℕ) → small b ≡ true → found (b ∷ bytes) ≡ found_of Lower (prefix_len part_of_name (b ∷ bytes))
+small_first b bytes h = rw (small_no_digit b h, h) refl
+
+large_first : (b : ℕ) (bytes : List ℕ) → large b ≡ true → found (b ∷ bytes) ≡ found_of Upper (prefix_len part_of_name (b ∷ bytes))
+large_first b bytes h = rw (large_no_digit b h, large_no_small b h, h) refl
 
 found_number : (x rest : List ℕ) → IsToken (number x) → Ends (number x) rest → found (x ++ rest) ≡ found_of Number (length x)
 found_number [] rest h e = absurd h.0
-found_number (b ∷ x) rest h e = rw h.0 (ap (found_of Number) (spans digit (b ∷ x) rest h.1 e))
+found_number (b ∷ x) rest h e = digit_first b (x ++ rest) h.0 ∙ ap (found_of Number) (spans digit (b ∷ x) rest h.1 e)
 
 found_lower : (x rest : List ℕ) → IsToken (lower x) → Ends (lower x) rest → found (x ++ rest) ≡ found_of Lower (length x)
 found_lower [] rest h e = absurd h.0
-found_lower (b ∷ x) rest h e = rw (small_no_digit b h.0, h.0) (ap (found_of Lower) (spans part_of_name (b ∷ x) rest h.1 e))
+found_lower (b ∷ x) rest h e = small_first b (x ++ rest) h.0 ∙ ap (found_of Lower) (spans part_of_name (b ∷ x) rest h.1 e)
 
 found_upper : (x rest : List ℕ) → IsToken (upper x) → Ends (upper x) rest → found (x ++ rest) ≡ found_of Upper (length x)
 found_upper [] rest h e = absurd h.0
-found_upper (b ∷ x) rest h e = rw (large_no_digit b h.0, large_no_small b h.0, h.0) (ap (found_of Upper) (spans part_of_name (b ∷ x) rest h.1 e))
+found_upper (b ∷ x) rest h e = large_first b (x ++ rest) h.0 ∙ ap (found_of Upper) (spans part_of_name (b ∷ x) rest h.1 e)
 
 pub found_is : (t : Token) (rest : List ℕ) → IsToken t → Ends t rest → found (token_text t ++ rest) ≡ found_of (kind_of t) (length (token_text t))
 found_is (number x) rest h e = found_number x rest h e
@@ -130,24 +151,28 @@ no_end : (b : ℕ) (bytes : List ℕ) → b ∷ bytes ≡ [] → ⊥
 no_end b bytes e = cc
 
 -- no token is found as what begins none
+abbrev is_unknown : TokenKind → Bool
+is_unknown Number = false
+is_unknown Lower = false
+is_unknown Upper = false
+is_unknown Sign = false
+is_unknown Unknown = true
+is_unknown End = false
+
+known : (t : Token) → is_unknown (kind_of t) ≡ false
+known (number x) = refl
+known (lower x) = refl
+known (upper x) = refl
+known (sign x) = refl
+
 no_unknown : (t : Token) (n m : ℕ) → found_of (kind_of t) n ≡ found_of Unknown m → ⊥
-no_unknown (number x) n m e = cc
-no_unknown (lower x) n m e = cc
-no_unknown (upper x) n m e = cc
-no_unknown (sign x) n m e = cc
+no_unknown t n m e = false≢true (sym (known t) ∙ ap (λ (f : Found). is_unknown f.kind) e)
 
 unknown_front : (b : ℕ) (bytes : List ℕ) → found (b ∷ bytes) ≡ found_of Unknown 0 → IsFront (b ∷ bytes) (found_of Unknown 0)
 unknown_front b bytes h = record {
   within = omega arith;
   means = (refl, no_end b bytes, λ t rest is ends e. no_unknown t _ 0 (sym (found_is t rest is ends) ∙ ap found (sym e) ∙ h));
 }
-
--- a byte that begins neither a number nor a name
-abbrev IsOther : ℕ → Type 0
-IsOther b = (digit b ≡ false) × (small b ≡ false) × (large b ≡ false)
-
-other_found : (b : ℕ) (bytes : List ℕ) → IsOther b → found (b ∷ bytes) ≡ sign_found (b ∷ bytes)
-other_found b bytes o = rw (o.0, o.1, o.2) refl
 
 short_front : (b : ℕ) (bytes : List ℕ) → IsOther b → sign_found (b ∷ bytes) ≡ short_found b → IsFront (b ∷ bytes) (short_found b)
 short_front b bytes o e = either_way (λ f. short_found b ≡ f → IsFront (b ∷ bytes) f) (is_sign (b ∷ [])) (found_of Sign 1) (found_of Unknown 0)
