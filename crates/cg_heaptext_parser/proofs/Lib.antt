@@ -1,3 +1,4 @@
+pub mod Complete
 pub mod Known
 pub mod Steps
 pub mod ValueComplete
