@@ -1,4 +1,5 @@
 pub mod Complete
 pub mod Known
+pub mod Spelled
 pub mod Steps
 pub mod ValueComplete
