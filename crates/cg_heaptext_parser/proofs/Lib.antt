@@ -1,7 +1,10 @@
 pub mod Complete
+pub mod HeapReads
 pub mod Known
+pub mod One
 pub mod Sound
 pub mod Spelled
 pub mod Steps
 pub mod ValueComplete
 pub mod ValueSound
+pub mod Viable
