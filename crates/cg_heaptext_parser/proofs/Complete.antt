@@ -23,6 +23,7 @@ module _ (h : Heap) where
       (fresh : (x : A) (ts rest : List Lexeme) → reads x ts rest → Gives h (at (x ∷ []) Behind) rest → Gives h (at [] Fresh) ts)
       (again : (xs : List A) (x : A) (ts rest : List Lexeme) → reads x ts rest → Gives h (at (xs ++ x ∷ []) Behind) rest → Gives h (at xs Again) ts)
       (comma : (xs : List A) (ts rest : List Lexeme) → mark (codes ",") ts rest → Gives h (at xs Again) rest → Gives h (at xs Behind) ts) where
+    -- things behind one that is read, each behind a comma
     rest_read : (xs before : List A) (ts rest : List Lexeme) → ReadsRest reads xs ts rest → Gives h (at (before ++ xs) Behind) rest → Gives h (at before Behind) ts
     rest_read [] before ts rest r g =
         let Q : List Lexeme → Type 0 = λ z. Gives h (at before Behind) z in
@@ -35,6 +36,7 @@ module _ (h : Heap) where
         (again before x r.0 a.0 a.1
         (rest_read xs (before ++ x ∷ []) a.0 rest a.2 (subst S (sym (append_assoc before (x ∷ []) xs)) g)))
 
+    -- a whole list
     any_read : (xs : List A) (ts rest : List Lexeme) → ReadsAny reads xs ts rest → ((i : Item) → MayEnd i → Gives h (at xs i) rest) → Gives h (at [] Fresh) ts
     any_read [] ts rest r g = let Q : List Lexeme → Type 0 = λ z. Gives h (at [] Fresh) z in subst Q (sym r) (g Fresh tt)
     any_read (x ∷ xs) ts rest r g = fresh x ts r.0 r.1 (rest_read xs (x ∷ []) r.0 rest r.2 (g Behind tt))
@@ -60,6 +62,7 @@ module _ (h : Heap) where
     answers_end bs ts rest r g Again e = absurd e
     answers_end bs ts rest r g Behind e = move h CloseAngle tt (Answered c q bs Behind) r.0 ts rest r.1 g
 
+    -- the digits of an answer are read as that answer
     answer_read : (bs : List Bool) (b : Bool) → on_answer c q bs (bit_text b) ≡ Answered c q (bs ++ b ∷ []) Behind
     answer_read bs true = refl
     answer_read bs false = refl

@@ -9,6 +9,7 @@ use Rattle.cg_heaptext_parser.proofs.Sound.{sound}
 use Rattle.cg_heaptext_parser.proofs.Steps.{run}
 use Rattle.cg_heaptext_parser.proofs.Viable.{completable}
 
+-- a failure stays one, and no heap file ends there
 shut : (s : State) (t : Lexeme) → is_open s ≡ false → is_open (step s t) ≡ false
 shut Failed t h = refl
 shut _ t h = cc

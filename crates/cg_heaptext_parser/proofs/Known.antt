@@ -79,6 +79,7 @@ back Foreign h = refl
 is : (Q : Symbol → Type 0) (text x : List ℕ) (a b : Symbol) → (text ≡ x → Q a) → Q b → Q (cond (bytes_eq text x) a b)
 is Q text x a b same rest = either_way Q (bytes_eq text x) a b (λ e. same ((bytes_eq-Decides text x).0 e)) (λ e. rest)
 
+-- what the symbol of each kind of token says
 lower_means : (x : List ℕ) → Means (lower x) (lower_symbol x)
 lower_means x =
     either_way (Means (lower x)) (bytes_eq x (codes "_")) Wild (cond (is_word x) Foreign (Named x))

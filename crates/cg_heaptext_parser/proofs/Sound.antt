@@ -126,6 +126,7 @@ module _ (t : Lexeme) (rest all : List Lexeme) where
   symbol_holds (Have b fs v) y h r = have_holds t rest all b fs v y h r
   symbol_holds _ _ h r = tt
 
+-- all tokens
 run_holds : (s : State) (all ts : List Lexeme) → StateRead s all ts → StateRead (run s ts) all []
 run_holds s all [] r = r
 run_holds s all (t ∷ ts) r = run_holds (step s t) all ts (symbol_holds t ts all s (symbol_of t.token) (means t.token) r)

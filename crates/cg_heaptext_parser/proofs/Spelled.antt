@@ -20,6 +20,7 @@ module _ {A : Type 0} (reads : A → Reading) where
   Lead [] ts rest = ts ≡ rest
   Lead (x ∷ xs) ts rest = ((reads x then mark (codes ",")) then Lead xs) ts rest
 
+  -- one thing more, with its comma
   pub lead_behind : (xs : List A) (x : A) (ts mid rest : List Lexeme) → Lead xs ts mid → (reads x then mark (codes ",")) mid rest → Lead (xs ++ x ∷ []) ts rest
   lead_behind [] x ts mid rest l r = (rest, front (reads x then mark (codes ",")) ts mid rest l r, refl)
   lead_behind (y ∷ xs) x ts mid rest l r = (l.0, l.1, lead_behind xs x l.0 mid rest l.2 r)
@@ -29,6 +30,7 @@ module _ {A : Type 0} (reads : A → Reading) where
   Several [] ts rest = ⊥
   Several (x ∷ xs) ts rest = (reads x then ReadsRest reads xs) ts rest
 
+  -- one thing more, behind a comma
   rest_behind : (xs : List A) (x : A) (ts mid rest : List Lexeme) → ReadsRest reads xs ts mid → (mark (codes ",") then reads x) mid rest → ReadsRest reads (xs ++ x ∷ []) ts rest
   rest_behind [] x ts mid rest l r = front (mark (codes ",") then reads x then ReadsRest reads []) ts mid rest l (r.0, r.1, (rest, r.2, refl))
   rest_behind (y ∷ xs) x ts mid rest l r = let a = l.2 in (l.0, l.1, (a.0, a.1, rest_behind xs x a.0 mid rest a.2 r))
@@ -39,6 +41,7 @@ module _ {A : Type 0} (reads : A → Reading) where
   ItemsRead xs Again ts rest = (Several xs then mark (codes ",")) ts rest
   ItemsRead xs Behind ts rest = Several xs ts rest
 
+  -- one thing more, at the beginning and behind a comma
   pub first_item : (xs : List A) (x : A) (ts mid rest : List Lexeme) → ItemsRead xs Fresh ts mid → reads x mid rest → Several (xs ++ x ∷ []) ts rest
   first_item xs x ts mid rest l r =
       let P : List A → Type 0 = λ z. Several (z ++ x ∷ []) ts rest in
@@ -48,6 +51,7 @@ module _ {A : Type 0} (reads : A → Reading) where
   next_item [] x ts mid rest l r = absurd l.1
   next_item (y ∷ xs) x ts mid rest l r = let a = l.1 in (a.0, a.1, rest_behind xs x a.0 l.0 rest a.2 (mid, l.2, r))
 
+  -- a list that may end, with nothing in it and with something
   pub no_items : (xs : List A) (ts rest : List Lexeme) → ItemsRead xs Fresh ts rest → ReadsAny reads xs ts rest
   no_items xs ts rest l = let P : List A → Type 0 = λ z. ReadsAny reads z ts rest in subst P (sym l.0) l.1
 
@@ -119,6 +123,7 @@ StateRead Failed ts rest = ⊤
 
 -- ---- what is whole
 
+-- one entry more
 entry_behind : (es : List Entry) (e : Entry) (ts mid rest : List Lexeme) → ReadsEntries es ts mid → ReadsEntry e mid rest → ReadsEntries (es ++ e ∷ []) ts rest
 entry_behind [] e ts mid rest l r = (rest, front (ReadsEntry e) ts mid rest l r, refl)
 entry_behind (d ∷ es) e ts mid rest l r = (l.0, l.1, entry_behind es e l.0 mid rest l.2 r)
@@ -129,6 +134,7 @@ entry_done c cell ts mid rest r k =
     let a = r.2 in let d = a.2 in
     entry_behind c.before (record { place = c.place; address = c.address; cell = cell }) ts r.0 rest r.1 (a.0, a.1, (d.0, d.1, (mid, d.2, k)))
 
+-- a field, with its value
 pub label_done : (x : List ℕ) (v : Written) (ts mid rest : List Lexeme) → LabelRead x ts mid → ReadsValue v mid rest → ReadsLabelled (record { name = x; value = v }) ts rest
 label_done x v ts mid rest l r = let n = l.1 in (n.0, (l.0, n.1, (mid, l.2, r)))
 
@@ -137,6 +143,7 @@ more_done : (vs : List Written) (v : Written) (ts from mid rest : List Lexeme) �
 more_done [] v ts from mid rest c l r = (from, c, (rest, front (ReadsValue v) from mid rest l r, refl))
 more_done (w ∷ vs) v ts from mid rest c l r = let a = l.1 in (from, c, (a.0, a.1, more_done vs v a.0 l.0 mid rest a.2 l.2 r))
 
+-- the values of a tuple, with the last one
 pub two_done : (w : Written) (vs : List Written) (v : Written) (ts mid rest : List Lexeme) → Lead ReadsValue (w ∷ vs) ts mid → ReadsValue v mid rest → ReadsTwo (to_writtens (w ∷ (vs ++ v ∷ []))) ts rest
 two_done w [] v ts mid rest l r = let a = l.1 in (a.0, a.1, more_done [] v a.0 l.0 mid rest a.2 l.2 r)
 two_done w (u ∷ vs) v ts mid rest l r = let a = l.1 in (a.0, a.1, more_done (u ∷ vs) v a.0 l.0 mid rest a.2 l.2 r)
@@ -146,6 +153,7 @@ more_fields : (fs : Fields) (ts mid rest : List Lexeme) → mark (codes ",") ts 
 more_fields end ts mid rest c r = absurd r
 more_fields (field x v fs) ts mid rest c r = (r.0, (mid, c, r.1))
 
+-- all fields, with the last one
 pub fields_done : (ns : List Labelled) (n : Labelled) (ts mid rest : List Lexeme) → Lead ReadsLabelled ns ts mid → ReadsLabelled n mid rest → ReadsFields (to_fields (ns ++ n ∷ [])) ts rest
 fields_done [] n ts mid rest l r =
     let f = front (ReadsLabelled n) ts mid rest l r in let a = f.1 in let d = a.2 in

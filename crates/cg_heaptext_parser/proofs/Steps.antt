@@ -9,6 +9,7 @@ use Rattle.cg_heaptext_parser.specs.Machine.{State, Frame, payload, paren, Base,
 use Rattle.cg_heaptext_parser.specs.Symbols.{Symbol, Comma, CloseParen, CloseBrace, Digits, Wild, Truth, Constructor, At, OpenParen, OpenRecord, symbol_of}
 use Rattle.cg_heaptext_parser.proofs.Known.{token_of, Proper, back}
 
+-- the state after some tokens
 abbrev pub run : State → List Lexeme → State
 run = reader_run reader
 
@@ -47,10 +48,12 @@ none_failed b fs p OpenParen e = cc
 none_failed b fs p OpenRecord e = cc
 none_failed b fs p _ e = refl
 
+-- behind a parenthesis such a symbol begins its first value
 paren_alike : (b : Base) (fs : List Frame) (q p : Place) (y : Symbol) → begins_value y ≡ true → on_paren b fs q p y ≡ on_value b (paren q [] ∷ fs) p y
 paren_alike b fs q p CloseParen e = cc
 paren_alike b fs q p _ e = refl
 
+-- by a test, in either case
 choose : {A : Type 0} (c : Bool) → (c ≡ true → A) → (c ≡ false → A) → A
 choose true one other = one refl
 choose false one other = other refl
@@ -60,6 +63,7 @@ module _ (h : Heap) where
   abbrev pub Gives : State → List Lexeme → Type 0
   Gives s ts = finish (run s ts) ≡ Some h
 
+  -- nothing completes a failure
   not_failed : {A : Type 0} (s : State) (ts : List Lexeme) → s ≡ Failed → Gives s ts → A
   not_failed s ts e g = let no : finish (run s ts) ≡ None = ap (λ z. finish (run z ts)) e ∙ failed_none ts in absurd (cc)
 

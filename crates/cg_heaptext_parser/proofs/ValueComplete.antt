@@ -38,10 +38,12 @@ abbrev pub all_read : Holder → List Labelled → State
 all_read (of_cell c q) ns = Between (with_entry c (slots q (to_fields ns)))
 all_read (of_record b fs q) ns = Have b fs (record' q (to_fields ns))
 
+-- each value fits as the value of a field
 fits_in : (o : Holder) (ns : List Labelled) (x : List ℕ) (v : Written) → Fits (frames_of o ns x) v
 fits_in (of_cell c q) ns x v = tt
 fits_in (of_record b fs q) ns x v = tt
 
+-- fields as a list
 abbrev pub labels : Fields → List Labelled
 labels end = []
 labels (field x v fs) = record { name = x; value = v } ∷ labels fs
@@ -61,6 +63,7 @@ writtens_back : (vs : Writtens) → to_writtens (listed vs) ≡ vs
 writtens_back none = refl
 writtens_back (more v vs) = ap (more v) (writtens_back vs)
 
+-- behind a first value, these are a tuple
 whole_is : (vs : Writtens) (p : Place) (w : Written) (ws : List Written) (u : Written) → whole p (w ∷ ws) u vs ≡ tuple p (to_writtens (w ∷ (ws ++ u ∷ listed vs)))
 whole_is none p w ws u = refl
 whole_is (more v vs) p w ws u = whole_is vs p w (ws ++ u ∷ []) v ∙ ap (λ z. tuple p (to_writtens (w ∷ z))) (append_assoc ws (u ∷ []) (v ∷ listed vs))
@@ -68,6 +71,7 @@ whole_is (more v vs) p w ws u = whole_is vs p w (ws ++ u ∷ []) v ∙ ap (λ z.
 -- ---- values
 
 module _ (h : Heap) where
+  -- a name and its `=`, and the sign behind a field's value
   name_read : (o : Holder) (ns : List Labelled) (x : List ℕ) → IsName x → (ts mid rest : List Lexeme) → token (lower x) ts mid → mark (codes "=") mid rest → Gives h (Want (base_of o ns x) (frames_of o ns x)) rest → Gives h (before_name o ns) ts
   name_read (of_cell c q) ns x n ts mid rest r e g = move h (Named x) n (CellName c q ns) r.0 ts mid r.1 (move h Equals tt (CellEquals c q ns x) e.0 mid rest e.1 g)
   name_read (of_record b fs q) ns x n ts mid rest r e g = move h (Named x) n (FieldName b fs q ns) r.0 ts mid r.1 (move h Equals tt (FieldEquals b fs q ns x) e.0 mid rest e.1 g)

@@ -25,6 +25,7 @@ bare_fits [] v i = tt
 bare_fits (paren p vs ∷ fs) v i = tt
 bare_fits (unboxed p ns x ∷ fs) v i = tt
 
+-- what stands in parentheses may be a payload
 enclosed_payload : (p : Place) (vs : List Written) (v : Written) → IsPayload (enclosed p vs v)
 enclosed_payload p [] v = tt
 enclosed_payload p (w ∷ ws) v = tt
@@ -88,6 +89,7 @@ module _ (t : Lexeme) (rest all : List Lexeme) where
       (a.0, a.1, lead_behind ReadsValue vs v a.0 r.0 rest a.2 (t ∷ rest, r.2, seen _ t rest h.1))
   comma_holds b (unboxed p ns x ∷ fs) v h r = comma_labelled (FramesRead b fs then sign_at p (codes "#{")) ns x v all (t ∷ rest) rest r (seen _ t rest h.1)
 
+  -- a parenthesis that is closed
   enclosed_read : (p : Place) (vs : List Written) (v : Written) (from mid last : List Lexeme) → sign_at p (codes "(") from mid → (Lead ReadsValue vs then ReadsValue v) mid last → mark (codes ")") last rest → ReadsValue (enclosed p vs v) from rest
   enclosed_read p [] v from mid last s r c = (mid, s, (last, front (ReadsValue v) mid r.0 last r.1 r.2, c))
   enclosed_read p (w ∷ ws) v from mid last s r c = (mid, s, (last, two_done w ws v mid r.0 last r.1 r.2, c))

@@ -39,6 +39,7 @@ have (payload p x ∷ fs) b v = let c = have fs b (applied p x v) in (c.0, c.1, 
 have (paren p vs ∷ fs) b v = fed CloseParen tt (Have b (paren p vs ∷ fs) v) (have fs b _)
 have (unboxed p ns x ∷ fs) b v = fed CloseBrace tt (Have b (unboxed p ns x ∷ fs) v) (have fs b _)
 
+-- nothing more has to stand in a parenthesis, which is a value everywhere
 after_paren : (b : Base) (fs : List Frame) (q : Place) → Completable (AfterParen b fs q)
 after_paren b fs q = fed CloseParen tt (AfterParen b fs q) (have fs b (nothing q))
 
