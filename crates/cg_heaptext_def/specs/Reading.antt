@@ -113,6 +113,7 @@ skipped (u ∷ us) n = u ∷ (replicate n Unset ++ us)
 unfoldable mutual
   -- a value without parentheses round it
   pub scalars : Tau → Written → List Scalar
+  scalars unit (nothing p) = Word 0 ∷ []
   scalars (word w) (numeral n) = Word (amount n) ∷ []
   scalars bool (truth p b) = Word (bit_number b) ∷ []
   scalars (abs name ts s) (address p n) = Address (amount n) ∷ []
@@ -122,7 +123,7 @@ unfoldable mutual
   scalars (fields ps U) (record' p fs) = scalars_all ps (values_in fs)
   scalars (fields ps R) (address p n) = Address (amount n) ∷ []
   scalars (fields ps W) (address p n) = Address (amount n) ∷ []
-  scalars t v = Word 0 ∷ []
+  scalars t v = []
 
   -- fields, one behind the other; those that are taken are unset
   pub scalars_all : Parts → List Written → List Scalar
@@ -182,6 +183,7 @@ module _ (cells : ℕ → Option Cell) where
   unfoldable mutual
     -- a value without parentheses round it
     pub value : Tau → Written → Val
+    value unit (nothing p) = values.nothing
     value (word w) (numeral n) = values.number (amount n)
     value bool (truth p b) = values.number (bit_number b)
     value (abs name ts s) (address p n) = value_within (cells (amount n))

@@ -1,5 +1,5 @@
 -- What the lexer cuts from the bytes that are left: white space, and what stands behind it.
-use Rattle.std.proofs.Common.{◌≡◌, ℕ, Bool, true, false, List, [], ◌∷◌, ◌++◌, length, take, drop, refl, sym, ap, ◌∙◌, subst, arith}
+use Rattle.std.proofs.Common.{◌≡◌, ℕ, ◌<◌, Bool, true, false, List, [], ◌∷◌, ◌++◌, length, take, drop, refl, sym, ap, ◌∙◌, subst, arith, length-append}
 use Rattle.std.specs.List.{prefix_len, AllByRecursion}
 use Rattle.std.proofs.lemmas.List.{append-nil, take-append-drop}
 use Rattle.std.proofs.Math.Seq.{take-append_seam, drop-append_seam}
@@ -44,6 +44,58 @@ dark (number x) rest h = dark_from digit white_no_digit x rest h.0
 dark (lower x) rest h = dark_from small white_no_small x rest h.0
 dark (upper x) rest h = dark_from large white_no_large x rest h.0
 dark (sign x) rest h = among IsDark signs x dark_sign h rest
+
+-- a text that begins with a byte of a kind that is no white space
+begins_dark : (p : ℕ → Bool) → ((b : ℕ) → p b ≡ true → white b ≡ false) → (x rest : List ℕ) → Starts p x → (b : ℕ) × (more : List ℕ) × (x ++ rest ≡ b ∷ more) × (white b ≡ false)
+begins_dark p never [] rest h = absurd h
+begins_dark p never (b ∷ x) rest h = (b, x ++ rest, refl, never b h)
+
+abbrev BeginsDark : List ℕ → Type 0
+BeginsDark x = (rest : List ℕ) → (b : ℕ) × (more : List ℕ) × (x ++ rest ≡ b ∷ more) × (white b ≡ false)
+
+one_byte : (b : ℕ) → white b ≡ false → BeginsDark (b ∷ [])
+one_byte b h rest = (b, rest, refl, h)
+
+signs_begin : AllByRecursion BeginsDark signs
+signs_begin = (
+  one_byte 64 refl,
+  (
+    one_byte 61 refl,
+    (
+      one_byte 44 refl,
+      (
+        one_byte 123 refl,
+        (
+          one_byte 125 refl,
+          (
+            λ rest. (35, 123 ∷ rest, refl, refl),
+            (
+              one_byte 91 refl,
+              (
+                one_byte 93 refl,
+                (
+                  one_byte 60 refl,
+                  (one_byte 62 refl, (one_byte 40 refl, (one_byte 41 refl, tt))),
+                ),
+              ),
+            ),
+          ),
+        ),
+      ),
+    ),
+  ),
+)
+
+-- the first byte of a token is no white space
+pub dark_byte : (t : Token) (rest : List ℕ) → IsToken t → (b : ℕ) × (more : List ℕ) × (token_text t ++ rest ≡ b ∷ more) × (white b ≡ false)
+dark_byte (number x) rest h = begins_dark digit white_no_digit x rest h.0
+dark_byte (lower x) rest h = begins_dark small white_no_small x rest h.0
+dark_byte (upper x) rest h = begins_dark large white_no_large x rest h.0
+dark_byte (sign x) rest h = among BeginsDark signs x signs_begin h rest
+
+-- no token is empty
+pub some_text : (t : Token) → IsToken t → 0 < length (token_text t)
+some_text t h = let d = dark_byte t [] h in omega (arith, ap length d.2, length-append (token_text t) [])
 
 -- a token is its kind and its text
 abbrev code : TokenKind → ℕ

@@ -2,6 +2,8 @@ pub mod Complete
 pub mod HeapReads
 pub mod Known
 pub mod One
+pub mod Outlined
+pub mod Says
 pub mod Sound
 pub mod Spelled
 pub mod Steps

@@ -1,5 +1,5 @@
 -- What the reader of heap files sees of a token (docs/LANGUAGE.md, "Heap files", the grammar).
-use Rattle.std.specs.Prelude.{ℕ, Bool, true, false, ◌||◌, List, codes, if◌then◌else◌}
+use Rattle.std.specs.Prelude.{ℕ, Bool, true, false, List, codes, if◌then◌else◌}
 use Rattle.std.specs.Str.{bytes_eq}
 use Rattle.cg_lexer.specs.Tokens.{is_word}
 use Rattle.cg_heaptext_def.specs.Grammar.{truth_text}
@@ -32,21 +32,29 @@ lower_symbol x = if bytes_eq x (codes "_") then Wild else if is_word x then Fore
 abbrev pub upper_symbol : List ℕ → Symbol
 upper_symbol x = if bytes_eq x (truth_text true) then Truth true else if bytes_eq x (truth_text false) then Truth false else Constructor x
 
+abbrev pub round_symbol : List ℕ → Symbol
+round_symbol x =
+    if bytes_eq x (codes "<") then OpenAngle
+    else if bytes_eq x (codes ">") then CloseAngle
+    else if bytes_eq x (codes "(") then OpenParen
+    else if bytes_eq x (codes ")") then CloseParen
+    else Foreign
+
+abbrev pub bracket_symbol : List ℕ → Symbol
+bracket_symbol x =
+    if bytes_eq x (codes "{") then OpenBrace
+    else if bytes_eq x (codes "}") then CloseBrace
+    else if bytes_eq x (codes "[") then OpenBracket
+    else if bytes_eq x (codes "]") then CloseBracket
+    else round_symbol x
+
 abbrev pub sign_symbol : List ℕ → Symbol
 sign_symbol x =
     if bytes_eq x (codes "@") then At
     else if bytes_eq x (codes "=") then Equals
     else if bytes_eq x (codes ",") then Comma
     else if bytes_eq x (codes "#{") then OpenRecord
-    else if bytes_eq x (codes "{") then OpenBrace
-    else if bytes_eq x (codes "}") then CloseBrace
-    else if bytes_eq x (codes "[") then OpenBracket
-    else if bytes_eq x (codes "]") then CloseBracket
-    else if bytes_eq x (codes "<") then OpenAngle
-    else if bytes_eq x (codes ">") then CloseAngle
-    else if bytes_eq x (codes "(") then OpenParen
-    else if bytes_eq x (codes ")") then CloseParen
-    else Foreign
+    else bracket_symbol x
 
 abbrev pub symbol_of : Token → Symbol
 symbol_of (number x) = Digits x
