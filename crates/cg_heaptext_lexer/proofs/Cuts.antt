@@ -9,13 +9,12 @@ use Rattle.cg_base.specs.declared.place.Place.{Place}
 use Rattle.cg_base.specs.Places.{place_after}
 use Rattle.cg_base.proofs.Spans.{front_passes, one_span, not_all}
 use Rattle.cg_lexer.specs.Bytes.{small, large}
-use Rattle.cg_ctree.proofs.Munch.{among}
 use Rattle.cg_heaptext_def.specs.Tokens.{signs, Token, number, lower, upper, sign, token_text, IsToken, Ends, Lexeme, Takes}
 use Rattle.cg_heaptext_lexer.specs.declared.front.Found.{Found}
 use Rattle.cg_heaptext_lexer.specs.declared.token.TokenKind.{TokenKind}
 use Rattle.cg_heaptext_lexer.specs.declared.token.TokenKind.TheVariants.{Number, Lower, Upper, Sign, Unknown, End}
 use Rattle.cg_heaptext_lexer.specs.Next.{Cursor, Finishes, Gives, IsUnknown, Stands, token_of}
-use Rattle.cg_heaptext_lexer.proofs.Munch.{IsFront, IsRead, Means, NoToken, kind_of, one_text}
+use Rattle.cg_heaptext_lexer.proofs.Munch.{IsFront, IsRead, Means, NoToken, among, kind_of, one_text}
 
 -- ---- one token behind a place
 

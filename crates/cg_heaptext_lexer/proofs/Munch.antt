@@ -8,7 +8,7 @@ use Rattle.std.proofs.lemmas.Bool.Decides.{nat_tests}
 use Rattle.cg_base.specs.Bytes.{digit, Starts}
 use Rattle.cg_base.proofs.Spans.{either_way, front_passes, spans}
 use Rattle.cg_base.proofs.Sequences.{is_name}
-use Rattle.cg_ctree.proofs.Munch.{among}
+use Rattle.cg_base.proofs.Truths.{either}
 use Rattle.cg_lexer.specs.Bytes.{small, large, part_of_name}
 use Rattle.cg_heaptext_def.specs.Tokens.{signs, is_sign, Token, number, lower, upper, sign, token_text, IsToken, Ends}
 use Rattle.cg_heaptext_lexer.specs.declared.front.Found.{Found}
@@ -40,6 +40,11 @@ kind_of (number x) = Number
 kind_of (lower x) = Lower
 kind_of (upper x) = Upper
 kind_of (sign x) = Sign
+
+-- a text that is on a list has what each text of the list has
+pub among : (P : List ℕ → Type 0) (texts : List (List ℕ)) (text : List ℕ) → AllByRecursion P texts → list_any (bytes_eq text) texts ≡ true → P text
+among P [] text all e = absurd (cc)
+among P (t ∷ texts) text all e = either (bytes_eq text t) (list_any (bytes_eq text) texts) e (λ here. subst P (sym (is_name text t here)) all.0) (among P texts text all.1)
 
 -- a sign is found, whatever follows it
 abbrev IsFound : List ℕ → Type 0
