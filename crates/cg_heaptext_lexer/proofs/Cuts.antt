@@ -7,6 +7,7 @@ use Rattle.std.proofs.lemmas.Bool.Decides.{nat_tests}
 use Rattle.cg_base.specs.Bytes.{white, digit, Each, Starts, Stops}
 use Rattle.cg_base.specs.declared.place.Place.{Place}
 use Rattle.cg_base.specs.Places.{place_after}
+use Rattle.cg_base.proofs.Counts.{digit_dark}
 use Rattle.cg_base.proofs.Spans.{front_passes, one_span, not_all}
 use Rattle.cg_lexer.specs.Bytes.{small, large}
 use Rattle.cg_heaptext_def.specs.Tokens.{signs, Token, number, lower, upper, sign, token_text, IsToken, Ends, Lexeme, Takes}
@@ -17,9 +18,6 @@ use Rattle.cg_heaptext_lexer.specs.Next.{Cursor, Finishes, Gives, IsUnknown, Sta
 use Rattle.cg_heaptext_lexer.proofs.Munch.{IsFront, IsRead, Means, NoToken, among, kind_of, one_text}
 
 -- ---- one token behind a place
-
-white_no_digit : (b : ℕ) → digit b ≡ true → white b ≡ false
-white_no_digit b h = grind (arith, nat_tests)
 
 white_no_small : (b : ℕ) → small b ≡ true → white b ≡ false
 white_no_small b h = grind (arith, nat_tests)
@@ -39,7 +37,7 @@ dark_from p never [] rest h = absurd h
 dark_from p never (b ∷ x) rest h = never b h
 
 dark : (t : Token) (rest : List ℕ) → IsToken t → Stops white (token_text t ++ rest)
-dark (number x) rest h = dark_from digit white_no_digit x rest h.0
+dark (number x) rest h = dark_from digit digit_dark x rest h.0
 dark (lower x) rest h = dark_from small white_no_small x rest h.0
 dark (upper x) rest h = dark_from large white_no_large x rest h.0
 dark (sign x) rest h = among IsDark signs x dark_sign h rest
@@ -87,7 +85,7 @@ signs_begin = (
 
 -- the first byte of a token is no white space
 pub dark_byte : (t : Token) (rest : List ℕ) → IsToken t → (b : ℕ) × (more : List ℕ) × (token_text t ++ rest ≡ b ∷ more) × (white b ≡ false)
-dark_byte (number x) rest h = begins_dark digit white_no_digit x rest h.0
+dark_byte (number x) rest h = begins_dark digit digit_dark x rest h.0
 dark_byte (lower x) rest h = begins_dark small white_no_small x rest h.0
 dark_byte (upper x) rest h = begins_dark large white_no_large x rest h.0
 dark_byte (sign x) rest h = among BeginsDark signs x signs_begin h rest
