@@ -1,0 +1,8 @@
+//! Stage: tests. Tests of the reader of heap files.
+//! Role: tests.
+//! Promises: nothing: tests alone.
+//! May cite: all crates; no crate but tests cites it.
+#![tactic(auto)]
+
+#[cfg(test)]
+mod read;
