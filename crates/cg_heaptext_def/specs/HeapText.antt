@@ -1,9 +1,8 @@
 -- Which bytes are a heap file for a type, what it holds, and which fault comes first of one that is none (docs/LANGUAGE.md, "Heap files").
-use Rattle.std.specs.Prelude.{◌≡◌, ◌≢◌, ◌⊎◌, ℕ, suc, ◌+◌, ◌<◌, ◌≤◌, ◌^◌, Bool, true, false, ◌||◌, not, nat_eq, List, [], ◌∷◌, ◌++◌, map, length, slice_get, Option, Some, None, ⊤, if◌then◌else◌}
+use Rattle.std.specs.Prelude.{◌≡◌, ◌≢◌, ◌⊎◌, ℕ, ◌<◌, ◌≤◌, ◌^◌, Bool, true, false, ◌||◌, nat_eq, List, [], ◌∷◌, ◌++◌, map, length, slice_get, Option, Some, None, ⊤, if◌then◌else◌}
 use Rattle.std.specs.List.{flat_map}
 use Rattle.cg_base.specs.Bytes.{white, Each}
-use Rattle.cg_base.specs.declared.kind.Sigil.{Sigil}
-use Rattle.cg_base.specs.declared.kind.Sigil.TheVariants.{R, W, U}
+use Rattle.cg_base.specs.declared.kind.Sigil.TheVariants.{W}
 use Rattle.cg_base.specs.declared.place.Place.{Place}
 use Rattle.cg_base.specs.Places.{IsBefore, first_place, place_after}
 use Rattle.cg_base.specs.Reader.{Begins}
@@ -16,7 +15,7 @@ use Rattle.cg_value.specs.Values.{Val}
 use Rattle.cg_heaptext_def.specs.Grammar.{SpellsTokens, HeapSpells}
 use Rattle.cg_heaptext_def.specs.Reading.{Event, misfit, counted, mention, events, scalars, value, held_at}
 use Rattle.cg_heaptext_def.specs.Tokens.{Lexeme, Takes, Divides, behind}
-use Rattle.cg_heaptext_def.specs.Trees.{Numeral, amount, Written, numeral, truth, nothing, gone, address, constant, applied, inside, tuple, record', Writtens, none, more, Fields, end, field, Cell, slots, elements, answers, Entry, Heap, first, bare}
+use Rattle.cg_heaptext_def.specs.Trees.{Numeral, amount, Written, numeral, address, applied, inside, tuple, record', Writtens, none, more, Fields, end, field, Cell, slots, elements, answers, Entry, Heap, first, bare}
 
 -- ---- H1: no heap file is spelled
 

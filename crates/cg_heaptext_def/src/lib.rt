@@ -1,4 +1,4 @@
-//! Stage: heap files. Which bytes are a heap file, what it holds at a type, and which fault comes first.
+//! Stage: heaps. Which bytes are a heap file, what it holds at a type, and which fault comes first.
 //! Role: definitions.
 //! Promises: definitions alone (`specs/Tokens.antt`, `Trees`, `Grammar`, `Reading`, `HeapText`).
 //! May cite: definitions and plain data of crates below; no laws, and no code above.

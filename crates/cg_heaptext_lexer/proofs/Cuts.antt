@@ -8,9 +8,9 @@ use Rattle.cg_base.specs.Bytes.{white, digit, Each, Starts, Stops}
 use Rattle.cg_base.specs.declared.place.Place.{Place}
 use Rattle.cg_base.specs.Places.{place_after}
 use Rattle.cg_base.proofs.Counts.{digit_dark}
-use Rattle.cg_base.proofs.Spans.{front_passes, one_span, not_all}
+use Rattle.cg_base.proofs.Spans.{front_passes, one_span}
 use Rattle.cg_lexer.specs.Bytes.{small, large}
-use Rattle.cg_heaptext_def.specs.Tokens.{signs, Token, number, lower, upper, sign, token_text, IsToken, Ends, Lexeme, Takes}
+use Rattle.cg_heaptext_def.specs.Tokens.{signs, Token, number, lower, upper, sign, token_text, IsToken, Lexeme, Takes}
 use Rattle.cg_heaptext_lexer.specs.declared.front.Found.{Found}
 use Rattle.cg_heaptext_lexer.specs.declared.token.TokenKind.{TokenKind}
 use Rattle.cg_heaptext_lexer.specs.declared.token.TokenKind.TheVariants.{Number, Lower, Upper, Sign, Unknown, End}

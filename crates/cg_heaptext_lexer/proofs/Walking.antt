@@ -5,7 +5,7 @@ use Rattle.cg_base.specs.Bytes.{white, Each}
 use Rattle.cg_base.specs.declared.place.Place.{Place}
 use Rattle.cg_base.specs.Places.{first_place, place_after, place_past}
 use Rattle.cg_heaptext_def.specs.HeapText.{place_behind}
-use Rattle.cg_heaptext_def.specs.Tokens.{Token, token_text, Lexeme, Takes, Divides, Lexes, behind}
+use Rattle.cg_heaptext_def.specs.Tokens.{token_text, Lexeme, Takes, Divides, Lexes, behind}
 use Rattle.cg_heaptext_lexer.specs.Laws.{OneStand}
 use Rattle.cg_heaptext_lexer.specs.Next.{Cursor, start, Stands, IsUnknown, Finishes, Walks}
 use Rattle.cg_heaptext_lexer.proofs.Cuts.{dark_byte, one_takes, some_text}

@@ -1,4 +1,4 @@
-//! Stage: heap files. The tokens of a heap file, one by one, as slices of it.
+//! Stage: heaps. The tokens of a heap file, one by one, as slices of it.
 //! Role: part of `cg_heaptext`.
 //! Promises: `Lexer` gives the defined tokens in order, or what begins none; law: `one_stand`.
 //! May cite: anything below it, of its stage and of those below; no crate above.

@@ -7,7 +7,7 @@ use Rattle.cg_base.specs.Places.{first_place, place_after}
 use Rattle.cg_base.specs.Reader.{Begins, run}
 use Rattle.cg_heaptext_def.specs.Grammar.{HeapSpells, SpellsTokens}
 use Rattle.cg_heaptext_def.specs.HeapText.{IsCutAt, IsUnexpected, at_end, at_token, at_unknown, place_behind}
-use Rattle.cg_heaptext_def.specs.Tokens.{Divides, Lexeme, Lexes, Takes}
+use Rattle.cg_heaptext_def.specs.Tokens.{Lexeme, Takes}
 use Rattle.cg_heaptext_def.specs.Trees.{Heap}
 use Rattle.cg_heaptext_lexer.proofs.Walking.{finishes_none, goes_on, stands_next, same_tokens, unknown_none, walked_end, walked_place, walks_divide, walks_more, walks_whole}
 use Rattle.cg_heaptext_lexer.specs.Next.{Cursor, Finishes, Gives, IsUnknown, Stands, Walks, start}
@@ -20,7 +20,7 @@ use Rattle.cg_heaptext_parser.specs.Outline.{Outline, ends, outline}
 use Rattle.cg_heaptext_parser.specs.Outline as seen
 use Rattle.cg_heaptext_parser.specs.Symbols.{symbol_of}
 use Rattle.cg_heaptext_parser.specs.declared.fault.TextFault.{TextFault}
-use Rattle.cg_heaptext_parser.specs.declared.fault.TextFault.TheVariants.{Text, Memory}
+use Rattle.cg_heaptext_parser.specs.declared.fault.TextFault.TheVariants.{Text}
 use Rattle.cg_heaptext_parser.proofs.HeapReads.{heap_reads}
 use Rattle.cg_heaptext_parser.proofs.One.{one_heap as one_tree}
 use Rattle.cg_heaptext_parser.proofs.Outlined.{ends_same, is_some, open_same, outlined}
