@@ -1,7 +1,6 @@
 -- Where the entries of a heap file and its argument stand (docs/LANGUAGE.md, "Heap files").
 use Rattle.std.specs.Prelude.{◌≡◌, ℕ, List, [], ◌∷◌, Result, Ok, Err, ⊤}
 use Rattle.cg_base.specs.Bytes.{white, Each}
-use Rattle.cg_base.specs.declared.place.Place.{Place}
 use Rattle.cg_heaptext_def.specs.Grammar.{HeapSpells, ReadsCell, ReadsValue}
 use Rattle.cg_heaptext_def.specs.HeapText.{IsCutAt}
 use Rattle.cg_heaptext_def.specs.Tokens.{Divides, Lexeme}

@@ -6,5 +6,8 @@
 #![tactic(auto)]
 
 mod entry;
+mod pass;
+mod skip;
 
 pub use entry::{EntryAt, Index, Numeral};
+pub use pass::read_entries;

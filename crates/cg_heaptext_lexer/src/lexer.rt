@@ -33,6 +33,16 @@ impl<'a> Lexer<'a> {
         }
     }
 
+    /// Another lexer at the same place of the same file. Each reads on by itself.
+    pub fn copy(&self) -> Lexer<'a>
+        ensures { result ≡ self.now }
+    {
+        Lexer {
+            rest: self.rest,
+            place: self.place,
+        }
+    }
+
     /// The next token, the longest that fits (docs/LANGUAGE.md, "Heap files"); behind the last one `End`, for ever. At a byte that begins
     /// no token, `Unknown`, for ever. It takes no memory, and time in proportion to the bytes that it passes.
     pub fn next(&mut self) -> Token<'a>
