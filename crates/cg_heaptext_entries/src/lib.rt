@@ -1,7 +1,7 @@
-//! Stage: heap files. Where the entries of a heap file and its argument stand.
+//! Stage: heaps. Where the entries of a heap file and its argument stand.
 //! Role: part of `cg_heaptext`.
 //! Promises: `read_entries` answers exactly.
-//! May cite: anything of its stage and of those below; no crate above.
+//! May cite: anything below it, of its stage and of those below; no crate above.
 //! docs/LANGUAGE.md, "Heap files", says what is spelled.
 #![tactic(auto)]
 
