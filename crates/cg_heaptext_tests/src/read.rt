@@ -56,9 +56,9 @@ fn all_forms_are_read(rt: HostRuntime) -> Result<(), Fail> {
 
 #[test]
 fn others_are_refused_at_their_places(rt: HostRuntime) -> Result<(), Fail> {
-    for (text, line, column) in REFUSED {
+    for (text, line, column) in REFUSED.as_slice() {
         let place = refused(&rt, rt.alloc(), text.as_bytes());
-        assert_eq!(rt; place, Some((line, column)));
+        assert_eq!(rt; place, Some((*line, *column)));
     }
     Ok(())
 }
