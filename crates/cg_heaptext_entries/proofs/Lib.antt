@@ -1,3 +1,3 @@
-mod Entries
-mod Skips
-mod Standing
+pub mod Entries
+pub mod Skips
+pub mod Standing
