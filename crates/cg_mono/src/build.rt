@@ -23,6 +23,7 @@ use cg_base::{Fun, Items, Memory, Ty};
 use cg_core::{KFun, Term, Typed};
 use cg_inst::{Instance, Instances};
 use cg_kinds::subst;
+use cg_mono_closed::is_closed;
 use cg_typing::Checked;
 use cg_typing_parts::library_type;
 use std::alloc::Global;
@@ -47,21 +48,16 @@ fn type_at(alloc: Global, checked: &Checked, instance: &Instance) -> Result<Ty, 
     }
 }
 
-// The core of the function at a position with these types for its type variables: itself, where it has none.
+// A core with these types for its type variables: itself, where none stands in it.
 fn body<'a>(
     alloc: Global,
-    checked: &Checked,
-    at: u32,
     core: &'a Term<Typed>,
     types: &Items<Ty>,
 ) -> Result<Option<Body<'a>>, Memory>
-    requires { core_in checked.now at ≡ Some (the_core core.now) }
     ensures { IfOk result (λ b. maybe_core (option_map core_by b) ≡ Some (subst_core (map type_of types.now) (the_core core.now))) }
 {
-    if let Some(function) = declared(checked, at) {
-        if function.vars.len() == 0 {
-            return Ok(Some(Body::Source(core)));
-        }
+    if is_closed(alloc, core)? {
+        return Ok(Some(Body::Source(core)));
     }
     match specialise(alloc, core, types) {
         Ok(core) => Ok(Some(Body::Own(core))),
@@ -80,7 +76,7 @@ fn body_at<'a>(
 {
     match instance.fun {
         Fun::User(at) => match checked.core(at) {
-            Some(core) => body(alloc, checked, at, core, &instance.args),
+            Some(core) => body(alloc, core, &instance.args),
             None => Ok(None),
         },
         Fun::Lib(_) => Ok(None),

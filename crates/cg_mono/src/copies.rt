@@ -50,7 +50,7 @@ impl<'a> Copy<'a> {
 }
 
 /// One copy for each instance of a list: its arrow type and its body, with the types of the instance in the place of the type variables
-/// (docs/LANGUAGE.md, "Instances"). A function without type variables has its source's body, which stands once.
+/// (docs/LANGUAGE.md, "Instances"). A body in which no type variable stands is that of the source, which stands once.
 #[derive(Drop)]
 pub struct Mono<'a> {
     pub(crate) copies: Vec<Copy<'a>>,
