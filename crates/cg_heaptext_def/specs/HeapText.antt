@@ -217,16 +217,16 @@ abbrev pub FirstOf : (List Event → Event → Place → Type 0) → List Event 
 FirstOf P es place = (e : Earliest P es place) × Nowhere P e.front
 
 -- a fault of a heap file, by its number
-pub data Heaped : Type 0 where
-  second : Heaped  -- H2
-  absent : Heaped  -- H3
-  misfits : Heaped  -- H4
-  over : Heaped  -- H5
-  aliased : Heaped  -- H6
-  large : Heaped  -- H7
+pub data Fault : Type 0 where
+  second : Fault  -- H2
+  absent : Fault  -- H3
+  misfits : Fault  -- H4
+  over : Fault  -- H5
+  aliased : Fault  -- H6
+  large : Fault  -- H7
 
 -- the place of a fault, of one that is there
-abbrev pub At : Heaped → Heap → Tau → Place → Type 0
+abbrev pub At : Fault → Heap → Tau → Place → Type 0
 At second h t place = Least (IsSecond h) place
 At absent h t place = Least (IsAbsent h) place
 At misfits h t place = FirstOf IsMisfit (read_events h t) place
@@ -235,7 +235,7 @@ At aliased h t place = FirstOf IsAliased (read_events h t) place
 At large h t place = Least (IsLarge h) place
 
 -- it isn't there
-abbrev pub Lacks : Heaped → Heap → Tau → Type 0
+abbrev pub Lacks : Fault → Heap → Tau → Type 0
 Lacks second h t = Never (IsSecond h)
 Lacks absent h t = Never (IsAbsent h)
 Lacks misfits h t = Nowhere IsMisfit (read_events h t)
@@ -244,7 +244,7 @@ Lacks aliased h t = Nowhere IsAliased (read_events h t)
 Lacks large h t = Never (IsLarge h)
 
 -- none of those before it is there
-abbrev pub LacksBefore : Heaped → Heap → Tau → Type 0
+abbrev pub LacksBefore : Fault → Heap → Tau → Type 0
 LacksBefore second h t = ⊤
 LacksBefore absent h t = Lacks second h t
 LacksBefore misfits h t = Lacks second h t × Lacks absent h t
@@ -253,7 +253,7 @@ LacksBefore aliased h t = Lacks second h t × Lacks absent h t × Lacks misfits 
 LacksBefore large h t = Lacks second h t × Lacks absent h t × Lacks misfits h t × Lacks over h t × Lacks aliased h t
 
 -- The bytes are a heap file, and this is its first fault, on this line.
-pub record IsFaulty (bytes : List ℕ) (t : Tau) (fault : Heaped) (line : ℕ) : Type 0 where
+pub record IsFaulty (bytes : List ℕ) (t : Tau) (fault : Fault) (line : ℕ) : Type 0 where
   pub heap : Heap
   pub spells : HeapSpells bytes heap
   pub before : LacksBefore fault heap t

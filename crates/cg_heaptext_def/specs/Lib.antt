@@ -1,3 +1,4 @@
+pub mod Footprints
 pub mod Grammar
 pub mod HeapText
 pub mod Reading

@@ -74,7 +74,8 @@ module _ (cells : ℕ → Option Cell) where
     events unit at (nothing p) = []
     events (word w) at (numeral n) = counted n (2 ^ bits w) ∷ []
     events bool at (truth p b) = []
-    events (abs name ts s) at (address p n) = mention p (amount n) (abs name ts s) ∷ events_within name ts (cells (amount n))
+    events (abs name ts R) at (address p n) = mention p (amount n) (abs name ts R) ∷ events_within name ts (cells (amount n))
+    events (abs name ts W) at (address p n) = mention p (amount n) (abs name ts W) ∷ events_within name ts (cells (amount n))
     events (variant ps) at (constant p x) = events_bare ps at x
     events (variant ps) at (applied p x v) = events_applied ps at x v
     events (fields ps U) at (tuple p vs) = if is_tuple ps U && as_many ps (listed vs) then events_all ps (listed vs) else misfit at ∷ []

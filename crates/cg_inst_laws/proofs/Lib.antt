@@ -1,7 +1,6 @@
 pub mod Bodies
 pub mod Circles
 pub mod Closed
-pub mod ClosedBodies
 pub mod Each
 pub mod Entries
 pub mod Growth

@@ -49,18 +49,15 @@ fn type_at(alloc: Global, checked: &Checked, instance: &Instance) -> Result<Ty, 
 }
 
 // A core with these types for its type variables: itself, where none stands in it.
-fn body<'a>(
-    alloc: Global,
-    core: &'a Term<Typed>,
-    types: &Items<Ty>,
-) -> Result<Option<Body<'a>>, Memory>
-    ensures { IfOk result (λ b. maybe_core (option_map core_by b) ≡ Some (subst_core (map type_of types.now) (the_core core.now))) }
+#[tactic(auto, using(cg_mono_closed::proofs::Staying::closed_cores_stay))]
+fn body<'a>(alloc: Global, core: &'a Term<Typed>, types: &Items<Ty>) -> Result<Body<'a>, Memory>
+    ensures { IfOk result (λ b. the_core (core_by b) ≡ subst_core (map type_of types.now) (the_core core.now)) }
 {
     if is_closed(alloc, core)? {
-        return Ok(Some(Body::Source(core)));
+        return Ok(Body::Source(core));
     }
     match specialise(alloc, core, types) {
-        Ok(core) => Ok(Some(Body::Own(core))),
+        Ok(core) => Ok(Body::Own(core)),
         Err(wanting) => Err(wanting),
     }
 }
@@ -76,7 +73,7 @@ fn body_at<'a>(
 {
     match instance.fun {
         Fun::User(at) => match checked.core(at) {
-            Some(core) => body(alloc, core, &instance.args),
+            Some(core) => Ok(Some(body(alloc, core, &instance.args)?)),
             None => Ok(None),
         },
         Fun::Lib(_) => Ok(None),

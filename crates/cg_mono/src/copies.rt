@@ -6,7 +6,7 @@ use cg_base::Ty;
 use cg_core::{Term, Typed};
 use cg_inst::Instance;
 
-/// A body: one of the copy's own, or that of the source, where the function has no type variables.
+/// A body: one of the copy's own, or that of the source, where no type variable stands in it.
 #[derive(Drop)]
 pub enum Body<'a> {
     Own(Term<Typed>),

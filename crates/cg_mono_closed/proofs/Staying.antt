@@ -9,7 +9,7 @@ use Rattle.cg_core.specs.Terms as tree
 use Rattle.cg_core.specs.Terms.{Arg, Note, Tree, term, Shape, fun, op, app, lets, let_bang, if_else, con, case_of, esac, struct, member, take_field, put, cast, annot, Trees, Named}
 use Rattle.cg_inst_laws.proofs.Each.{Each, each_left, each_right}
 use Rattle.cg_kinds.specs.Kinds.{subst, subst_all, subst_parts}
-use Rattle.cg_mono_closed.specs.Closed.{Stays, closed, closed_all, closed_arg, closed_node, closed_parts, closed_shape}
+use Rattle.cg_mono_closed.specs.Closed.{ClosedCoresStay, closed, closed_all, closed_arg, closed_node, closed_parts, closed_shape}
 use Rattle.cg_typing.specs.Instances.{nodes_below, nodes_of, nodes_of_all, nodes_of_fields}
 use Rattle.cg_typing.specs.Subst.{subst_arg, subst_core, subst_cores, subst_fields, subst_shape}
 
@@ -98,5 +98,5 @@ module _ (types : List Tau) where
         let p = core_stays t (each_left IsClosedNode (nodes_of t) (nodes_of_fields fs) h) in let q = fields_stay fs (each_right IsClosedNode (nodes_of t) (nodes_of_fields fs) h) in λ k. tree.field n (p k) (q k)
 
 -- where no node has a type variable, the core stays
-pub stays : (c : Tree Note) → IsTrue (list_all closed_node (nodes_of c)) → Stays c
-stays c h types = core_stays types c (each_closed (nodes_of c) h)
+pub closed_cores_stay : ClosedCoresStay
+closed_cores_stay c h types = core_stays types c (each_closed (nodes_of c) h)

@@ -1,8 +1,9 @@
 -- Cores in which no type variable stands.
-use Rattle.std.specs.Prelude.{◌≡◌, Bool, true, false, ◌&&◌, List, [], ◌∷◌}
+use Rattle.std.specs.Prelude.{◌≡◌, Bool, true, false, ◌&&◌, IsTrue, List, [], ◌∷◌}
 use Rattle.std.specs.List.{list_all}
 use Rattle.cg_base.specs.Types.{Tau, var, seen, unit, word, bool, arrow, abs, variant, fields, Taus, none, more, Parts, end, part}
 use Rattle.cg_core.specs.Terms.{Arg, Note, Tree, term, Shape, fun, annot}
+use Rattle.cg_typing.specs.Instances.{nodes_of}
 use Rattle.cg_typing.specs.Subst.{subst_core}
 
 abbrev mutual
@@ -39,6 +40,10 @@ closed_shape shape = true
 abbrev pub closed_node : Tree Note → Bool
 closed_node (term note shape) = closed note.ty && closed_shape shape
 
--- types for type variables change nothing of a core
-abbrev pub Stays : Tree Note → Type 0
-Stays c = (types : List Tau) → subst_core types c ≡ c
+-- nor in any node of a core
+abbrev pub closed_core : Tree Note → Bool
+closed_core c = list_all closed_node (nodes_of c)
+
+-- types for type variables change nothing of a core in which none stands
+abbrev pub ClosedCoresStay : Type 0
+ClosedCoresStay = (c : Tree Note) → IsTrue (closed_core c) → (types : List Tau) → subst_core types c ≡ c

@@ -1,11 +1,11 @@
 // Cores in which no type variable stands.
 
-ghost use Rattle.std.specs.Prelude.{◌≡◌, map, IfOk, IsTrue};
+ghost use Rattle.std.specs.Prelude.{◌≡◌, map, IfOk};
 ghost use Rattle.std.specs.List.{list_all};
 ghost use Rattle.cg_base.specs.Types.{part_of, to_parts, to_taus, type_of};
 ghost use Rattle.cg_core.specs.Kernels.{the_core};
 ghost use Rattle.cg_core.specs.Terms.{arg_of};
-ghost use Rattle.cg_mono_closed.specs.Closed.{Stays, closed, closed_all, closed_arg, closed_node, closed_parts};
+ghost use Rattle.cg_mono_closed.specs.Closed.{closed, closed_all, closed_arg, closed_core, closed_node, closed_parts};
 
 use cg_base::{Items, Memory, Part, Ty};
 use cg_core::{Form, Term, TyArg, Typed};
@@ -80,10 +80,10 @@ fn is_closed_node(node: &Term<Typed>) -> bool
     }
 }
 
-/// Whether no type variable stands in a core (docs/LANGUAGE.md, "Instances"), so that types for type variables change nothing of it. Want of
-/// memory is its one refusal.
+/// Whether no type variable stands in a core (docs/LANGUAGE.md, "Instances"): in no type of a node, and in none that is written at one. By the
+/// law `closed_cores_stay` types for type variables change nothing of such a core. Want of memory is its one refusal.
 pub fn is_closed(alloc: Global, core: &Term<Typed>) -> Result<bool, Memory>
-    ensures { IfOk result (λ closed. IsTrue closed → Stays (the_core core.now)) }
+    ensures { IfOk result (λ closed. closed ≡ closed_core (the_core core.now)) }
 {
     let nodes = nodes_in(alloc, core)?;
     for node in nodes.as_slice() {

@@ -1,10 +1,12 @@
-//! Stage: instances. Which cores types for type variables change nothing of.
+//! Stage: instances. In which cores no type variable stands.
 //! Role: part of `cg_mono`.
-//! Promises: `is_closed` tells only of cores in which no type variable stands.
+//! Promises: `is_closed` answers exactly; law: `closed_cores_stay`.
 //! May cite: anything below it, of its stage and of those below; no crate above.
 //! docs/LANGUAGE.md, "Instances", says what copies are.
 #![tactic(auto)]
 
 mod closed;
+mod law;
 
 pub use closed::is_closed;
+pub use law::closed_cores_stay;
