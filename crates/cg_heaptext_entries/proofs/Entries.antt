@@ -136,7 +136,7 @@ finds bytes k l x old new last t u index is g not_here after e all h s =
     let m = a.1 in
     let v : Lexeme = record { token = sign (codes "="); place = m.2.1.0 } in
     let r = reads l new last u v m.2.0 (subst (Before new) m.2.1.1 m.1) after in
-    record { entries = a.0; argument = (m.2.0, [], subst (λ (c : Cursor). Before c m.2.0) (sym e) r.1, m.2.2) }
+    record { entries = a.0; argument = (m.2.0, subst (λ (c : Cursor). Before c m.2.0) (sym e) r.1, m.2.2) }
 
 -- ---- the whole answer
 

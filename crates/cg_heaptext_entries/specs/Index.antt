@@ -17,12 +17,13 @@ use Rattle.cg_heaptext_entries.specs.declared.entry.Numeral.{Numeral}
 abbrev pub Before : Cursor → List Lexeme → Type 0
 Before at ts = (last : List ℕ) × Each white last × Divides at.place at.rest ts last
 
--- the tokens from a cursor on begin with a cell, and with a value
+-- the tokens from a cursor on begin with a cell
 abbrev pub CellStands : Cursor → Cell → Type 0
 CellStands at c = (ts rest : List Lexeme) × Before at ts × ReadsCell c ts rest
 
-abbrev pub ValueStands : Cursor → Written → Type 0
-ValueStands at v = (ts rest : List Lexeme) × Before at ts × ReadsValue v ts rest
+-- they are a value
+abbrev pub ArgumentStands : Cursor → Written → Type 0
+ArgumentStands at v = (ts : List Lexeme) × Before at ts × ReadsValue v ts []
 
 -- a number with its place
 abbrev pub numeral_of : Numeral → trees.Numeral
@@ -42,7 +43,7 @@ AreEntries _ _ = ⊥
 -- these are the entries and the argument of a heap file
 pub record IsIndex (index : Index) (h : Heap) : Type 0 where
   pub entries : AreEntries index.entries h.entries
-  pub argument : ValueStands index.argument h.argument
+  pub argument : ArgumentStands index.argument h.argument
 
 -- The answer is right: the bytes spell a heap file, one alone, and this is where its entries stand; or at this place stands the first token that
 -- none goes on with, or the end.

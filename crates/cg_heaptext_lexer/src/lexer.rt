@@ -1,5 +1,5 @@
 // The lexer.
-ghost use Rattle.std.specs.Prelude.{◌≡◌};
+ghost use Rattle.std.specs.Prelude.{◌≡◌, length};
 ghost use Rattle.cg_heaptext_lexer.specs.Next.{Next, start};
 
 use crate::front::{Found, front, gap_len};
@@ -41,6 +41,13 @@ impl<'a> Lexer<'a> {
             rest: self.rest,
             place: self.place,
         }
+    }
+
+    /// How many bytes are left.
+    pub fn left(&self) -> usize
+        ensures { result ≡ length self.now.rest }
+    {
+        self.rest.len()
     }
 
     /// The next token, the longest that fits (docs/LANGUAGE.md, "Heap files"); behind the last one `End`, for ever. At a byte that begins

@@ -89,15 +89,17 @@ all_behind found p m q ps t l (suc i) r e = l.all i r e
 
 -- where one place was found, one is left
 left : (m : Place) (ps : List Place) → (q : Place) × (noted_all (Some m) ps ≡ Some q) × Left (Some m) ps q
-left m [] = (m, (refl, record { among = inl refl; before = λ q e. subst (λ x. NotBefore x m) (some_is m q e) (itself m); all = λ i q e. absurd (cc) }))
+left m [] = (m, refl, record { among = inl refl; before = λ q e. subst (λ x. NotBefore x m) (some_is m q e) (itself m); all = λ i q e. absurd (cc) })
 left m (p ∷ ps) =
-    let t = took (Some m) p in let l = left t.0 ps in
-    (l.0, (ap (λ found. noted_all found ps) t.1.is ∙ l.1.0,
+    let t = took (Some m) p in let l = left t.0 ps in (
+      l.0,
+      ap (λ found. noted_all found ps) t.1.is ∙ l.1,
       record {
-        among = passed_on (Some m) p t.0 l.0 ps t.1 l.1.1;
-        before = λ r e. chained r t.0 l.0 (t.1.before r e) (l.1.1.before t.0 refl);
-        all = all_behind (Some m) p t.0 l.0 ps t.1 l.1.1;
-      }))
+        among = passed_on (Some m) p t.0 l.0 ps t.1 l.2;
+        before = λ r e. chained r t.0 l.0 (t.1.before r e) (l.2.before t.0 refl);
+        all = all_behind (Some m) p t.0 l.0 ps t.1 l.2;
+      },
+    )
 
 -- the place at the front, and those behind it
 among_those : (m q : Place) (ps : List Place) → (Some m ≡ Some q) ⊎ ((i : ℕ) × (slice_get ps i ≡ Some q)) → (i : ℕ) × (slice_get (m ∷ ps) i ≡ Some q)
@@ -114,9 +116,10 @@ module _ (P : Place → Type 0) where
   noted_is_least [] those = λ p holds. absurd (cc ((those.all p holds).1))
   noted_is_least (m ∷ ps) those =
       let l = left m ps in
-      subst (IsLeast P) (sym l.1.0)
-        (let at = among_those m l.0 ps l.1.1.among in those.hold at.0 l.0 at.1,
-         λ p holds before. let at = those.all p holds in never p l.0 (none_before m l.0 ps l.1.1 at.0 p at.1) before)
+      subst (IsLeast P) (sym l.1) (
+        let at = among_those m l.0 ps l.2.among in those.hold at.0 l.0 at.1,
+        λ p holds before. let at = those.all p holds in never p l.0 (none_before m l.0 ps l.2 at.0 p at.1) before,
+      )
 
   -- places that are the same, in whatever order, are noted as one
   pub least_of : (found : Option Place) (ps : List Place) → found ≡ noted_all None ps → AreThose P ps → IsLeast P found
