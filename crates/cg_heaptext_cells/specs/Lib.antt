@@ -1,0 +1,5 @@
+pub mod ByKind
+pub mod Cells
+pub mod Lists
+pub mod Numbers
+pub mod Pieces
