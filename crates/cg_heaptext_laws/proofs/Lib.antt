@@ -1,0 +1,13 @@
+mod Apart
+mod Boxed
+mod Each
+mod Events
+mod Faultless
+mod Fine
+mod Found
+mod Holding
+mod Opening
+mod Representing
+mod Shapes
+mod Stable
+mod Standing
