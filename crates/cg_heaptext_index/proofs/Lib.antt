@@ -1,0 +1,6 @@
+pub mod Numerals
+pub mod Repeats
+pub mod Spelled
+pub mod Those
+mod Joining
+mod Answered
