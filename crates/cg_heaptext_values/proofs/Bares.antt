@@ -1,5 +1,5 @@
 -- A value without the parentheses round it.
-use Rattle.std.proofs.Common.{◌≡◌, ℕ, zero, suc, Bool, true, false, List, [], ◌∷◌, codes, drop, refl, sym, ap, ◌∙◌, subst}
+use Rattle.std.proofs.Common.{◌≡◌, suc, true, List, drop, refl, sym, ap, subst}
 use Rattle.cg_heaptext_def.specs.Grammar.{ReadsValue}
 use Rattle.cg_heaptext_def.specs.Tokens.{Lexeme}
 use Rattle.cg_heaptext_def.specs.Trees.{Written, numeral, truth, nothing, gone, address, constant, applied, inside, tuple, record', bare}

@@ -1,5 +1,5 @@
 -- A loop over tokens computes a function of those that stand before it.
-use Rattle.std.proofs.Common.{◌≡◌, ℕ, ◌<◌, List, [], ◌∷◌, length, refl, sym, ap, ◌∙◌, subst}
+use Rattle.std.proofs.Common.{◌≡◌, ℕ, ◌<◌, List, [], ◌∷◌, length, refl, sym, ap, ◌∙◌}
 use Rattle.cg_heaptext_def.specs.Tokens.{Lexeme, Token, number, lower, upper, sign}
 use Rattle.cg_heaptext_lexer.specs.Next.{Cursor, Gives, token_of}
 use Rattle.cg_heaptext_lexer.specs.declared.token.TokenKind.{TokenKind}

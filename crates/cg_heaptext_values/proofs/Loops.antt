@@ -1,5 +1,5 @@
 -- What the loops over tokens compute.
-use Rattle.std.proofs.Common.{◌≡◌, ℕ, zero, suc, ◌+◌, ◌-◌, ◌<◌, ◌≤◌, ◌⊎◌, inl, inr, Bool, true, false, List, [], ◌∷◌, drop, length, refl, sym, ap, ◌∙◌, subst, arith}
+use Rattle.std.proofs.Common.{◌≡◌, ℕ, zero, suc, ◌+◌, ◌-◌, ◌<◌, ◌≤◌, ◌⊎◌, inl, inr, Bool, true, false, List, [], drop, length, refl, sym, ap, ◌∙◌, subst, arith}
 use Rattle.std.proofs.Math.Nat.{min-eq_left, min-eq_right}
 use Rattle.std.proofs.lemmas.Bool.{cases_lt, false≢true}
 use Rattle.std.proofs.lemmas.List.{drop_all}
@@ -11,8 +11,8 @@ use Rattle.cg_heaptext_lexer.specs.declared.token.TokenKind.{TokenKind}
 use Rattle.cg_heaptext_values.specs.declared.turn.Leading.{Leading}
 use Rattle.cg_heaptext_values.specs.declared.turn.Leading.TheVariants as leading
 use Rattle.cg_heaptext_values.specs.declared.turn.Turn.{Turn}
-use Rattle.cg_heaptext_values.specs.declared.turn.Turn.TheVariants.{Opens, Closes, Parts, Stays, Over}
-use Rattle.cg_heaptext_values.specs.Turns.{Pass, Seek, lead, lead_on, leads, passed, passes, read_leading, read_turn, seeking, seeks, sought, turn}
+use Rattle.cg_heaptext_values.specs.declared.turn.Turn.TheVariants.{Opens, Closes, Parts, Over}
+use Rattle.cg_heaptext_values.specs.Turns.{Pass, Seek, layers_of, lead, lead_on, leads, passed, passes, read_leading, read_turn, seeking, seeks, sought, turn}
 use Rattle.cg_heaptext_values.specs.Turns as turns
 use Rattle.cg_heaptext_values.specs.Values.{begins, begins_at}
 use Rattle.cg_heaptext_values.proofs.Going.{Going, Looks, Sees, Shortens, goes_on, seen_shorter}
@@ -151,3 +151,10 @@ pub begins_there : (k : TokenKind) (x : List ℕ) (first new : Cursor) (t : Lexe
 begins_there k x first new t a e g same ts b =
     let p = goes_on turn read_turn begins (λ a ts. begins_at a) (record { sees = sees_turns; at_token = λ t ts. refl; at_end = λ x. refl }) begins k x first first new t a e (λ ts b. (ts, b, refl)) g same ts b in
     sym p.2
+
+-- so many are passed over, and none is left
+pub dropped : (first now : Cursor) (n : ℕ) → now ≡ first → ((ts : List Lexeme) → Before first ts → n ≡ layers_of ts) → Going first now (λ ts. drop (layers_of ts) ts) (drop n)
+dropped first now n here is ts b = (ts, subst (λ (c : Cursor). Before c ts) (sym here) b, ap (λ m. drop m ts) (sym (is ts b)))
+
+pub none_dropped : (first now : Cursor) (F : List Lexeme → List Lexeme) (n : ℕ) → n ≡ 0 → Going first now F (drop n) → (ts : List Lexeme) → Before first ts → Before now (F ts)
+none_dropped first now F n none w ts b = let p = w ts b in subst (Before now) (sym (p.2 ∙ ap (λ m. drop m p.0) none)) p.1

@@ -1,11 +1,11 @@
 -- A value is passed over by counting the brackets that are open in it.
-use Rattle.std.proofs.Common.{◌≡◌, ℕ, zero, suc, Bool, true, false, List, [], ◌∷◌, codes, refl, sym, ap, ◌∙◌}
+use Rattle.std.proofs.Common.{◌≡◌, ℕ, suc, Bool, true, false, List, codes, refl, ap, ◌∙◌}
 use Rattle.cg_base.specs.declared.place.Place.{Place}
 use Rattle.cg_heaptext_def.specs.Grammar.{ReadsFields, ReadsMore, ReadsMoreFields, ReadsTwo, ReadsValue, mark, token_at, truth_text}
 use Rattle.cg_heaptext_def.specs.Tokens.{Lexeme, Token, number, lower, upper, sign}
 use Rattle.cg_heaptext_def.specs.Trees.{Written, numeral, truth, nothing, gone, address, constant, applied, inside, tuple, record', Writtens, none, more, Fields, end, field}
 use Rattle.cg_heaptext_values.specs.declared.turn.Turn.{Turn}
-use Rattle.cg_heaptext_values.specs.declared.turn.Turn.TheVariants.{Opens, Closes, Parts, Stays, Over}
+use Rattle.cg_heaptext_values.specs.declared.turn.Turn.TheVariants.{Opens, Closes, Parts, Stays}
 use Rattle.cg_heaptext_values.specs.Turns.{Pass, passed, passes, turn}
 use Rattle.cg_heaptext_values.specs.Turns as turns
 

@@ -1,17 +1,16 @@
 -- The values of a tuple and the fields of a record, one by one.
-use Rattle.std.proofs.Common.{◌≡◌, ℕ, Bool, true, false, ◌||◌, List, [], ◌∷◌, codes, Option, Some, None, refl, sym, ap, ◌∙◌, subst}
-use Rattle.std.specs.Str.{bytes_eq}
+use Rattle.std.proofs.Common.{◌≡◌, ℕ, Bool, true, false, List, [], ◌∷◌, codes, Some, None, refl, sym, ap, ◌∙◌, subst}
 use Rattle.cg_base.specs.declared.place.Place.{Place}
-use Rattle.cg_heaptext_def.specs.Grammar.{ReadsFields, ReadsMore, ReadsMoreFields, ReadsTwo, ReadsValue, mark}
-use Rattle.cg_heaptext_def.specs.Tokens.{Lexeme, lower, sign}
+use Rattle.cg_heaptext_def.specs.Grammar.{ReadsFields, ReadsMore, ReadsMoreFields, ReadsTwo}
+use Rattle.cg_heaptext_def.specs.Tokens.{Lexeme, lower, sign, token_text}
 use Rattle.cg_heaptext_def.specs.Trees.{Written, Writtens, none, more, Fields, end, field, slots, listed}
 use Rattle.cg_heaptext_entries.specs.Index.{Before, CellStands}
 use Rattle.cg_heaptext_entries.proofs.Standing.{reads}
-use Rattle.cg_heaptext_lexer.specs.Next.{Cursor, Gives}
+use Rattle.cg_heaptext_lexer.specs.Next.{Cursor, Gives, token_of}
 use Rattle.cg_heaptext_lexer.specs.declared.token.TokenKind.{TokenKind}
+use Rattle.cg_heaptext_lexer.specs.declared.token.TokenKind.TheVariants.{Number, Lower, Upper, Sign, Unknown, End}
 use Rattle.cg_heaptext_values.specs.Turns.{passed, turn}
 use Rattle.cg_heaptext_values.specs.Turns as turns
-use Rattle.cg_heaptext_values.specs.declared.turn.Turn.TheVariants.{Closes}
 use Rattle.cg_heaptext_values.specs.Values.{EndsThere, Listed, Named, ReadsOtherFields, ReadsOthers, StandsAt, TakesField, TakesValue, closing, is_end}
 use Rattle.cg_heaptext_values.specs.declared.list.FieldAt.{FieldAt}
 use Rattle.cg_heaptext_values.specs.declared.list.FieldsAt.{FieldsAt}
@@ -73,14 +72,22 @@ named_on (field x v fs) left new ts rest r p =
 
 -- ---- one value, and one field
 
+moved : (left : Bool) (new : Cursor) (ts mid : List Lexeme) → passed (turns.inside 0) ts ≡ passed (turns.inside 0) mid → Passed left new ts → Passed left new mid
+moved left new ts mid e p = (p.0 ∙ ap (λ (q : Bool × List Lexeme). q.0) e, subst (λ (q : Bool × List Lexeme). Before new q.1) e p.1)
+
+-- the lexer's text is the token's
+text_same : (k : TokenKind) (x : List ℕ) → token_text (token_of k x) ≡ x
+text_same Number x = refl
+text_same Lower x = refl
+text_same Upper x = refl
+text_same Sign x = refl
+text_same Unknown x = refl
+text_same End x = refl
+
 abbrev AllPass : Cursor → Bool → Cursor → Type 0
 AllPass old left new = (ts : List Lexeme) → Before old ts → Passed left new ts
 
 -- none is left
-pub no_value : (vs : List Written) (at : Cursor) → Listed false at vs → vs ≡ []
-no_value [] at l = refl
-no_value (v ∷ vs) at l = absurd l
-
 pub takes_none : (left : Bool) (old : Cursor) (vs : List Written) (new : ValuesAt) → left ≡ false → Listed left old vs → TakesValue vs None new
 takes_none left old [] new e l = refl
 takes_none left old (v ∷ vs) new e l = absurd (subst (λ b. Listed b old (v ∷ vs)) e l)
@@ -94,6 +101,27 @@ takes_value left old (v ∷ vs) at new e is p l =
       subst (λ c. StandsAt c v) (sym is) (record { ts = s.0; rest = s.3.0; before = s.2; reads = s.3.1; ends = others_end vs s.3.0 s.1 s.3.2 }),
       listed_on vs new.more new.lexer s.3.0 s.1 s.3.2 (moved new.more new.lexer s.0 s.3.0 same passed),
     )
-  where
-    moved : (left : Bool) (new : Cursor) (ts mid : List Lexeme) → passed (turns.inside 0) ts ≡ passed (turns.inside 0) mid → Passed left new ts → Passed left new mid
-    moved left new ts mid e p = (p.0 ∙ ap (λ (q : Bool × List Lexeme). q.0) e, subst (λ (q : Bool × List Lexeme). Before new q.1) e p.1)
+
+-- a name, its `=`, and the value
+pub takes_field : (left : Bool) (old mid at : Cursor) (fs : Fields) (k l : TokenKind) (t u : Lexeme) (f : FieldAt) (new : FieldsAt) → left ≡ true → t.token ≡ token_of k f.name.now → Gives k old t mid → Gives l mid u at → f.value ≡ at → AllPass at new.more new.lexer
+    → Named left old fs → TakesField fs (Some f) new
+takes_field left old mid at end k l t u f new e is g h here p n = absurd (subst (λ b. Named b old end) e n)
+takes_field left old mid at (field x v fs) k l t u f new e is g h here p n =
+    let s = subst (λ b. Named b old (field x v fs)) e n in
+    let q = s.3.1 in
+    let name : Lexeme = record { token = lower x; place = q.1.0 } in
+    let equals : Lexeme = record { token = sign (codes "="); place = q.2.1.0 } in
+    let a = reads k old mid t name q.0 (subst (Before old) q.1.1 s.2) g in
+    let b = reads l mid at u equals q.2.0 (subst (Before mid) q.2.1.1 a.1) h in
+    let passed = p q.2.0 b.1 in (
+      sym (text_same k f.name.now) ∙ ap token_text (sym is) ∙ ap (λ (y : Lexeme). token_text y.token) a.0,
+      subst (λ c. StandsAt c v) (sym here) (record { ts = q.2.0; rest = s.3.0; before = b.1; reads = q.2.2; ends = fields_end fs s.3.0 s.1 s.3.2 }),
+      named_on fs new.more new.lexer s.3.0 s.1 s.3.2 (moved new.more new.lexer q.2.0 s.3.0 (value_passed v 0 q.2.0 s.3.0 q.2.2) passed),
+    )
+
+-- the fields of a cell
+pub cell_fields : (k : TokenKind) (old at : Cursor) (t : Lexeme) → Gives k old t at → (p : Place) (fs : Fields) → CellStands old (slots p fs) → Named true at fs
+cell_fields k old at t g p fs c =
+    let r = c.3 in
+    let a = reads k old at t (record { token = sign (codes "{"); place = p }) r.0 (subst (Before old) r.1 c.2) g in
+    fields_named fs at r.0 r.2.0 c.1 a.1 r.2.1 (codes "}", refl, r.2.2)

@@ -2,7 +2,7 @@
 use Rattle.std.specs.Prelude.{◌≡◌, ℕ, Bool, true, false, List, [], ◌∷◌, codes, Option, Some, None, ⊤}
 use Rattle.cg_heaptext_def.specs.Grammar.{Reading, ReadsValue, ◌then◌, mark, token}
 use Rattle.cg_heaptext_def.specs.Tokens.{Lexeme, lower, sign}
-use Rattle.cg_heaptext_def.specs.Trees.{Written, numeral, truth, nothing, gone, address, constant, applied, inside, tuple, record', Fields, end, field, bare, listed}
+use Rattle.cg_heaptext_def.specs.Trees.{Written, numeral, truth, nothing, gone, address, constant, applied, inside, tuple, record', Fields, end, field, listed}
 use Rattle.cg_heaptext_entries.specs.Index.{Before, numeral_of}
 use Rattle.cg_heaptext_lexer.specs.Next.{Cursor}
 use Rattle.cg_heaptext_values.specs.Turns.{turn}

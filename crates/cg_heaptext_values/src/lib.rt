@@ -12,4 +12,4 @@ mod pass;
 mod turn;
 
 pub use head::{Head, ValueAt};
-pub use list::{FieldsAt, ValuesAt, fields_of};
+pub use list::{FieldAt, FieldsAt, ValuesAt, fields_of};

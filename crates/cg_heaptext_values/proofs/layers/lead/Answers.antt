@@ -1,4 +1,4 @@
-use Rattle.std.proofs.Common.{◌+◌, ◌-◌, ◌<◌, ◌≤◌, refl, ap, ◌∙◌, arith}
+use Rattle.std.proofs.Common.{◌+◌, ◌-◌, refl, arith}
 use Rattle.cg_heaptext_lexer.specs.Next.{lexeme}
 use Rattle.cg_heaptext_values.specs.declared.turn.Leading.TheVariants.{Opens, Closes, Other}
 use Rattle.cg_heaptext_values.specs.Turns.{lead}

@@ -1,4 +1,4 @@
-use Rattle.std.proofs.Common.{◌+◌, ◌-◌, ◌<◌, false, true, refl, arith}
+use Rattle.std.proofs.Common.{◌+◌, ◌-◌, false, true, refl, arith}
 use Rattle.cg_heaptext_lexer.specs.Next.{lexeme}
 use Rattle.cg_heaptext_values.specs.declared.turn.Turn.TheVariants.{Opens, Closes, Parts, Stays, Over}
 use Rattle.cg_heaptext_values.specs.Turns.{ended, inside, passed}
@@ -41,10 +41,10 @@ pub loop-depth-preserved-else-depth-eq0-2 : goal.loop-depth-preserved-else-depth
 loop-depth-preserved-else-depth-eq0-2 c =
     let t = c.next-token.result in
     let w = c.loop-depth.invariant in
-    let s = turn_shorter Parts refl t.kind t.text.now c.loop-depth.lexer c.next-token.new.self (lexeme t) c.in-Parts-2.ensures c.next-token.ensures in
+    let s = turn_shorter Parts refl t.kind t.text.now c.loop-depth.lexer c.next-token.new.self (lexeme t) c.in-Parts.ensures c.next-token.ensures in
     record {
       within = omega (arith, s, w.within);
-      going = pass_on t.kind t.text.now c.args.lexer.now c.loop-depth.lexer c.next-token.new.self (lexeme t) Parts c.loop-depth.depth (inside c.loop-depth.depth) refl w.going c.next-token.ensures c.in-Parts-2.ensures (pass_parts_inner c.loop-depth.depth (omega (arith, c.if-depth-eq0-2.false)));
+      going = pass_on t.kind t.text.now c.args.lexer.now c.loop-depth.lexer c.next-token.new.self (lexeme t) Parts c.loop-depth.depth (inside c.loop-depth.depth) refl w.going c.next-token.ensures c.in-Parts.ensures (pass_parts_inner c.loop-depth.depth (omega (arith, c.if-depth-eq0-2.false)));
     }
 
 pub loop-depth-preserved : goal.loop-depth-preserved
