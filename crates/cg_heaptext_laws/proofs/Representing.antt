@@ -10,6 +10,6 @@ use Rattle.cg_heaptext_laws.proofs.Holding.{stands}
 use Rattle.cg_heaptext_laws.specs.Laws.{TextsRepresent}
 
 pub texts_represent : TextsRepresent
-texts_represent world h t first_order lacks no_large =
+texts_represent world h t lacks no_large =
     let s = stands world (cells_of h) (held_in (placed h t)) t (first h.argument) (bare h.argument) (all_fine h t lacks.1 lacks.2 lacks.3 no_large) in
     record { holds = s.holds; are_writes = λ q. sym (s.reaches W q); are_reads = λ q. sym (s.reaches R q); apart = apart (read_events h t) lacks.4 }

@@ -1,16 +1,13 @@
 -- What holds of all heap files without faults.
-use Rattle.std.specs.Prelude.{IsTrue}
 use Rattle.cg_base.specs.declared.kind.Sigil.TheVariants.{R, W}
 use Rattle.cg_base.specs.Types.{Tau}
-use Rattle.cg_heap.specs.FirstOrder.{is_first_order}
 use Rattle.cg_heap.specs.Reps.{HeapWorld, Represents}
 use Rattle.cg_heaptext_def.specs.Footprints.{held_in, reached}
 use Rattle.cg_heaptext_def.specs.HeapText.{Lacks, LacksBefore, cells_of, large, placed, read_events}
 use Rattle.cg_heaptext_def.specs.Reading.{scalars, value}
 use Rattle.cg_heaptext_def.specs.Trees.{Heap, bare}
 
--- What a heap file without faults holds represents the argument's value, at types without type variables, functions and users' abstract types,
--- over any table (docs/LANGUAGE.md, "Heap files").
+-- What a heap file without faults holds represents the argument's value, over any table (docs/LANGUAGE.md, "Heap files").
 abbrev pub TextsRepresent : Type 0
-TextsRepresent = (world : HeapWorld) (h : Heap) (t : Tau) → IsTrue (is_first_order t) → LacksBefore large h t → Lacks large h t
+TextsRepresent = (world : HeapWorld) (h : Heap) (t : Tau) → LacksBefore large h t → Lacks large h t
     → Represents world (held_in (placed h t)) t (scalars t (bare h.argument)) (value (cells_of h) t (bare h.argument)) (reached W (read_events h t)) (reached R (read_events h t))
