@@ -1,0 +1,5 @@
+mod Meeting
+mod Walk
+mod Cells
+mod Picks
+mod Ends
