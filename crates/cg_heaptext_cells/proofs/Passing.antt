@@ -79,7 +79,7 @@ name_told d ts c =
 
 -- ---- single tokens
 
--- the name of a constructor gives nothing yet
+-- the name of a constructor gives nothing by itself
 name_held : (h : Held) (x : List ℕ) (p : Place) (d : ℕ) (rest : List Lexeme) → IsConstructor x → emitted h (Some d) (record { token = upper x; place = p } ∷ rest) ≡ emitted Name (Some d) rest
 name_held h x p d rest c =
     let t : Lexeme = record { token = upper x; place = p } in

@@ -8,7 +8,7 @@ use Rattle.std.specs.Ordering.{nat_cmp}
 use Rattle.std.specs.Prelude.{unwrap_or}
 use Rattle.cg_heaptext_index.specs.Addresses.{Joins, Positions, position}
 
--- one that has none yet
+-- one that has none
 pub joins_new : (positions new : Positions) (text : Bor (List ℕ)) (at : ℕ) (known : Bool) → known ≡ is_some (position positions text.now) → known ≡ false
     → tree.Updates (λ x y. slice_cmp nat_cmp x.now y.now) positions new text (Some at) → Joins positions text.now at new
 joins_new positions new text at known is e updates = λ other.

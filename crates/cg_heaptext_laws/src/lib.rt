@@ -1,7 +1,7 @@
 //! Stage: heaps. What a heap file without faults holds represents its value.
-//! Role: part of `cg_heaptext`.
+//! Role: laws.
 //! Promises: law: `texts_represent`.
-//! May cite: anything below it, of its stage and of those below; no crate above.
+//! May cite: definitions, laws and public crates below; no code above.
 //! docs/LANGUAGE.md, "Heap files", says what they hold and which faults there are.
 #![tactic(auto)]
 

@@ -5,6 +5,12 @@
 #![tactic(auto)]
 
 #[cfg(test)]
+mod cells;
+#[cfg(test)]
 mod entries;
 #[cfg(test)]
+mod index;
+#[cfg(test)]
 mod read;
+#[cfg(test)]
+mod values;
