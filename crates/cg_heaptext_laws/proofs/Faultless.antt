@@ -80,7 +80,7 @@ all_fit es never = each_from Fits es (λ front rest e parts. fits front rest e p
     fits front rest (counted n bound) parts = tt
     fits front rest (mention p q t) parts = tt
 
-all_open : (h : Heap) (t : Tau) → Never (IsAbsent h) → Nowhere IsMisfit (read_events h t) → Each (IsOpen (cells_of h)) (read_events h t)
+pub all_open : (h : Heap) (t : Tau) → Never (IsAbsent h) → Nowhere IsMisfit (read_events h t) → Each (IsOpen (cells_of h)) (read_events h t)
 all_open h t no_absent no_misfit =
     opens (cells_of h) (λ q. cells_known h no_absent q (cells_of h q) refl) t (first h.argument) (bare h.argument) (argument_known h no_absent) (all_fit (read_events h t) no_misfit)
 

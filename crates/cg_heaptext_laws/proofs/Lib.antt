@@ -9,5 +9,11 @@ mod Holding
 mod Opening
 mod Representing
 mod Shapes
+mod SmallCells
+mod SmallLoose
+mod SmallReads
+mod SmallScalars
+mod SmallTexts
+mod SmallValues
 mod Stable
 mod Standing

@@ -49,7 +49,7 @@ fn contents_are_read(rt: HostRuntime) -> Result<(), Fail> {
                     })
             );
             let numbers = elements(rt.alloc(), &array.cell, 255)?;
-            assert!(rt; numbers.numbers.as_slice() == [1, 7, 256, 3]);
+            assert!(rt; numbers.numbers.as_slice() == [1, 7, 256, 3].as_slice());
             assert!(rt;
                 numbers.over
                     == Some(Place {
@@ -57,7 +57,7 @@ fn contents_are_read(rt: HostRuntime) -> Result<(), Fail> {
                         column: 15
                     })
             );
-            assert!(rt; answers(rt.alloc(), &allocator.cell)?.as_slice() == [true, false]);
+            assert!(rt; answers(rt.alloc(), &allocator.cell)?.as_slice() == [true, false].as_slice());
             Ok(())
         }
         _ => panic!(rt; "other entries"),
