@@ -1,0 +1,4 @@
+pub mod Adding
+pub mod Boxes
+pub mod Choosing
+pub mod Listing
