@@ -1,0 +1,5 @@
+pub mod Running
+mod Fronts
+mod Mentioned
+mod Over
+mod Whole
