@@ -1,0 +1,2 @@
+mod Mentions
+mod Alike
