@@ -1,2 +1,3 @@
+pub mod Joining
 mod Mentions
 mod Alike
