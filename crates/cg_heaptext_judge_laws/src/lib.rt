@@ -1,7 +1,7 @@
 //! Stage: heaps. What is judged of a heap file, one thing that is met after the other, is what is asked of all.
-//! Role: part of `cg_heaptext`.
-//! Promises: law: `runs_judge`.
-//! May cite: anything below it, of its stage and of those below; no crate above.
+//! Role: laws.
+//! Promises: `runs_judge`.
+//! May cite: definitions, laws and public crates below; no code above.
 //! docs/LANGUAGE.md, "Heap files", says what is asked.
 #![tactic(auto)]
 

@@ -1,6 +1,6 @@
 //! Stage: heaps. What is noted of what is met in a heap file, and whether it fits.
 //! Role: part of `cg_heaptext`.
-//! Promises: `Judged::mention` and `note_number` do what the judgement of one thing says, exactly.
+//! Promises: `Judged` and `note_number` note what the judgement of one thing says, exactly.
 //! May cite: anything below it, of its stage and of those below; no crate above.
 //! docs/LANGUAGE.md, "Heap files", says what is judged.
 #![tactic(auto)]

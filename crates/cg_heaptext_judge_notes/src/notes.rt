@@ -30,7 +30,7 @@ pub struct Judged<'t> {
 }
 
 impl<'t> Judged<'t> {
-    /// Nothing is noted yet.
+    /// Nothing is noted.
     pub fn new(alloc: Global) -> Judged<'t>
         ensures { (ns : List ℕ) → IsNoted ns result start }
     {

@@ -1,4 +1,4 @@
-//! Stage: heaps. Whether what stands in a tuple, an unboxed record or a cell of slots is as many values, or has the names, that a type asks for.
+//! Stage: heaps. Whether what stands in a tuple, a record or a cell is as many values, or has the names, that a type asks for.
 //! Role: part of `cg_heaptext`.
 //! Promises: `have_names` and `are_as_many` answer exactly; `most_of` is the greatest number of a word.
 //! May cite: anything below it, of its stage and of those below; no crate above.

@@ -57,7 +57,9 @@ fn contents_are_read(rt: HostRuntime) -> Result<(), Fail> {
                         column: 15
                     })
             );
-            assert!(rt; answers(rt.alloc(), &allocator.cell)?.as_slice() == [true, false].as_slice());
+            assert!(rt;
+                answers(rt.alloc(), &allocator.cell)?.as_slice() == [true, false].as_slice()
+            );
             Ok(())
         }
         _ => panic!(rt; "other entries"),

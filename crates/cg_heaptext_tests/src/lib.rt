@@ -13,4 +13,6 @@ mod index;
 #[cfg(test)]
 mod read;
 #[cfg(test)]
+mod scalars;
+#[cfg(test)]
 mod values;
