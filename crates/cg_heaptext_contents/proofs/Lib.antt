@@ -1,0 +1,3 @@
+pub mod ContentSteps
+pub mod LooseSmall
+pub mod Small
