@@ -1,3 +1,4 @@
 pub mod ContentSteps
 pub mod LooseSmall
+pub mod PlacingSteps
 pub mod Small

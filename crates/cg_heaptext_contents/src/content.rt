@@ -19,6 +19,7 @@ const MOST_ELEMENTS: usize = 1_048_576;
 
 /// What a cell holds; the earliest of its numbers that are above 2^64 - 1, where nobody reads it; and whether it is an array of more than
 /// 1,048,576 elements.
+#[derive(Drop)]
 pub struct Content {
     pub cell: Cell,
     pub over: Option<Place>,

@@ -1,10 +1,12 @@
-//! Stage: heaps. What the cell of an entry of a heap file holds.
+//! Stage: heaps. What the cells of a heap file hold.
 //! Role: part of `cg_heaptext`.
-//! Promises: `content_of` gives what a cell holds that is read at a type or by nobody, exactly where that fits machine words.
+//! Promises: `content_of` gives what a cell holds, and `place_cells` all cells with their addresses, exactly where they fit machine words.
 //! May cite: anything below it, of its stage and of those below; no crate above.
 //! docs/LANGUAGE.md, "Heap files", says what cells hold.
 #![tactic(auto)]
 
 mod content;
+mod placing;
 
 pub use content::{Content, content_of};
+pub use placing::{Placed, Placing, place_cells};

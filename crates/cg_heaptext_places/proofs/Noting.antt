@@ -1,12 +1,12 @@
 -- What was noted last is the first of all places that were noted.
-use Rattle.std.proofs.Common.{◌≡◌, ℕ, zero, suc, ◌≤◌, Bool, true, false, ◌&&◌, ◌⊎◌, inl, inr, List, [], ◌∷◌, ◌++◌, refl, sym, ap, ◌∙◌, arith, subst}
-use Rattle.std.proofs.lemmas.Bool.{and_parts, eq-eqb, eqb-true, ltb-false, ltb-true, or_parts}
+use Rattle.std.proofs.Common.{◌≡◌, ℕ, zero, suc, ◌<◌, ◌≤◌, Bool, true, false, ◌&&◌, ◌⊎◌, inl, inr, List, [], ◌∷◌, ◌++◌, refl, sym, ap, ◌∙◌, arith, subst}
+use Rattle.std.proofs.lemmas.Bool.{and_parts, cases_lt, eq-eqb, eqb-true, ltb-false, ltb-true, or_parts}
 use Rattle.std.specs.Prelude.{nat_lt, ◌==◌, slice_get, Option, Some, None, if◌then◌else◌}
 use Rattle.cg_base.proofs.Options.{some_is}
 use Rattle.cg_base.proofs.Truths.{either_bool, or_cases}
 use Rattle.cg_base.specs.declared.place.Place.{Place}
 use Rattle.cg_base.specs.Places.{IsBefore}
-use Rattle.cg_heaptext_places.specs.Noted.{AreThose, IsLeast, is_before, noted, noted_all}
+use Rattle.cg_heaptext_places.specs.Noted.{AreThose, IsLeast, is_before, joined, noted, noted_all}
 
 -- ---- places in their order
 
@@ -44,6 +44,28 @@ chained p m q a b = record {
 never : (p q : Place) → NotBefore p q → IsBefore p q → ⊥
 never p q n (inl l) = omega (arith, n.line, l)
 never p q n (inr b) = let c = n.column b.0 in omega (arith, c, b.1)
+
+-- what isn't before another is that one or behind it
+in_order : (p q : Place) → (IsBefore p q → ⊥) → NotBefore p q
+in_order p q none = at (cases_lt p.line q.line)
+  where
+    at : (p.line < q.line) ⊎ (q.line ≤ p.line) → NotBefore p q
+    at (inl l) = absurd (none (inl l))
+    at (inr l) = record { line = l; column = λ same. column same (cases_lt p.column q.column) }
+      where
+        column : p.line ≡ q.line → (p.column < q.column) ⊎ (q.column ≤ p.column) → q.column ≤ p.column
+        column same (inl c) = absurd (none (inr (same, c)))
+        column same (inr c) = c
+
+sooner : (p m q : Place) → IsBefore p m → NotBefore q m → IsBefore p q
+sooner p m q (inl l) n = inl (omega (arith, l, n.line))
+sooner p m q (inr b) n = at (cases_lt m.line q.line)
+  where
+    at : (m.line < q.line) ⊎ (q.line ≤ m.line) → IsBefore p q
+    at (inl l) = inl (omega (arith, l, b.0))
+    at (inr l) =
+        let same : q.line ≡ m.line = omega (arith, l, n.line) in let c = n.column same in
+        inr (b.0 ∙ sym same, omega (arith, c, b.1))
 
 -- ---- noting
 
@@ -133,3 +155,42 @@ noted_more found (q ∷ ps) p = noted_more (noted found q) ps p
 pub noted_both : (found : Option Place) (ps qs : List Place) → noted_all found (ps ++ qs) ≡ noted_all (noted_all found ps) qs
 noted_both found [] qs = refl
 noted_both found (p ∷ ps) qs = noted_both (noted found p) ps qs
+
+-- ---- what was found of two things, or of one
+
+module _ (P Q R : Place → Type 0) (left : (p : Place) → P p → R p) (right : (p : Place) → Q p → R p) (either : (p : Place) → R p → P p ⊎ Q p) where
+  -- the first place of two, of which something else holds each
+  pub joined_least : (found other : Option Place) → IsLeast P found → IsLeast Q other → IsLeast R (joined found other)
+  joined_least None None a b = λ p r. at p (either p r)
+    where
+      at : (p : Place) → P p ⊎ Q p → ⊥
+      at p (inl x) = a p x
+      at p (inr y) = b p y
+  joined_least None (Some q) a b = (right q b.0, λ p r before. at p before (either p r))
+    where
+      at : (p : Place) → IsBefore p q → P p ⊎ Q p → ⊥
+      at p before (inl x) = a p x
+      at p before (inr y) = b.1 p y before
+  joined_least (Some q) None a b = (left q a.0, λ p r before. at p before (either p r))
+    where
+      at : (p : Place) → IsBefore p q → P p ⊎ Q p → ⊥
+      at p before (inl x) = a.1 p x before
+      at p before (inr y) = b p y
+  joined_least (Some q) (Some s) a b = by (either_bool (is_before s q))
+    where
+      first : (p : Place) → NotBefore q s → IsBefore p s → P p ⊎ Q p → ⊥
+      first p n before (inl x) = never p q (in_order p q (a.1 p x)) (sooner p s q before n)
+      first p n before (inr y) = b.1 p y before
+
+      by : (is_before s q ≡ true) ⊎ (is_before s q ≡ false) → IsLeast R (noted (Some q) s)
+      by (inl e) = subst (IsLeast R) (ap (λ c. if c then Some s else Some q) (sym e)) (right s b.0, λ p r before. first p (behind s q e) before (either p r))
+      by (inr e) = subst (IsLeast R) (ap (λ c. if c then Some s else Some q) (sym e)) (left q a.0, λ p r before. second p before (either p r))
+        where
+          second : (p : Place) → IsBefore p q → P p ⊎ Q p → ⊥
+          second p before (inl x) = a.1 p x before
+          second p before (inr y) = never p q (chained p s q (in_order p s (b.1 p y)) (not_before s q e)) before
+
+-- the same places, said otherwise
+pub same_least : (P R : Place → Type 0) → ((p : Place) → P p → R p) → ((p : Place) → R p → P p) → (found : Option Place) → IsLeast P found → IsLeast R found
+same_least P R to back None a = λ p r. a p (back p r)
+same_least P R to back (Some q) a = (to q a.0, λ p r before. a.1 p (back p r) before)

@@ -12,6 +12,11 @@ abbrev pub noted : Option Place → Place → Option Place
 noted None p = Some p
 noted (Some q) p = if is_before p q then Some p else Some q
 
+-- of what was found, and of what else was
+abbrev pub joined : Option Place → Option Place → Option Place
+joined found None = found
+joined found (Some p) = noted found p
+
 -- and of what was found and all these
 abbrev pub noted_all : Option Place → List Place → Option Place
 noted_all found [] = found

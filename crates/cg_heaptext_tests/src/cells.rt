@@ -1,7 +1,8 @@
 // What stands in one cell.
-use cg_base::Place;
+use cg_base::{Items, Place};
 use cg_heap::Scalar;
 use cg_heaptext_cells::{CellForm, answers, elements, form, loose_slots};
+use cg_heaptext_contents::{Placed, place_cells};
 use cg_heaptext_entries::read_entries;
 use std::test::Fail;
 
@@ -10,6 +11,11 @@ const FILE: &str = "@1 = {a = A (B (), C), b = #{c = (True, _)}, d = @ 1, e = 18
 @3 = <1, 0>
 arg = ()
 ";
+
+/// The address of a cell.
+fn address(placed: &Placed) -> u64 {
+    placed.at
+}
 
 /// A scalar as text.
 fn text(scalar: &Scalar) -> (u8, u64) {
@@ -64,4 +70,23 @@ fn contents_are_read(rt: HostRuntime) -> Result<(), Fail> {
         }
         _ => panic!(rt; "other entries"),
     }
+}
+
+#[test]
+fn cells_are_placed(rt: HostRuntime) -> Result<(), Fail> {
+    let index = match read_entries(rt.alloc(), FILE.as_bytes()) {
+        Ok(index) => index,
+        Err(_) => panic!(rt; "no heap file"),
+    };
+    let placing = place_cells(rt.alloc(), &index.entries, &Items::new(rt.alloc()))?;
+    assert!(rt; placing.cells.as_slice().iter().map(address).eq([1, 2, 3]));
+    assert!(rt;
+        placing.over
+            == Some(Place {
+                line: 1,
+                column: 59
+            })
+    );
+    assert!(rt; placing.large.is_none());
+    Ok(())
 }

@@ -1,6 +1,6 @@
 // The earliest of places that come one by one.
 ghost use Rattle.std.specs.Prelude.{◌≡◌};
-ghost use Rattle.cg_heaptext_places.specs.Noted.{is_before as stands_before, noted};
+ghost use Rattle.cg_heaptext_places.specs.Noted.{is_before as stands_before, joined, noted};
 
 use cg_base::Place;
 
@@ -18,5 +18,15 @@ pub fn earlier(found: Option<Place>, place: Place) -> Option<Place>
     match found {
         Some(other) if !is_before(place, other) => Some(other),
         _ => Some(place),
+    }
+}
+
+/// The earlier of two places that were found, where there are such.
+pub fn earliest(found: Option<Place>, other: Option<Place>) -> Option<Place>
+    ensures { result ≡ joined found other }
+{
+    match other {
+        Some(place) => earlier(found, place),
+        None => found,
     }
 }
