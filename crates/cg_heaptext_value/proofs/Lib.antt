@@ -1,0 +1,7 @@
+pub mod Capping
+pub mod Digits
+pub mod Forms
+pub mod Found
+pub mod Gathering
+pub mod Listing
+pub mod Told
