@@ -1,0 +1,7 @@
+mod Bare
+mod Cells
+mod Counting
+mod Entering
+pub mod Noting
+mod Tuples
+mod Within
