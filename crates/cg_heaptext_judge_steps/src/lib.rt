@@ -1,6 +1,6 @@
 //! Stage: heaps. What is met in one value of a heap file or in one cell at a type, without what stands in it.
 //! Role: part of `cg_heaptext`.
-//! Promises: each function notes or tells exactly what `Reading.events` says of the value or the cell.
+//! Promises: each function notes or tells exactly what the definition says of the value or the cell.
 //! May cite: anything below it, of its stage and of those below; no crate above.
 //! docs/LANGUAGE.md, "Heap files", says what is met.
 #![tactic(auto)]
