@@ -1,0 +1,6 @@
+mod Answering
+mod Applying
+mod Entered
+mod Listing
+mod Plain
+mod There
