@@ -7,13 +7,13 @@ mod Fine
 mod Found
 mod Holding
 mod Opening
-mod Representing
+pub mod Representing
 mod Shapes
 mod SmallCells
 mod SmallLoose
 mod SmallReads
 mod SmallScalars
-mod SmallTexts
+pub mod SmallTexts
 mod SmallValues
 mod Stable
 mod Standing

@@ -9,6 +9,8 @@ mod cells;
 #[cfg(test)]
 mod entries;
 #[cfg(test)]
+mod heap;
+#[cfg(test)]
 mod index;
 #[cfg(test)]
 mod read;

@@ -1,0 +1,4 @@
+pub mod Faulting
+pub mod Reaching
+pub mod Starting
+pub mod Whole

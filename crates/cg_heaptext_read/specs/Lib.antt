@@ -1,0 +1,4 @@
+pub mod Answers
+pub mod Faults
+pub mod Reach
+pub mod Typed
