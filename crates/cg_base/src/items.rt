@@ -1,5 +1,5 @@
 // Lists.
-ghost use Rattle.std.specs.Prelude.{◌≡◌, [], ◌∷◌, ◌++◌, ◌<◌, length, slice_get, OnOk, OnErr, OnSome};
+ghost use Rattle.std.specs.Prelude.{◌≡◌, [], ◌∷◌, ◌++◌, ◌<◌, length, option_to_list, slice_get, OnOk, OnErr, OnSome, IfNone};
 ghost use Rattle.std.specs.Option.{option_copied};
 ghost use Rattle.std.specs.Borrow.{Lends, sem, Array};
 ghost use Rattle.cg_base.specs.contracts.items.Items.{the_row};
@@ -45,6 +45,14 @@ impl<T> Items<T> {
     {
         self.items.push(item)?;
         Ok(())
+    }
+
+    /// Takes the last item off; None exactly where there is none.
+    pub fn pop(&mut self) -> Option<T>
+        ensures items { self.old ≡ self.new ++ option_to_list result }
+        ensures none { IfNone result (length self.old ≡ 0) }
+    {
+        self.items.pop()
     }
 
     /// The item at a place, counted from 0; None exactly where there is no such item.

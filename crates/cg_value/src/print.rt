@@ -112,8 +112,8 @@ fn are_components(parts: &[Part]) -> bool
     true
 }
 
-// Whether a record is a tuple.
-fn is_tuple(parts: &[Part], sigil: Sigil) -> bool
+/// Whether a record of these fields and this sigil is a tuple (docs/LANGUAGE.md, "Values").
+pub fn is_tuple(parts: &[Part], sigil: Sigil) -> bool
     ensures { result ≡ text.is_tuple (to_parts (map part_of parts.now)) sigil }
 {
     match sigil {
