@@ -1,4 +1,4 @@
-//! Stage: tests. Tests of stores, of values that are read out of them, and of the library on them.
+//! Stage: tests. Tests of stores, of values that are read out of them, of what they reach, and of the library on them.
 //! Role: tests.
 //! Promises: nothing: tests alone.
 //! May cite: all crates; no crate but tests cites it.
@@ -10,5 +10,7 @@ mod cells;
 mod library;
 #[cfg(test)]
 mod random;
+#[cfg(test)]
+mod reach;
 #[cfg(test)]
 mod read;

@@ -23,7 +23,7 @@ fn part(alloc: Global, name: &[u8], ty: Ty) -> Result<Part, Memory> {
 }
 
 /// A boxed record of a byte and an array of bytes.
-fn record_type(alloc: Global) -> Result<Ty, Memory> {
+pub(crate) fn record_type(alloc: Global) -> Result<Ty, Memory> {
     let mut parts = Items::new(alloc);
     parts.push(part(alloc, b"x", Ty::Word(Word::U8))?)?;
     parts.push(part(alloc, b"y", array_type(alloc)?)?)?;

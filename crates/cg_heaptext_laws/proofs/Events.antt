@@ -1,5 +1,5 @@
 -- What is asked of each thing that is met as a value is read.
-use Rattle.std.proofs.Common.{◌≡◌, ℕ, ◌^◌, Bool, List, [], ◌∷◌, map, Option, Some, None, if◌then◌else◌}
+use Rattle.std.proofs.Common.{ℕ, ◌^◌, Bool, List, [], ◌∷◌, map, Option, Some, None, if◌then◌else◌}
 use Rattle.cg_base.specs.declared.place.Place.{Place}
 use Rattle.cg_base.specs.Types.{word, Taus, none, more}
 use Rattle.cg_base.specs.Words.{bits}
@@ -18,11 +18,6 @@ abbrev pub IsPlain : Event → Type 0
 IsPlain (misfit p) = Unit {0}
 IsPlain (counted n bound) = Unit {0}
 IsPlain (mention p q t) = ⊥
-
--- where a cell is there, it is met as one that doesn't fit
-pub misfit_is_met : (c : Cell) (o : Option Cell) → o ≡ Some c → Each Fits (misfit_cell o) → ⊥
-misfit_is_met c None e f = absurd (cc)
-misfit_is_met c (Some d) e f = f.0
 
 -- ---- where nothing is mentioned
 

@@ -11,9 +11,9 @@ pub mod Representing
 mod Shapes
 mod SmallCells
 mod SmallLoose
-mod SmallReads
+pub mod SmallReads
 mod SmallScalars
 pub mod SmallTexts
-mod SmallValues
+pub mod SmallValues
 mod Stable
 mod Standing

@@ -90,7 +90,7 @@ module _ (h : Heap) (t : Tau) (no_over : Never (IsOver h t)) where
         let f = found h.entries q met.0.0 met.0.1 in
         subst (λ q. q < 2 ^ 64) f.same (near (amount f.entry.address) (λ far. no_over f.entry.address.place (entry_out f.i f.entry f.there (inr far) refl)))
 
-    all_narrow : Each IsNarrow (read_events h t)
+    pub all_narrow : Each IsNarrow (read_events h t)
     all_narrow = each_from IsNarrow (read_events h t) narrow
 
     -- ---- so entries are small

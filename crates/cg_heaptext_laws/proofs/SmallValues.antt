@@ -21,7 +21,7 @@ IsNarrow (counted n bound) = amount n < bound
 IsNarrow (mention p q t) = q < 2 ^ 64
 
 -- a type has a node
-one_node : (t : Tau) → 1 ≤ nodes t
+pub one_node : (t : Tau) → 1 ≤ nodes t
 one_node (var n) = omega arith
 one_node (seen n) = omega arith
 one_node unit = omega arith

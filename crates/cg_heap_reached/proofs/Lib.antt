@@ -1,0 +1,4 @@
+mod Cells
+mod Fronts
+pub mod Listed
+mod Steps

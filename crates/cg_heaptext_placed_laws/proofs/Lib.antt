@@ -1,0 +1,3 @@
+pub mod Placing
+mod Counts
+mod Spread
