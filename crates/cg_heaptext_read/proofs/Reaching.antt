@@ -1,5 +1,5 @@
 -- The addresses of cells that are mentioned, and the types of the first mentions.
-use Rattle.std.proofs.Common.{◌≡◌, ℕ, zero, suc, ◌+◌, ◌<◌, ◌≤◌, ◌≢◌, ◌⊎◌, inl, inr, true, false, List, [], ◌∷◌, ◌++◌, map, refl, sym, ap, ◌∙◌, subst, arith}
+use Rattle.std.proofs.Common.{◌≡◌, ℕ, zero, suc, ◌+◌, ◌<◌, ◌≤◌, ◌≢◌, ◌⊎◌, inl, inr, true, false, List, [], ◌∷◌, map, refl, sym, ap, ◌∙◌, subst, arith}
 use Rattle.std.proofs.Math.Nat.{eq-or-lt_of_le}
 use Rattle.std.proofs.lemmas.Bool.{cases_lt, eq-eqb, eqb-false, eqb-true, ne_eqb}
 use Rattle.std.proofs.lemmas.Option.{slice_get-map}
@@ -21,7 +21,9 @@ use Rattle.cg_heaptext_def.specs.Trees.{Entry, Heap, amount}
 use Rattle.cg_heaptext_judge_def.specs.Judging.{Met, met_in}
 use Rattle.cg_heaptext_judge_notes.specs.Notes.{AreMet, IsMet}
 use Rattle.cg_heaptext_judge_notes.specs.declared.notes.Mentioned.{Mentioned}
-use Rattle.cg_heaptext_read.specs.Reach.{address_of, is_at, mentioned_at, reached_by, times}
+use Rattle.cg_heap_reached.proofs.Listed.{times_both}
+use Rattle.cg_heap_reached.specs.Times.{times}
+use Rattle.cg_heaptext_read.specs.Reach.{address_of, is_at, mentioned_at, reached_by}
 
 -- ---- positions
 
@@ -46,10 +48,6 @@ pub position_is : (ns : List ℕ) (n k : ℕ) → position_from 0 ns n ≡ Some 
 position_is ns n k e = let r = position_holds ns 0 n k e in let s : r.0 ≡ k = omega (arith, r.1) in subst (λ j. slice_get ns j ≡ Some n) s r.2
 
 -- ---- what is reached
-
-times_both : (xs ys : List ℕ) (q : ℕ) → times (xs ++ ys) q ≡ times xs q + times ys q
-times_both [] ys q = omega arith
-times_both (x ∷ xs) ys q = let r = times_both xs ys q in omega (arith, r)
 
 counted_one : (m s : Sigil) (p q : ℕ) → times (if is_at m s then p ∷ [] else []) q ≡ counted' m s p q
 counted_one R R p q = omega arith

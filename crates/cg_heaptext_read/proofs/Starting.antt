@@ -16,17 +16,18 @@ use Rattle.cg_heaptext_judge_notes.specs.declared.notes.Mentioned.{Mentioned}
 use Rattle.cg_heaptext_laws.proofs.Representing.{texts_represent}
 use Rattle.cg_heaptext_laws.proofs.SmallTexts.{texts_are_small}
 use Rattle.cg_heaptext_read.proofs.Reaching.{times_reached}
-use Rattle.cg_heaptext_read.specs.Reach.{mentioned_at, times}
+use Rattle.cg_heap_reached.specs.Times.{times}
+use Rattle.cg_heaptext_read.specs.Reach.{mentioned_at}
 use Rattle.cg_heaptext_value.proofs.Capping.{held_is_capped}
 use Rattle.cg_heaptext_value.specs.Capped.{capped_value}
 use Rattle.cg_heaptext_value.specs.World.{no_world}
 use Rattle.cg_heaptext_read.specs.Typed.{Faultless, Holds}
 use Rattle.cg_heaptext_read.specs.declared.start.Start.{Start}
 use Rattle.cg_heaptext_scalars.specs.Given.{capped}
-use Rattle.cg_typing.specs.Parts.{nodes}
+use Rattle.cg_typing.specs.Parts.{nodes, type_size}
 use Rattle.cg_value.specs.Values.{value_of}
 
-module _ (h : Heap) (t : Tau) (none : Faultless h t) (narrow : nodes t ≤ 1024) where
+module _ (h : Heap) (t : Tau) (none : Faultless h t) (narrow : nodes t ≤ type_size) where
   are_small : AreSmall h t
   are_small i e there = (by (cases_lt most_addresses (amount e.address)), (texts_are_small h t narrow none.0).1 i e there)
     where

@@ -1,5 +1,5 @@
 -- What each step answers, of the whole file.
-use Rattle.std.proofs.Common.{◌≡◌, ℕ, List, map, refl, sym, subst}
+use Rattle.std.proofs.Common.{◌≡◌, ℕ, ◌≤◌, List, map, refl, sym, subst}
 use Rattle.std.specs.Prelude.{Result, Ok, Err}
 use Rattle.cg_base.specs.declared.kind.Sigil.TheVariants.{R, W}
 use Rattle.cg_base.specs.Types.{Tau}
@@ -7,6 +7,8 @@ use Rattle.cg_heap.specs.Reps.{HeapWorld, Represents}
 use Rattle.cg_heaptext_contents.specs.Placings.{pair_of}
 use Rattle.cg_heaptext_def.specs.Footprints.{held_in, reached}
 use Rattle.cg_heaptext_def.specs.Grammar.{HeapSpells}
+use Rattle.cg_heaptext_def.specs.Placed.{CanBePlaced}
+use Rattle.cg_heaptext_placed_laws.proofs.Placing.{texts_can_be_placed}
 use Rattle.cg_heaptext_def.specs.HeapText.{Fault, IsFaulty, Lacks, absent, aliased, cells_of, large, misfits, over, placed, read_events, second}
 use Rattle.cg_heaptext_def.specs.Reading.{scalars, value}
 use Rattle.cg_heaptext_def.specs.Trees.{Heap, bare}
@@ -16,14 +18,15 @@ use Rattle.cg_heaptext_index.specs.Addresses as index
 use Rattle.cg_heaptext_judge_notes.specs.declared.fault.JudgeFault.{JudgeFault}
 use Rattle.cg_heaptext_judge_notes.specs.declared.fault.JudgeFault.TheVariants as judge
 use Rattle.cg_heaptext_laws.proofs.Representing.{texts_represent}
-use Rattle.cg_heaptext_read.specs.Answers.{Answers}
+use Rattle.cg_heaptext_read.specs.Answers.{Answers, IsHeld}
 use Rattle.cg_heaptext_read.specs.Faults.{of_address, of_judge}
-use Rattle.cg_heaptext_read.specs.Reach.{times}
+use Rattle.cg_heap_reached.specs.Times.{times}
 use Rattle.cg_heaptext_judge.specs.Answers as judged
 use Rattle.cg_heaptext_read.specs.Typed.{Faultless, Gives, Holds, IsFirst, Passes}
 use Rattle.cg_heaptext_read.specs.declared.fault.HeapFault.{HeapFault}
 use Rattle.cg_heaptext_read.specs.declared.fault.HeapFault.TheVariants.{H1, H2, H3, H4, H5, H6, H7, Memory}
 use Rattle.cg_heaptext_read.specs.declared.start.Start.{Start}
+use Rattle.cg_typing.specs.Parts.{nodes, type_size}
 use Rattle.cg_value.specs.Values.{value_of}
 
 -- ---- all
@@ -44,12 +47,16 @@ faulty : (bytes : List ℕ) (h : Heap) (t : Tau) (fault : Fault) (line : ℕ) �
 faulty bytes h t fault line spells f = record { heap = h; spells = spells; before = f.0; place = f.1.0; at = f.1.1; stands = f.1.2 }
 
 pub answers : (bytes : List ℕ) (h : Heap) (t : Tau) (r : Result Start HeapFault) → HeapSpells bytes h → Gives h t r → Answers bytes t r
-answers bytes h t (Ok start) spells g = λ narrow.
-    let all = g narrow in
-    record {
-      text = record { heap = h; spells = spells; sound = all.0; are_cells = all.1.cells; is_argument = all.1.arg; is_value = all.1.value };
-      represents = represented h t start all.0 all.1;
-    }
+answers bytes h t (Ok start) spells g = record { heap = h; spells = spells; sound = g.0; holds = held }
+  where
+    held : nodes t ≤ type_size → IsHeld bytes t start
+    held narrow =
+        let all = g.1 narrow in
+        record {
+          text = record { heap = h; spells = spells; sound = g.0; are_cells = all.cells; is_argument = all.arg; is_value = all.value };
+          represents = represented h t start g.0 all;
+          placeable = λ short. subst CanBePlaced (sym all.cells) (texts_can_be_placed bytes h t short narrow spells g.0.0 g.0.1);
+        }
 answers bytes h t (Err (H1 line)) spells g = absurd g
 answers bytes h t (Err (H2 line)) spells g = faulty bytes h t second line spells g
 answers bytes h t (Err (H3 line)) spells g = faulty bytes h t absent line spells g

@@ -1,17 +1,11 @@
 -- Which cells are reached, to read and to write (docs/LANGUAGE.md, "Heap files").
-use Rattle.std.specs.Prelude.{ℕ, ◌+◌, nat_eq, Bool, true, false, List, [], ◌∷◌, ◌++◌, slice_get, Option, Some, None, if◌then◌else◌}
+use Rattle.std.specs.Prelude.{ℕ, Bool, true, false, List, [], ◌∷◌, ◌++◌, slice_get, Option, Some, None, if◌then◌else◌}
 use Rattle.cg_base.specs.declared.kind.Sigil.{Sigil}
 use Rattle.cg_base.specs.declared.kind.Sigil.TheVariants.{R, W}
 use Rattle.cg_base.specs.Types.{type_of}
-use Rattle.cg_heap.specs.Reps.{one_if}
 use Rattle.cg_heaptext_contents.specs.declared.placing.Placed.{Placed}
 use Rattle.cg_heaptext_def.specs.Footprints.{sigil_of}
 use Rattle.cg_heaptext_judge_notes.specs.declared.notes.Mentioned.{Mentioned}
-
--- how often a number stands in a list
-abbrev pub times : List ℕ → ℕ → ℕ
-times [] q = 0
-times (n ∷ ns) q = one_if (nat_eq n q) + times ns q
 
 -- a cell of this sigil is reached at that one
 abbrev pub is_at : Sigil → Sigil → Bool

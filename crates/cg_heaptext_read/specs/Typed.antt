@@ -16,8 +16,8 @@ use Rattle.cg_heaptext_index.specs.declared.map.Addresses.{Addresses}
 use Rattle.cg_heaptext_read.specs.declared.fault.HeapFault.{HeapFault}
 use Rattle.cg_heaptext_read.specs.declared.fault.HeapFault.TheVariants.{H1, H2, H3, H4, H5, H6, H7, Memory}
 use Rattle.cg_heaptext_read.specs.declared.start.Start.{Start}
-use Rattle.cg_heaptext_read.specs.Reach.{times}
-use Rattle.cg_typing.specs.Parts.{nodes}
+use Rattle.cg_heap_reached.specs.Times.{times}
+use Rattle.cg_typing.specs.Parts.{nodes, type_size}
 use Rattle.cg_value.specs.Values.{value_of}
 
 -- the bytes are this heap file, and these are its entries
@@ -50,7 +50,7 @@ IsFirst fault h t line = LacksBefore fault h t × ((place : Place) × At fault h
 
 -- this is what a heap file holds, or its first fault
 abbrev pub Gives : Heap → Tau → Result Start HeapFault → Type 0
-Gives h t (Ok start) = nodes t ≤ 1024 → Faultless h t × Holds h t start
+Gives h t (Ok start) = Faultless h t × (nodes t ≤ type_size → Holds h t start)
 Gives h t (Err (H1 line)) = ⊥
 Gives h t (Err (H2 line)) = IsFirst second h t line
 Gives h t (Err (H3 line)) = IsFirst absent h t line

@@ -11,7 +11,7 @@ ghost use Rattle.cg_heaptext_mentions.specs.Judged.{IsOut};
 ghost use Rattle.cg_heaptext_places.specs.Noted.{IsLeast};
 ghost use Rattle.cg_heaptext_read.specs.Answers.{Answers};
 ghost use Rattle.cg_heaptext_read.specs.Typed.{Faultless, Gives, Holds, IsFile, IsSound, Passes};
-ghost use Rattle.cg_typing.specs.Parts.{nodes};
+ghost use Rattle.cg_typing.specs.Parts.{nodes, type_size};
 
 use crate::fault::HeapFault;
 use crate::reach::addresses_at;
@@ -31,7 +31,8 @@ use std::alloc::Global;
 
 /// What a heap file holds at the type of an argument (docs/LANGUAGE.md, "Heap files"): its cells, the argument's scalars, the value that
 /// they stand for, and what the argument reaches; or the first of H1 to H7, each looked for over the whole file before the next, with its
-/// line; or `Memory` where memory is wanting. It takes time in proportion to the file, the value, and for each entry to the mentions.
+/// line; or `Memory` where memory is wanting. It takes time in proportion to the file, the value, what nests in the type, and for each entry to
+/// the mentions.
 pub fn read_heap(alloc: Global, bytes: &[u8], ty: &Ty) -> Result<Start, HeapFault>
     ensures { Answers bytes.now (type_of ty.now) result }
 {
@@ -93,7 +94,7 @@ fn start(
     mentions: &Items<Mentioned>,
     placing: Placing,
 ) -> Result<Start, Memory>
-    ensures { (h : Heap) → IsSound index.now addresses.now h → Faultless h (type_of ty.now) → nodes (type_of ty.now) ≤ 1024 → AreMet (amounts h) mentions.now (met_in (read_events h (type_of ty.now))) → IsPlacing h (type_of ty.now) placing
+    ensures { (h : Heap) → IsSound index.now addresses.now h → Faultless h (type_of ty.now) → nodes (type_of ty.now) ≤ type_size → AreMet (amounts h) mentions.now (met_in (read_events h (type_of ty.now))) → IsPlacing h (type_of ty.now) placing
         → IfOk result (λ s. Holds h (type_of ty.now) s) }
 {
     let argument = ValueAt::argument(index);

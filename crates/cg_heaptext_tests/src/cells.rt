@@ -27,7 +27,7 @@ fn text(scalar: &Scalar) -> (u8, u64) {
 }
 
 #[test]
-fn contents_are_read(rt: HostRuntime) -> Result<(), Fail> {
+fn forms_are_told(rt: HostRuntime) -> Result<(), Fail> {
     let index = match read_entries(rt.alloc(), FILE.as_bytes()) {
         Ok(index) => index,
         Err(_) => panic!(rt; "no heap file"),
@@ -37,6 +37,20 @@ fn contents_are_read(rt: HostRuntime) -> Result<(), Fail> {
             assert!(rt; matches!(form(&record.cell), CellForm::Slots));
             assert!(rt; matches!(form(&array.cell), CellForm::Elements));
             assert!(rt; matches!(form(&allocator.cell), CellForm::Answers));
+            Ok(())
+        }
+        _ => panic!(rt; "other entries"),
+    }
+}
+
+#[test]
+fn loose_slots_are_read(rt: HostRuntime) -> Result<(), Fail> {
+    let index = match read_entries(rt.alloc(), FILE.as_bytes()) {
+        Ok(index) => index,
+        Err(_) => panic!(rt; "no heap file"),
+    };
+    match index.entries.as_slice() {
+        [record, ..] => {
             let loose = loose_slots(rt.alloc(), &record.cell)?;
             let slots = [
                 (b'w', 0),
@@ -54,6 +68,20 @@ fn contents_are_read(rt: HostRuntime) -> Result<(), Fail> {
                         column: 59
                     })
             );
+            Ok(())
+        }
+        _ => panic!(rt; "other entries"),
+    }
+}
+
+#[test]
+fn elements_are_read(rt: HostRuntime) -> Result<(), Fail> {
+    let index = match read_entries(rt.alloc(), FILE.as_bytes()) {
+        Ok(index) => index,
+        Err(_) => panic!(rt; "no heap file"),
+    };
+    match index.entries.as_slice() {
+        [_, array, _] => {
             let numbers = elements(rt.alloc(), &array.cell, 255)?;
             assert!(rt; numbers.numbers.as_slice() == [1, 7, 256, 3].as_slice());
             assert!(rt;
@@ -63,6 +91,20 @@ fn contents_are_read(rt: HostRuntime) -> Result<(), Fail> {
                         column: 15
                     })
             );
+            Ok(())
+        }
+        _ => panic!(rt; "other entries"),
+    }
+}
+
+#[test]
+fn answers_are_read(rt: HostRuntime) -> Result<(), Fail> {
+    let index = match read_entries(rt.alloc(), FILE.as_bytes()) {
+        Ok(index) => index,
+        Err(_) => panic!(rt; "no heap file"),
+    };
+    match index.entries.as_slice() {
+        [.., allocator] => {
             assert!(rt;
                 answers(rt.alloc(), &allocator.cell)?.as_slice() == [true, false].as_slice()
             );

@@ -1,7 +1,7 @@
 // Whole heap files at the type of an argument.
 use cg_base::{Items, Memory, Name, Part, Sigil, Ty, Word};
-use cg_heap::Scalar;
-use cg_heaptext_read::{HeapFault, read_heap};
+use cg_heap::{MapStore, Scalar, Store};
+use cg_heaptext_read::{HeapFault, fill, read_heap};
 use cg_value::Value;
 use std::alloc::Global;
 use std::test::Fail;
@@ -91,5 +91,19 @@ fn a_cell_is_written_once(rt: HostRuntime) -> Result<(), Fail> {
         Ok(_) => panic!(rt; "no fault"),
         Err(found) => assert!(rt; found == HeapFault::H6(3)),
     }
+    Ok(())
+}
+
+#[test]
+fn cells_are_put_into_a_store(rt: HostRuntime) -> Result<(), Fail> {
+    let file = "@7 = [3, 4]\n@5 = <1>\narg = 1";
+    let start = match read_heap(rt.alloc(), file.as_bytes(), &Ty::Word(Word::U32)) {
+        Ok(start) => start,
+        Err(_) => panic!(rt; "a fault"),
+    };
+    let mut store = MapStore::new(rt.alloc());
+    fill(start, &mut store)?;
+    assert!(rt; store.len(7) == Some(2) && store.len(9).is_none());
+    assert!(rt; store.answer(5, 0) == Some(true) && store.top() == 7);
     Ok(())
 }

@@ -39,7 +39,7 @@ fn number(scalar: &Scalar) -> u64 {
 }
 
 #[test]
-fn scalars_are_read(rt: HostRuntime) -> Result<(), Fail> {
+fn slots_are_read(rt: HostRuntime) -> Result<(), Fail> {
     let index = match read_entries(rt.alloc(), FILE.as_bytes()) {
         Ok(index) => index,
         Err(_) => panic!(rt; "no heap file"),
@@ -52,6 +52,15 @@ fn scalars_are_read(rt: HostRuntime) -> Result<(), Fail> {
         }
         _ => panic!(rt; "other entries"),
     }
+    Ok(())
+}
+
+#[test]
+fn an_alternative_is_read(rt: HostRuntime) -> Result<(), Fail> {
+    let index = match read_entries(rt.alloc(), FILE.as_bytes()) {
+        Ok(index) => index,
+        Err(_) => panic!(rt; "no heap file"),
+    };
     let alternatives = Ty::Variant(parts(rt.alloc(), (b"A", b"B"), Ty::Unit)?);
     let scalars = scalars_at(rt.alloc(), &alternatives, &ValueAt::argument(&index))?;
     assert!(rt; scalars.as_slice().iter().map(number).eq([1, 9, 0]));
@@ -59,9 +68,8 @@ fn scalars_are_read(rt: HostRuntime) -> Result<(), Fail> {
 }
 
 #[test]
-fn cells_are_noted(rt: HostRuntime) -> Result<(), Fail> {
+fn aliases_are_noted(rt: HostRuntime) -> Result<(), Fail> {
     let record = Ty::Fields(parts(rt.alloc(), (b"a", b"b"), Ty::Bool)?, Sigil::W);
-    let other = Ty::Fields(parts(rt.alloc(), (b"a", b"b"), Ty::Unit)?, Sigil::R);
     let first = Place { line: 1, column: 1 };
     let second = Place { line: 2, column: 1 };
     let mut judged = Judged::new(rt.alloc());
@@ -69,7 +77,17 @@ fn cells_are_noted(rt: HostRuntime) -> Result<(), Fail> {
     assert!(rt; judged.aliased.is_none());
     assert!(rt; judged.mention(rt.alloc(), second, 3, &record).is_ok());
     assert!(rt; judged.aliased == Some(second));
-    assert!(rt; judged.mention(rt.alloc(), first, 3, &other) == Err(JudgeFault::Misfit(first)));
     assert!(rt; judged.mentions.len() == 2);
+    Ok(())
+}
+
+#[test]
+fn other_shapes_misfit(rt: HostRuntime) -> Result<(), Fail> {
+    let record = Ty::Fields(parts(rt.alloc(), (b"a", b"b"), Ty::Bool)?, Sigil::W);
+    let other = Ty::Fields(parts(rt.alloc(), (b"a", b"b"), Ty::Unit)?, Sigil::R);
+    let place = Place { line: 1, column: 1 };
+    let mut judged = Judged::new(rt.alloc());
+    assert!(rt; judged.mention(rt.alloc(), place, 3, &record).is_ok());
+    assert!(rt; judged.mention(rt.alloc(), place, 3, &other) == Err(JudgeFault::Misfit(place)));
     Ok(())
 }
