@@ -1,16 +1,16 @@
--- Numbers above a bound, and what is given where none is.
+-- Numbers above a bound.
 use Rattle.std.proofs.Common.{◌≡◌, ℕ, zero, suc, ◌<◌, ◌≤◌, ◌^◌, Bool, true, false, ◌⊎◌, inl, inr, List, [], ◌∷◌, ◌++◌, map, Some, None, refl, sym, ap, ◌∙◌, subst, arith}
 use Rattle.std.proofs.lemmas.Bool.{ltb-false, ltb-true}
 use Rattle.std.specs.Prelude.{Option, nat_lt, slice_get, unwrap_or}
 use Rattle.cg_base.specs.declared.place.Place.{Place}
-use Rattle.cg_base.proofs.Options.{some_is, word_of}
+use Rattle.cg_base.proofs.Options.{some_is}
 use Rattle.cg_base.proofs.Truths.{either_bool}
 use Rattle.cg_heaptext_def.specs.HeapText.{Never}
 use Rattle.cg_heaptext_def.specs.Trees.{Numeral, amount}
 use Rattle.cg_heaptext_places.specs.Noted.{AreThose, IsLeast, noted_all}
 use Rattle.cg_heaptext_places.proofs.Noting.{least_of, noted_both}
 use Rattle.cg_heaptext_cells.specs.Cells.{IsAbove}
-use Rattle.cg_heaptext_cells.specs.Numbers.{given_of, most_word, places_above, with_place}
+use Rattle.cg_heaptext_cells.specs.Numbers.{places_above, with_place}
 
 -- ---- the places are those of the numbers above the bound
 
@@ -50,14 +50,6 @@ module _ (most : ℕ) where
   pub least_above : (ns : List Numeral) (over : Option Place) → over ≡ noted_all None (places_above most ns) → IsLeast (IsAbove most ns) over
   least_above ns over is = least_of (IsAbove most ns) over (places_above most ns) is (are_those ns)
 
-  within : (ns : List Numeral) → Never (IsAbove most ns) → (i : ℕ) (n : Numeral) → slice_get ns i ≡ Some n → (nat_lt most (amount n) ≡ true) ⊎ (nat_lt most (amount n) ≡ false) → amount n ≤ most
-  within ns never i n s (inl e) = absurd (never n.place (i, n, s, ltb-true most (amount n) e, refl))
-  within ns never i n s (inr e) = ltb-false most (amount n) e
-
-  -- where none was noted each is within the bound
-  pub all_within : (ns : List Numeral) (over : Option Place) → IsLeast (IsAbove most ns) over → over ≡ None → (i : ℕ) (n : Numeral) → slice_get ns i ≡ Some n → amount n ≤ most
-  all_within ns over least is i n s = within ns (subst (IsLeast (IsAbove most ns)) is least) i n s (either_bool (nat_lt most (amount n)))
-
   -- one number more behind those
   places_both : (ns ms : List Numeral) → places_above most (ns ++ ms) ≡ places_above most ns ++ places_above most ms
   places_both [] ms = refl
@@ -70,19 +62,3 @@ module _ (most : ℕ) where
   pub noted_behind : (ns ms : List Numeral) (over next : Option Place) → over ≡ noted_all None (places_above most ns) → next ≡ noted_all over (places_above most ms) → next ≡ noted_all None (places_above most (ns ++ ms))
   noted_behind ns ms over next is e =
       e ∙ ap (λ found. noted_all found (places_above most ms)) is ∙ sym (noted_both None (places_above most ns) (places_above most ms)) ∙ ap (noted_all None) (sym (places_both ns ms))
-
--- ---- what is given
-
--- a number below 2^64 is given as it is
-pub given_is : (n : Numeral) → amount n < 2 ^ 64 → given_of n.digits ≡ amount n
-given_is n h = ap (λ o. unwrap_or o most_word) (word_of (amount n) h)
-
-abbrev pub given_number : Numeral → ℕ
-given_number n = given_of n.digits
-
-pub given_all : (ns : List Numeral) → ((i : ℕ) (n : Numeral) → slice_get ns i ≡ Some n → amount n < 2 ^ 64) → map given_number ns ≡ map amount ns
-given_all [] h = refl
-given_all (n ∷ ns) h =
-    let here = given_is n (h zero n refl) in
-    let more = given_all ns (λ i m s. h (suc i) m s) in
-    λ i. here i ∷ more i

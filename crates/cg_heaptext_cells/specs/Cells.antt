@@ -1,8 +1,7 @@
 -- What is asked of one cell of a heap file, where no type is known (docs/LANGUAGE.md, "Heap files").
-use Rattle.std.specs.Prelude.{◌≡◌, ℕ, ◌<◌, ◌^◌, List, codes, slice_get, Some, if◌then◌else◌}
+use Rattle.std.specs.Prelude.{◌≡◌, ℕ, ◌<◌, List, codes, slice_get, Some, if◌then◌else◌}
 use Rattle.std.specs.Str.{bytes_eq}
 use Rattle.cg_base.specs.declared.place.Place.{Place}
-use Rattle.cg_heaptext_def.specs.HeapText.{Mention}
 use Rattle.cg_heaptext_def.specs.Trees as trees
 use Rattle.cg_heaptext_def.specs.Trees.{Numeral, amount, Cell}
 use Rattle.cg_heaptext_cells.specs.declared.cell.CellForm.{CellForm}
@@ -21,7 +20,3 @@ sign_form x = if bytes_eq x (codes "{") then Slots else if bytes_eq x (codes "["
 -- a number that is above a bound stands at this place
 abbrev pub IsAbove : ℕ → List Numeral → Place → Type 0
 IsAbove most ns place = (i : ℕ) × (n : Numeral) × (slice_get ns i ≡ Some n) × (most < amount n) × (place ≡ n.place)
-
--- each address is at most 2^64 - 1
-abbrev pub AreWords : List Mention → Type 0
-AreWords ms = (i : ℕ) (m : Mention) → slice_get ms i ≡ Some m → amount m.address < 2 ^ 64

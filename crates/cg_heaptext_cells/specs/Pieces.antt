@@ -4,9 +4,9 @@ use Rattle.std.specs.Prelude.{ℕ, zero, suc, Bool, ◌||◌, List, [], ◌∷�
 use Rattle.std.specs.Str.{bytes_eq}
 use Rattle.cg_heap.specs.declared.cell.Scalar.{Scalar}
 use Rattle.cg_heap.specs.declared.cell.Scalar.TheVariants.{Unset, Word, Address}
+use Rattle.cg_heaptext_def.specs.Small.{capped_number}
 use Rattle.cg_heaptext_def.specs.Tokens.{Token, number, lower, upper, sign}
-use Rattle.cg_heaptext_def.specs.Trees.{Numeral}
-use Rattle.cg_heaptext_cells.specs.Numbers.{given_of}
+use Rattle.cg_heaptext_def.specs.Trees.{Numeral, amount}
 use Rattle.cg_heaptext_cells.specs.declared.pieces.Gift.{Gift}
 use Rattle.cg_heaptext_cells.specs.declared.pieces.Gift.TheVariants.{Nothing, Counted, Addressed, Plain}
 use Rattle.cg_heaptext_cells.specs.declared.pieces.Held.{Held}
@@ -98,8 +98,8 @@ pieces_of Addressed n = addressed n ∷ []
 pieces_of (Plain u) n = plain u ∷ []
 
 abbrev pub given_scalar : Piece → Scalar
-given_scalar (counted n) = Word (given_of n.digits)
-given_scalar (addressed n) = Address (given_of n.digits)
+given_scalar (counted n) = Word (capped_number (amount n))
+given_scalar (addressed n) = Address (capped_number (amount n))
 given_scalar (plain u) = u
 
 -- the numbers that are no addresses

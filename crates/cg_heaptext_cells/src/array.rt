@@ -1,6 +1,7 @@
 // The elements of an array.
-ghost use Rattle.std.specs.Prelude.{◌≡◌, List, length, map, None, IfOk};
+ghost use Rattle.std.specs.Prelude.{◌≡◌, List, map, IfOk};
 ghost use Rattle.cg_base.specs.declared.place.Place.{Place};
+ghost use Rattle.cg_heaptext_def.specs.Small.{capped_number};
 ghost use Rattle.cg_heaptext_def.specs.Trees as trees;
 ghost use Rattle.cg_heaptext_def.specs.Trees.{Numeral, amount};
 ghost use Rattle.cg_heaptext_entries.specs.Index.{CellStands};
@@ -8,7 +9,7 @@ ghost use Rattle.cg_heaptext_places.specs.Noted.{IsLeast};
 ghost use Rattle.cg_heaptext_cells.specs.Cells.{IsAbove};
 
 use crate::list::{Mark, mark_of};
-use crate::numbers::{Elements, given, note};
+use crate::numbers::{Elements, note, number};
 use cg_base::{Items, Memory};
 use cg_heaptext_lexer::Lexer;
 use std::alloc::Global;
@@ -18,7 +19,7 @@ use std::alloc::Global;
 /// memory in proportion to the cell.
 pub fn elements(alloc: Global, cell: &Lexer, most: u64) -> Result<Elements, Memory>
     ensures { (p : Place) (ns : List Numeral) → CellStands cell.now (trees.elements p ns)
-        → IfOk result (λ r. (length r.numbers ≡ length ns) × IsLeast (IsAbove most ns) r.over × (r.over ≡ None → r.numbers ≡ map amount ns)) }
+        → IfOk result (λ r. IsLeast (IsAbove most ns) r.over × (r.numbers ≡ map capped_number (map amount ns))) }
 {
     let mut lexer = cell.copy();
     lexer.next();
@@ -28,7 +29,7 @@ pub fn elements(alloc: Global, cell: &Lexer, most: u64) -> Result<Elements, Memo
         let token = lexer.next();
         match mark_of(&token) {
             Mark::Item => {
-                numbers.push(given(token.text))?;
+                numbers.push(number(token.text))?;
                 over = note(over, &token, most);
             }
             Mark::Comma => {}

@@ -1,6 +1,6 @@
 //! Stage: heaps. What stands in one cell of a heap file, where no type is known.
 //! Role: part of `cg_heaptext`.
-//! Promises: `form`, `answers`, `elements` and `loose_slots` answer exactly, wherever a cell of theirs stands.
+//! Promises: `form`, `answers`, `elements` and `loose_slots` answer exactly, wherever a cell of theirs stands; `number` what digits spell.
 //! May cite: anything below it, of its stage and of those below; no crate above.
 //! docs/LANGUAGE.md, "Heap files", says what is spelled.
 #![tactic(auto)]
@@ -16,5 +16,5 @@ mod slots;
 pub use allocator::answers;
 pub use array::elements;
 pub use cell::{CellForm, form};
-pub use numbers::Elements;
+pub use numbers::{Elements, number};
 pub use slots::{Loose, loose_slots};

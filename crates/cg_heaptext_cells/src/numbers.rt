@@ -1,8 +1,9 @@
 // Numbers of any length, and those above a bound.
 ghost use Rattle.std.specs.Prelude.{◌≡◌, nat_lt, [], ◌∷◌};
 ghost use Rattle.cg_base.specs.Numbers.{number_from};
+ghost use Rattle.cg_heaptext_def.specs.Small.{capped_number};
 ghost use Rattle.cg_heaptext_places.specs.Noted.{noted_all};
-ghost use Rattle.cg_heaptext_cells.specs.Numbers.{given_of, numeral_read, places_above};
+ghost use Rattle.cg_heaptext_cells.specs.Numbers.{numeral_read, places_above};
 
 use cg_base::{Items, Place, literal};
 use cg_heaptext_lexer::Token;
@@ -15,9 +16,9 @@ pub struct Elements {
     pub over: Option<Place>,
 }
 
-// The number that digits spell, or 2^64 - 1 where it is above that.
-pub(crate) fn given(digits: &[u8]) -> u64
-    ensures { result ≡ given_of digits.now }
+/// The number that digits spell, or 2^64 - 1 where it is above that (docs/LANGUAGE.md, "Heap files").
+pub fn number(digits: &[u8]) -> u64
+    ensures { result ≡ capped_number (number_from 0 digits.now) }
 {
     match literal(digits) {
         Some(number) => number,

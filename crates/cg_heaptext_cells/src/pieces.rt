@@ -1,14 +1,15 @@
 // What the tokens of a record give that nobody reaches.
 ghost use Rattle.std.specs.Prelude.{◌≡◌, ◌++◌, map, None, OnOk, IfOk};
+ghost use Rattle.cg_heaptext_def.specs.Small.{most_word};
 ghost use Rattle.cg_heaptext_places.specs.Noted.{noted_all};
 ghost use Rattle.cg_heaptext_cells.specs.ByKind.{read_by};
-ghost use Rattle.cg_heaptext_cells.specs.Numbers.{most_word, numeral_read, places_above};
+ghost use Rattle.cg_heaptext_cells.specs.Numbers.{numeral_read, places_above};
 ghost use Rattle.cg_heaptext_cells.specs.Pieces as pieces;
 ghost use Rattle.cg_heaptext_cells.specs.Pieces.{counted_in, given_scalar, pieces_of};
 ghost use Rattle.cg_heaptext_cells.specs.declared.pieces.Gift.TheVariants.{Nothing};
 ghost use Rattle.cg_heaptext_cells.specs.declared.pieces.Held.TheVariants.{Free};
 
-use crate::numbers::{given, note};
+use crate::numbers::{note, number};
 use cg_base::{Items, Memory, Place};
 use cg_heap::Scalar;
 use cg_heaptext_lexer::{Token, TokenKind};
@@ -184,8 +185,8 @@ pub(crate) fn add(slots: &mut Items<Scalar>, gift: Gift, token: &Token) -> Resul
 {
     match gift {
         Gift::Nothing => Ok(()),
-        Gift::Counted => slots.push(Scalar::Word(given(token.text))),
-        Gift::Addressed => slots.push(Scalar::Address(given(token.text))),
+        Gift::Counted => slots.push(Scalar::Word(number(token.text))),
+        Gift::Addressed => slots.push(Scalar::Address(number(token.text))),
         Gift::Plain(scalar) => slots.push(scalar),
     }
 }

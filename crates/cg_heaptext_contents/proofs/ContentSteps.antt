@@ -1,28 +1,25 @@
 -- What was read of a cell is what it holds.
-use Rattle.std.proofs.Common.{◌≡◌, ℕ, ◌-◌, ◌^◌, Bool, true, false, nat_lt, List, [], ◌∷◌, length, map, refl, sym, ap, ◌∙◌, subst}
-use Rattle.std.proofs.lemmas.Bool.{and_from, and_parts}
-use Rattle.std.specs.List.{list_all}
+use Rattle.std.proofs.Common.{◌≡◌, ℕ, Bool, true, false, nat_lt, List, [], length, map, refl, sym, ap, ◌∙◌, subst}
+use Rattle.std.proofs.lemmas.List.{length-map}
 use Rattle.std.specs.Prelude.{slice_get, Option, Some, None}
 use Rattle.cg_base.specs.declared.place.Place.{Place}
 use Rattle.cg_base.specs.Types.{Tau, Parts, var, seen, unit, word, bool, arrow, abs, variant, fields}
 use Rattle.cg_heap.specs.declared.cell.Cell.TheVariants as held
 use Rattle.cg_heap.specs.declared.cell.Scalar.{Scalar}
-use Rattle.cg_heaptext_cells.specs.Cells.{AreWords, IsAbove, form_of}
+use Rattle.cg_heaptext_cells.specs.Cells.{IsAbove, form_of}
 use Rattle.cg_heaptext_cells.specs.declared.cell.CellForm.TheVariants as form
 use Rattle.cg_heaptext_cells.specs.declared.numbers.Elements.{Elements}
 use Rattle.cg_heaptext_cells.specs.declared.slots.Loose.{Loose}
 use Rattle.cg_heaptext_contents.specs.Contents.{AreAnswers, AreSlots, IsArray, IsContent, IsLoose, IsNoRecordAt, IsRecord}
 use Rattle.cg_heaptext_contents.specs.declared.content.Content.{Content}
-use Rattle.cg_heaptext_contents.proofs.LooseSmall.{are_words, is_low, low_loose_fields, none_above}
-use Rattle.cg_heaptext_contents.proofs.Small.{kept}
-use Rattle.cg_heaptext_def.specs.HeapText.{addresses_in, numerals_in}
+use Rattle.cg_heaptext_contents.proofs.Small.{kept, numbers_kept}
+use Rattle.cg_heaptext_def.specs.HeapText.{numerals_in}
 use Rattle.cg_heaptext_def.specs.Reading.{loose_fields, scalars_all, slots_at}
-use Rattle.cg_heaptext_def.specs.Small.{are_small}
+use Rattle.cg_heaptext_def.specs.Small.{are_small, capped, capped_number, most_word}
 use Rattle.cg_heaptext_def.specs.Trees.{Numeral, amount, Fields, Cell, slots, elements, answers, values_in}
 use Rattle.cg_heaptext_entries.specs.Index.{CellStands}
 use Rattle.cg_heaptext_lexer.specs.Next.{Cursor}
 use Rattle.cg_heaptext_places.specs.Noted.{IsLeast}
-use Rattle.cg_heaptext_scalars.specs.Given.{capped}
 use Rattle.cg_value.specs.Fits.{most_elements}
 
 some_is_none : {A : Type 0} (x : A) → Some x ≡ None → ⊥
@@ -59,16 +56,14 @@ loose_at (Some (variant ps)) fs n = refl
 loose_at (Some (fields ps s)) fs n = absurd n
 
 pub loose : (at : Cursor) (r : Loose) (x : Content) → x.cell ≡ held.Slots r.slots → x.over ≡ r.over → x.many ≡ false
-    → ((p : Place) (fs : Fields) → CellStands at (slots p fs) → IsLeast (IsAbove (2 ^ 64 - 1) (numerals_in fs)) r.over × (r.over ≡ None → AreWords (addresses_in fs) → r.slots ≡ loose_fields fs))
+    → ((p : Place) (fs : Fields) → CellStands at (slots p fs) → IsLeast (IsAbove most_word (numerals_in fs)) r.over × (r.slots ≡ map capped (loose_fields fs)))
     → (c : Cell) → CellStands at c → AreSlots c → IsLoose c x
 loose at r x is over many read (slots p fs) stands a t n =
     let g = read p fs stands in
     let all = loose_at t fs n in
     record {
-      cell = λ small.
-          let low = low_loose_fields fs (sym (ap are_small all) ∙ small) in
-          is ∙ ap held.Slots (g.1 (none_above (numerals_in fs) r.over low.0 g.0) (are_words (addresses_in fs) low.1) ∙ sym all);
-      over = λ e. subst (IsLeast (IsAbove (2 ^ 64 - 1) (numerals_in fs))) (sym over) g.0;
+      cell = λ small. is ∙ ap held.Slots (g.1 ∙ kept (loose_fields fs) (sym (ap are_small all) ∙ small) ∙ sym all);
+      over = λ e. subst (IsLeast (IsAbove most_word (numerals_in fs))) (sym over) g.0;
       many = many;
     }
 loose at r x is over many read (elements p ns) stands a t n = absurd a
@@ -76,19 +71,15 @@ loose at r x is over many read (answers p bs) stands a t n = absurd a
 
 -- ---- arrays, and answers
 
-low_numbers : (ns : List Numeral) → list_all (λ n. nat_lt n (2 ^ 64)) (map amount ns) ≡ true → list_all is_low ns ≡ true
-low_numbers [] e = refl
-low_numbers (n ∷ ns) e = let p = and_parts (is_low n) (list_all (λ n. nat_lt n (2 ^ 64)) (map amount ns)) e in and_from (is_low n) (list_all is_low ns) p.0 (low_numbers ns p.1)
-
 pub array : (at : Cursor) (r : Elements) (x : Content) → x.cell ≡ held.Words r.numbers → x.over ≡ r.over → x.many ≡ nat_lt most_elements (length r.numbers)
-    → ((p : Place) (ns : List Numeral) → CellStands at (elements p ns) → (length r.numbers ≡ length ns) × IsLeast (IsAbove (2 ^ 64 - 1) ns) r.over × (r.over ≡ None → r.numbers ≡ map amount ns))
+    → ((p : Place) (ns : List Numeral) → CellStands at (elements p ns) → IsLeast (IsAbove most_word ns) r.over × (r.numbers ≡ map capped_number (map amount ns)))
     → (c : Cell) (t : Option Tau) → CellStands at c → IsArray c → IsContent t c x
 array at r x is over many read (elements p ns) t stands a =
     let g = read p ns stands in
     record {
-      cell = λ small. is ∙ ap held.Words (g.2 (none_above ns r.over (low_numbers ns small) g.1));
-      over = λ e. subst (IsLeast (IsAbove (2 ^ 64 - 1) ns)) (sym over) g.1;
-      many = many ∙ ap (λ n. nat_lt most_elements n) g.0;
+      cell = λ small. is ∙ ap held.Words (g.1 ∙ numbers_kept (map amount ns) small);
+      over = λ e. subst (IsLeast (IsAbove most_word ns)) (sym over) g.0;
+      many = many ∙ ap (λ n. nat_lt most_elements n) (ap length g.1 ∙ length-map (map amount ns) capped_number ∙ length-map ns amount);
     }
 array at r x is over many read (slots p fs) t stands a = absurd a
 array at r x is over many read (answers p bs) t stands a = absurd a
@@ -100,7 +91,7 @@ pub allocator : (at : Cursor) (bs : List Bool) (x : Content) → x.cell ≡ held
     → ((p : Place) (cs : List Bool) → CellStands at (answers p cs) → bs ≡ cs) → (c : Cell) (t : Option Tau) → CellStands at c → AreAnswers c → IsContent t c x
 allocator at bs x is over many read (answers p cs) t stands a = record {
   cell = λ small. is ∙ ap held.Answers (read p cs stands);
-  over = λ e. subst (IsLeast (IsAbove (2 ^ 64 - 1) [])) (sym over) (λ place above. none_there above.0 above.1 above.2);
+  over = λ e. subst (IsLeast (IsAbove most_word [])) (sym over) (λ place above. none_there above.0 above.1 above.2);
   many = many;
 }
 allocator at bs x is over many read (slots p fs) t stands a = absurd a

@@ -1,4 +1,3 @@
 pub mod ContentSteps
-pub mod LooseSmall
 pub mod PlacingSteps
 pub mod Small

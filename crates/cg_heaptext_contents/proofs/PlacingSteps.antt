@@ -5,7 +5,7 @@ use Rattle.std.proofs.lemmas.Bool.{cases_lt, eq-eqb, eqb-true, false≢true, lt-
 use Rattle.std.proofs.lemmas.List.{length-map, map-append, take_all}
 use Rattle.std.specs.Option.{option_map}
 use Rattle.std.proofs.lemmas.Option.{slice_get_within, slice_get-map}
-use Rattle.std.specs.Prelude.{is_some, min, nat_eq, slice_get, Option, Some, None, if◌then◌else◌}
+use Rattle.std.specs.Prelude.{is_some, nat_eq, slice_get, Option, Some, None, if◌then◌else◌}
 use Rattle.cg_base.proofs.Options.{some_is}
 use Rattle.cg_base.proofs.Truths.{either_bool, or_cases}
 use Rattle.cg_base.specs.declared.place.Place.{Place}
@@ -14,13 +14,13 @@ use Rattle.cg_base.specs.Types.{Tau}
 use Rattle.cg_heap.specs.declared.cell.Cell.{Cell as Held}
 use Rattle.cg_heaptext_cells.specs.Cells.{IsAbove}
 use Rattle.cg_heaptext_contents.specs.Contents.{IsContent, has_many}
-use Rattle.cg_heaptext_contents.specs.Placings.{AreSmall, IsOverUnread, IsPlacing, is_too_large, most_word, pair_of}
+use Rattle.cg_heaptext_contents.specs.Placings.{AreSmall, IsOverUnread, IsPlacing, is_too_large, pair_of}
 use Rattle.cg_heaptext_contents.specs.declared.content.Content.{Content}
 use Rattle.cg_heaptext_contents.specs.declared.placing.Placed.{Placed}
 use Rattle.cg_heaptext_contents.specs.declared.placing.Placing.{Placing}
 use Rattle.cg_heaptext_def.specs.HeapText.{HasMany, IsLarge, most_entries, numbers_in, placed, read_at}
 use Rattle.cg_heaptext_def.specs.Reading.{held_at}
-use Rattle.cg_heaptext_def.specs.Small.{is_small_cell}
+use Rattle.cg_heaptext_def.specs.Small.{capped_number, is_small_cell, most_word}
 use Rattle.cg_heaptext_def.specs.Trees.{Cell, Entry, Heap, amount, slots, elements, answers}
 use Rattle.cg_heaptext_entries.specs.Index.{AreEntries, IsEntry, numeral_of}
 use Rattle.cg_heaptext_entries.specs.declared.entry.EntryAt.{EntryAt}
@@ -216,7 +216,7 @@ module _ (h : Heap) (t : Tau) where
 pub one_more : (h : Heap) (t : Tau) (xs : List EntryAt) (i : ℕ) (x : EntryAt) (r : Option Tau) (b : Bool) (content : Content) (old new : Placing) → AreEntries xs h.entries → slice_get xs i ≡ Some x
     → ((e : Entry) → slice_get h.entries i ≡ Some e → r ≡ read_at h t (amount e.address)) → ((e : Entry) → IsEntry x e → IsContent r e.cell content) → b ≡ is_some r
     → new.over ≡ (if b then old.over else joined old.over content.over) → new.large ≡ (if is_too_large i content.many then noted old.large x.place else old.large)
-    → new.cells ≡ old.cells ++ record { at = min (amount (numeral_of x.address)) most_word; cell = content.cell } ∷ []
+    → new.cells ≡ old.cells ++ record { at = capped_number (amount (numeral_of x.address)); cell = content.cell } ∷ []
     → PlacedSoFar h t i old → PlacedSoFar h t (i + 1) new
 one_more h t xs i x r b content old new a there read holds is over large cells w =
     let e = entry_at xs h.entries a i x there in
@@ -225,10 +225,10 @@ one_more h t xs i x r b content old new a there read holds is over large cells w
     record {
       over = over_step h t i e.0 e.1 r is_read b is old.over new.over content.over c.over over w.over;
       large = large_step h t i e.0 e.1 content.many x.place old.large new.large c.many e.2.place large w.large;
-      cells = cells_step h t i e.0 e.1 old.cells new.cells (record { at = min (amount (numeral_of x.address)) most_word; cell = content.cell }) cells
+      cells = cells_step h t i e.0 e.1 old.cells new.cells (record { at = capped_number (amount (numeral_of x.address)); cell = content.cell }) cells
           (λ small.
           let s = small i e.0 e.1 in
-          let at : min (amount (numeral_of x.address)) most_word ≡ amount e.0.address = ap (λ n. min (amount n) most_word) e.2.address ∙ min-eq_left (omega (arith, s.0)) in
+          let at : capped_number (amount (numeral_of x.address)) ≡ amount e.0.address = ap (λ n. capped_number (amount n)) e.2.address ∙ min-eq_left (omega (arith, s.0)) in
           let held : content.cell ≡ held_at (read_at h t (amount e.0.address)) e.0.cell = c.cell (ap (λ o. is_small_cell (held_at o e.0.cell)) is_read ∙ s.1) ∙ ap (λ o. held_at o e.0.cell) is_read in
           λ k. (at k, held k))
           w.cells;

@@ -1,12 +1,12 @@
 -- What the cell of an entry holds (docs/LANGUAGE.md, "Heap files").
-use Rattle.std.specs.Prelude.{◌≡◌, ◌-◌, ◌^◌, nat_lt, Bool, true, false, length, Option, Some, None, ⊤}
+use Rattle.std.specs.Prelude.{◌≡◌, nat_lt, Bool, true, false, length, Option, Some, None, ⊤}
 use Rattle.cg_base.specs.declared.kind.Sigil.{Sigil}
 use Rattle.cg_base.specs.Types.{Tau, Parts, fields}
 use Rattle.cg_heaptext_cells.specs.Cells.{IsAbove}
 use Rattle.cg_heaptext_contents.specs.declared.content.Content.{Content}
 use Rattle.cg_heaptext_def.specs.HeapText.{numbers_in}
 use Rattle.cg_heaptext_def.specs.Reading.{held_at}
-use Rattle.cg_heaptext_def.specs.Small.{is_small_cell}
+use Rattle.cg_heaptext_def.specs.Small.{is_small_cell, most_word}
 use Rattle.cg_heaptext_def.specs.Trees.{Cell, slots, elements, answers}
 use Rattle.cg_heaptext_places.specs.Noted.{IsLeast}
 use Rattle.cg_value.specs.Fits.{most_elements}
@@ -45,7 +45,7 @@ IsNoRecordAt (Some t) = IsNoRecord t
 -- nobody reads it, and of its elements.
 pub record IsContent (t : Option Tau) (c : Cell) (content : Content) : Type 0 where
   pub cell : is_small_cell (held_at t c) ≡ true → content.cell ≡ held_at t c
-  pub over : t ≡ None → IsLeast (IsAbove (2 ^ 64 - 1) (numbers_in c)) content.over
+  pub over : t ≡ None → IsLeast (IsAbove most_word (numbers_in c)) content.over
   pub many : content.many ≡ has_many c
 
 -- the same of slots that no record type tells

@@ -1,5 +1,5 @@
 -- The cells of a heap file, each with its address (docs/LANGUAGE.md, "Heap files").
-use Rattle.std.specs.Prelude.{◌≡◌, ℕ, ◌-◌, ◌^◌, ◌<◌, ◌||◌, nat_eq, Bool, true, List, [], ◌∷◌, map, slice_get, Option, Some, None, if◌then◌else◌}
+use Rattle.std.specs.Prelude.{◌≡◌, ℕ, ◌^◌, ◌<◌, ◌||◌, nat_eq, Bool, true, List, [], ◌∷◌, map, slice_get, Option, Some, None, if◌then◌else◌}
 use Rattle.cg_base.specs.declared.place.Place.{Place}
 use Rattle.cg_base.specs.Types.{Tau, type_of}
 use Rattle.cg_heap.specs.declared.cell.Cell.{Cell as Held}
@@ -8,13 +8,10 @@ use Rattle.cg_heaptext_contents.specs.declared.placing.Placed.{Placed}
 use Rattle.cg_heaptext_contents.specs.declared.placing.Placing.{Placing}
 use Rattle.cg_heaptext_def.specs.HeapText.{IsLarge, most_entries, numbers_in, placed, read_at}
 use Rattle.cg_heaptext_def.specs.Reading.{held_at}
-use Rattle.cg_heaptext_def.specs.Small.{is_small_cell}
+use Rattle.cg_heaptext_def.specs.Small.{is_small_cell, most_word}
 use Rattle.cg_heaptext_def.specs.Trees.{Entry, Heap, amount}
 use Rattle.cg_heaptext_judge_notes.specs.declared.notes.Mentioned.{Mentioned}
 use Rattle.cg_heaptext_places.specs.Noted.{IsLeast}
-
-abbrev pub most_word : ℕ
-most_word = 2 ^ 64 - 1
 
 -- the type of the first mention of an entry, by its position
 abbrev pub read_type : List Mentioned → ℕ → Option Tau

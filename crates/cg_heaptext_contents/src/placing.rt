@@ -1,16 +1,18 @@
 // The cells of a heap file, each with its address.
-ghost use Rattle.std.specs.Prelude.{◌≡◌, ◌++◌, [], ◌∷◌, min, nat_eq, IfOk, OnOk, if◌then◌else◌};
+ghost use Rattle.std.specs.Prelude.{◌≡◌, ◌++◌, [], ◌∷◌, nat_eq, IfOk, OnOk, if◌then◌else◌};
 ghost use Rattle.std.specs.Option.{option_map};
 ghost use Rattle.cg_base.specs.Types.{Tau, type_of};
+ghost use Rattle.cg_heaptext_def.specs.Small.{capped_number};
 ghost use Rattle.cg_heaptext_def.specs.Trees.{Heap, amount};
 ghost use Rattle.cg_heaptext_entries.specs.Index.{AreEntries, numeral_of};
 ghost use Rattle.cg_heaptext_places.specs.Noted.{joined, noted};
-ghost use Rattle.cg_heaptext_contents.specs.Placings.{AreRead, IsPlacing, is_too_large, most_word, read_type};
+ghost use Rattle.cg_heaptext_contents.specs.Placings.{AreRead, IsPlacing, is_too_large, read_type};
 
 use crate::content::{Content, content_of};
-use cg_base::{Items, Memory, Place, Ty, literal};
+use cg_base::{Items, Memory, Place, Ty};
 use cg_heap::Cell;
-use cg_heaptext_entries::{EntryAt, Numeral};
+use cg_heaptext_cells::number;
+use cg_heaptext_entries::EntryAt;
 use cg_heaptext_judge_notes::Mentioned;
 use cg_heaptext_places::{earlier, earliest};
 use std::alloc::Global;
@@ -45,7 +47,7 @@ impl Placing {
     ) -> Result<(), Memory>
         ensures over { OnOk result (self.new.over ≡ (if is_read then self.old.over else joined self.old.over content.over)) }
         ensures large { OnOk result (self.new.large ≡ (if is_too_large at content.many then noted self.old.large entry.now.place else self.old.large)) }
-        ensures cells { OnOk result (self.new.cells ≡ self.old.cells ++ record { at = min (amount (numeral_of entry.now.address)) most_word; cell = content.cell } ∷ []) }
+        ensures cells { OnOk result (self.new.cells ≡ self.old.cells ++ record { at = capped_number (amount (numeral_of entry.now.address)); cell = content.cell } ∷ []) }
     {
         if !is_read {
             self.over = earliest(self.over, content.over);
@@ -54,19 +56,9 @@ impl Placing {
             self.large = earlier(self.large, entry.place);
         }
         self.cells.push(Placed {
-            at: address(&entry.address),
+            at: number(entry.address.digits),
             cell: content.cell,
         })
-    }
-}
-
-// An address, or 2^64 - 1 where it is above that.
-fn address(address: &Numeral) -> u64
-    ensures { result ≡ min (amount (numeral_of address.now)) most_word }
-{
-    match literal(address.digits) {
-        Some(number) => number,
-        None => u64::MAX,
     }
 }
 

@@ -2,7 +2,6 @@
 use Rattle.std.proofs.Common.{◌≡◌, ℕ, ◌+◌, ◌<◌, Bool, true, false, cond, ◌⊎◌, inl, inr, List, [], ◌∷◌, ◌++◌, length, get_or, Option, Some, None, refl, sym, ap, ◌∙◌, subst, arith, bytes_eq, is_some}
 use Rattle.std.proofs.lemmas.Bool.{ltb-false, ltb-true, true≢false}
 use Rattle.std.proofs.lemmas.Option.{slice_get_read}
-use Rattle.std.specs.BTreeMap.{IsEmpty}
 use Rattle.std.specs.Cmp.Lexicographic.{bytes_decides}
 use Rattle.std.specs.Prelude.{nat_lt, slice_get, unwrap_or}
 use Rattle.cg_base.proofs.Options.{some_is}
@@ -12,7 +11,7 @@ use Rattle.cg_heaptext_entries.specs.declared.entry.EntryAt.{EntryAt}
 use Rattle.cg_heaptext_places.proofs.Noting.{noted_more}
 use Rattle.cg_heaptext_places.specs.Noted.{AreThose, noted, noted_all}
 use Rattle.cg_heaptext_index.specs.Addresses.{Joins, Positions, position, significant}
-use Rattle.cg_heaptext_index.proofs.Those.{those_more, those_none, those_same}
+use Rattle.cg_heaptext_index.proofs.Those.{those_more, those_same}
 
 -- the digits of an address, without the zeros in front
 abbrev pub key : EntryAt → List ℕ
@@ -46,18 +45,6 @@ pub record Passed (xs : List EntryAt) (n : ℕ) (positions : Positions) (found :
   pub places : List Place
   pub is : found ≡ noted_all None places
   pub those : AreThose (IsRepeat xs n) places
-
--- before the first
-pub passed_none : (xs : List EntryAt) (positions : Positions) → IsEmpty positions → Passed xs 0 positions None
-passed_none xs positions empty = record {
-  firsts = λ text. subst (IsFirst xs 0 text) (none text) (λ i l has. absurd (omega (arith, l)));
-  places = [];
-  is = refl;
-  those = those_none (IsRepeat xs 0) (λ p r. absurd (omega (arith, r.within)));
-}
-  where
-    none : (text : List ℕ) → None ≡ position positions text
-    none text = sym (rw empty refl)
 
 -- ---- an entry more
 

@@ -6,10 +6,6 @@ use Rattle.cg_base.proofs.Sequences.{get_front}
 use Rattle.cg_base.specs.declared.place.Place.{Place}
 use Rattle.cg_heaptext_places.specs.Noted.{AreThose}
 
--- what holds of none
-pub those_none : (P : Place → Type 0) → ((p : Place) → P p → ⊥) → AreThose P []
-those_none P never = record { hold = λ i p e. absurd (cc); all = λ p h. absurd (never p h) }
-
 -- what holds of the same places
 pub those_same : (P Q : Place → Type 0) (ps : List Place) → ((p : Place) → P p → Q p) → ((p : Place) → Q p → P p) → AreThose P ps → AreThose Q ps
 those_same P Q ps to from those = record { hold = λ i p e. to p (those.hold i p e); all = λ p q. those.all p (from p q) }

@@ -71,9 +71,6 @@ module _ {S : Type 0} (Stand : S → List Written → Type 0) (source : Source) 
   abbrev pub PartAnswered : Part → Cursor → Judged → Result (Unit {0}) JudgeFault → Judged → Type 0
   PartAnswered p at old r new = (h : Heap) → IsRead source h → (v : Written) → StandsAt at v → AreThere h (addresses v) → Notes (amounts h) old (part_met h p v) r new
 
-  pub going_begins : (ps : List Part) (first : S) (old : Judged) → Going ps first old 0 first old
-  going_begins ps first old h read vs s k = (vs, [], s, k, refl, notes_none (amounts h) old)
-
   module _ (ps : List Part) (first now : S) (old mid : Judged) (i : ℕ) (going : Going ps first old i now mid) where
     module _ (p : Part) (within : i < length ps) (is : p ≡ get_or ps i p) (at : Cursor) (later : S) (new : Judged) (takes : Takes Stand now at later) where
       -- what is met is what was noted, what is met in this field, and what is met behind it

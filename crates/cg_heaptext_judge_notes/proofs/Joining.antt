@@ -1,7 +1,7 @@
 -- What was judged of some things, and of others behind them.
-use Rattle.std.proofs.Common.{ℕ, List, [], ◌∷◌, ◌++◌, Result, Ok, Err, refl, sym, subst}
+use Rattle.std.proofs.Common.{ℕ, List, [], ◌++◌, Result, Ok, Err, sym, subst}
 use Rattle.cg_base.specs.declared.place.Place.{Place}
-use Rattle.cg_heaptext_def.specs.Reading.{Event, misfit}
+use Rattle.cg_heaptext_def.specs.Reading.{Event}
 use Rattle.cg_heaptext_judge_def.specs.Judging.{State, after, run}
 use Rattle.cg_heaptext_judge_laws.proofs.Running.{run_both}
 use Rattle.cg_heaptext_judge_notes.specs.Notes.{Notes, Tells}
@@ -14,17 +14,10 @@ module _ (ns : List ℕ) where
   pub notes_none : (old : Judged) → Notes ns old [] (Ok tt) old
   notes_none old s noted = noted
 
-  -- what is met first doesn't fit
-  pub notes_misfit : (old new : Judged) (p : Place) (es : List Event) → Notes ns old (misfit p ∷ es) (Err (Misfit p)) new
-  notes_misfit old new p es s noted = refl
-
   -- memory was wanting
   told_memory : (r : Result State Place) (new : Judged) → Tells ns r (Err Memory) new
   told_memory (Ok s) new = tt
   told_memory (Err p) new = tt
-
-  pub notes_memory : (old new : Judged) (es : List Event) → Notes ns old es (Err Memory) new
-  notes_memory old new es s noted = told_memory (run s es) new
 
   -- all of the first things were noted
   pub notes_both : (old mid new : Judged) (es fs : List Event) (r : Result (Unit {0}) JudgeFault) → Notes ns old es (Ok tt) mid → Notes ns mid fs r new → Notes ns old (es ++ fs) r new

@@ -36,23 +36,6 @@ over_is Item e f = absurd (false≢true e)
 over_is Comma e f = absurd (false≢true f)
 over_is Over e f = refl
 
--- behind an item and behind a comma less is left
-pub item_shorter : (k : TokenKind) (x : List ℕ) (old new : Cursor) (t : Lexeme) → Item ≡ read_by marked Over k x → Gives k old t new → length new.rest < length old.rest
-item_shorter Number x old new t e g = shorter old new t g
-item_shorter Lower x old new t e g = shorter old new t g
-item_shorter Upper x old new t e g = shorter old new t g
-item_shorter Sign x old new t e g = shorter old new t g
-item_shorter Unknown x old new t e g = absurd (cc)
-item_shorter End x old new t e g = absurd (cc)
-
-pub comma_shorter : (k : TokenKind) (x : List ℕ) (old new : Cursor) (t : Lexeme) → Comma ≡ read_by marked Over k x → Gives k old t new → length new.rest < length old.rest
-comma_shorter Number x old new t e g = shorter old new t g
-comma_shorter Lower x old new t e g = shorter old new t g
-comma_shorter Upper x old new t e g = shorter old new t g
-comma_shorter Sign x old new t e g = shorter old new t g
-comma_shorter Unknown x old new t e g = absurd (cc)
-comma_shorter End x old new t e g = absurd (cc)
-
 -- ---- the loop
 
 counted_more : (over : Option Place) (xs : List Numeral) (n : Numeral) (bound : ℕ) → counted_all over (xs ++ n ∷ []) bound ≡ counting (counted_all over xs bound) n bound

@@ -3,5 +3,4 @@ mod Cells
 mod Counting
 mod Entering
 pub mod Noting
-mod Tuples
 mod Within

@@ -13,7 +13,6 @@ mod mention;
 mod plain;
 mod record;
 mod source;
-mod tuple;
 
 pub use cell::{is_record, misfit_cell};
 pub use constant::judge_constant;

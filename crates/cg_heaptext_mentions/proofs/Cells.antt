@@ -50,9 +50,6 @@ module _ (test : Mention → Bool) (place : Mention → Place) (xs : List EntryA
   abbrev pub CellsGoing : ℕ → Option Place → Type 0
   CellsGoing i found = (es : List Entry) → AreEntries xs es → (left : List Entry) × AreEntries (drop i xs) left × (note_all test place before (cells es) ≡ note_all test place found (cells left))
 
-  pub cells_going : CellsGoing 0 before
-  cells_going es a = (es, a, refl)
-
   pub cells_turn : (i : ℕ) (x : EntryAt) (found new : Option Place) → i < length xs → x ≡ get_or xs i x → ScansCell (note_all test place) x.cell found new → CellsGoing i found → CellsGoing (i + 1) new
   cells_turn i x found new within is scan w es a = let r = w es a in go r.0 (subst (λ ys. AreEntries ys r.0) (next xs i x within is) r.1) r.2
     where

@@ -8,7 +8,8 @@ use Rattle.cg_base.specs.Types.{Piece, to_parts, type_of}
 use Rattle.cg_heap.specs.declared.cell.Scalar.{Scalar}
 use Rattle.cg_heap.specs.declared.cell.Scalar.TheVariants.{Unset}
 use Rattle.cg_heap.specs.Reps.{slots}
-use Rattle.cg_heaptext_scalars.specs.Given.{Adds, capped, unset, width}
+use Rattle.cg_heaptext_def.specs.Small.{capped}
+use Rattle.cg_heaptext_scalars.specs.Given.{Adds, unset, width}
 
 pub none_added : (us xs : List Scalar) → us ≡ [] → Adds xs us xs
 none_added us xs e = sym (append_none xs) ∙ ap (λ l. xs ++ map capped l) (sym e)

@@ -1,22 +1,13 @@
 -- Scalars as they are given: a number of any length as at most 2^64 - 1.
-use Rattle.std.specs.Prelude.{◌≡◌, ℕ, ◌-◌, ◌^◌, cond, min, List, [], ◌∷◌, ◌++◌, map, replicate}
+use Rattle.std.specs.Prelude.{◌≡◌, ℕ, cond, List, [], ◌∷◌, ◌++◌, map, replicate}
 use Rattle.cg_base.specs.declared.ty.Part.{Part}
 use Rattle.cg_base.specs.Types.{Parts, part_of, to_parts, type_of}
 use Rattle.cg_heap.specs.declared.cell.Scalar.{Scalar}
-use Rattle.cg_heap.specs.declared.cell.Scalar.TheVariants.{Unset, Word, Address}
+use Rattle.cg_heap.specs.declared.cell.Scalar.TheVariants.{Unset, Address}
 use Rattle.cg_heap.specs.Reps.{slots, slots_of_parts}
 use Rattle.cg_heaptext_def.specs.Reading.{scalars}
+pub use Rattle.cg_heaptext_def.specs.Small.{capped}
 use Rattle.cg_heaptext_def.specs.Trees.{Written, address, amount, bare}
-
--- the greatest number that is given
-abbrev pub most : ℕ
-most = 2 ^ 64 - 1
-
--- a word or an address above it is given as that
-abbrev pub capped : Scalar → Scalar
-capped Unset = Unset
-capped (Word n) = Word (min n most)
-capped (Address n) = Address (min n most)
 
 -- these were added behind the others, as they are given
 abbrev pub Adds : List Scalar → List Scalar → List Scalar → Type 0

@@ -6,7 +6,6 @@
 #![tactic(auto)]
 
 mod alternative;
-mod number;
 mod padding;
 mod plain;
 mod scalars;

@@ -9,9 +9,9 @@ ghost use Rattle.cg_heaptext_def.specs.Trees.{Written, bare};
 ghost use Rattle.cg_heaptext_values.specs.Values.{StandsAt};
 ghost use Rattle.cg_heaptext_scalars.specs.Given.{Adds, address_in};
 
-use crate::number::number;
 use cg_base::{Items, Memory};
 use cg_heap::Scalar;
+use cg_heaptext_cells::number;
 use cg_heaptext_values::{Head, ValueAt};
 
 // Adds the scalar of unit.

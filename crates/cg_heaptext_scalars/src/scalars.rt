@@ -6,11 +6,12 @@ ghost use Rattle.cg_base.specs.Types.{part_of, to_parts, type_of, variant, field
 ghost use Rattle.cg_base.specs.declared.kind.Sigil.TheVariants.{U};
 ghost use Rattle.cg_base.specs.declared.place.Place.{Place};
 ghost use Rattle.cg_heaptext_def.specs.Reading.{scalars, scalars_all, scalars_applied};
+ghost use Rattle.cg_heaptext_def.specs.Small.{capped};
 ghost use Rattle.cg_heaptext_def.specs.Trees as trees;
 ghost use Rattle.cg_heaptext_def.specs.Trees.{Fields, Written, bare, values_in};
 ghost use Rattle.cg_heaptext_entries.specs.Index.{CellStands};
 ghost use Rattle.cg_heaptext_values.specs.Values.{FieldsStand, StandsAt, ValuesStand};
-ghost use Rattle.cg_heaptext_scalars.specs.Given.{Adds, capped, field_in, pieces};
+ghost use Rattle.cg_heaptext_scalars.specs.Given.{Adds, field_in, pieces};
 
 use crate::alternative::{add_constant, add_tag, place_of};
 use crate::padding::{pad, pad_parts};

@@ -19,7 +19,8 @@ use Rattle.cg_heap.specs.Reps.{Holds, HoldsAll, HoldsAt, StandsFor, first_addres
 use Rattle.cg_value.specs.Fits.{is_array}
 use Rattle.cg_value.specs.Values as values
 use Rattle.cg_value.specs.Values.{Val, Vals, chosen, elements, number, parts}
-use Rattle.cg_heaptext_value.specs.Capped.{capped_number, capped_value, capped_values}
+use Rattle.cg_heaptext_def.specs.Small.{capped_number}
+use Rattle.cg_heaptext_value.specs.Capped.{capped_value, capped_values}
 use Rattle.cg_heaptext_value.specs.World.{no_world}
 
 -- ---- numbers

@@ -5,6 +5,7 @@ use Rattle.cg_base.specs.declared.place.Place.{Place}
 use Rattle.cg_heaptext_cells.specs.Cells.{form_of}
 use Rattle.cg_heaptext_cells.specs.declared.cell.CellForm.TheVariants as form
 use Rattle.cg_heaptext_def.specs.Reading.{value_within}
+use Rattle.cg_heaptext_def.specs.Small.{capped_number}
 use Rattle.cg_heaptext_def.specs.Trees as trees
 use Rattle.cg_heaptext_def.specs.Trees.{Cell, Numeral, amount}
 use Rattle.cg_heaptext_entries.specs.Index.{CellStands}
@@ -13,7 +14,7 @@ use Rattle.cg_value.specs.declared.value.Value.{the_lemmas}
 use Rattle.cg_value.specs.declared.value.Value.TheVariants.{Answers, Array, Unit}
 use Rattle.cg_value.specs.Values as values
 use Rattle.cg_value.specs.Values.{value_of}
-use Rattle.cg_heaptext_value.specs.Capped.{capped_number, capped_value}
+use Rattle.cg_heaptext_value.specs.Capped.{capped_value}
 
 pub unit_is : value_of Unit ≡ values.nothing
 unit_is = search (rules, the_lemmas)

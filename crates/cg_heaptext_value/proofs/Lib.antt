@@ -2,6 +2,5 @@ pub mod Capping
 pub mod Digits
 pub mod Forms
 pub mod Found
-pub mod Gathering
 pub mod Listing
 pub mod Told

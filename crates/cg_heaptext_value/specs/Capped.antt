@@ -1,11 +1,7 @@
 -- Values as they are given: a number of any size as at most 2^64 - 1.
-use Rattle.std.specs.Prelude.{ℕ, min, map}
-use Rattle.cg_heaptext_cells.specs.Numbers.{most_word}
+use Rattle.std.specs.Prelude.{map}
+use Rattle.cg_heaptext_def.specs.Small.{capped_number}
 use Rattle.cg_value.specs.Values.{Val, number, nothing, function, chosen, parts, elements, answers, gone, Vals, none, more}
-
--- a number above it is given as that
-abbrev pub capped_number : ℕ → ℕ
-capped_number n = min n most_word
 
 -- a value in which each number, of words and of elements, is given so
 abbrev mutual

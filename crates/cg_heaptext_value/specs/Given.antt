@@ -11,10 +11,6 @@ use Rattle.cg_heaptext_index.specs.Addresses.{IsMapOf}
 use Rattle.cg_heaptext_index.specs.declared.map.Addresses.{Addresses}
 use Rattle.cg_heaptext_lexer.specs.Next.{Cursor}
 use Rattle.cg_value.specs.Values.{Val, gone, nothing, parts}
-use Rattle.cg_heaptext_cells.specs.declared.list.Mark.{Mark as Meant}
-use Rattle.cg_heaptext_cells.specs.declared.list.Mark.TheVariants as meant
-use Rattle.cg_heaptext_value.specs.declared.array.Mark.{Mark}
-use Rattle.cg_heaptext_value.specs.declared.array.Mark.TheVariants.{Item, Comma, Over}
 
 -- these are the entries of a heap file, and their positions by their addresses
 pub record AreCells (index : Index) (addresses : Addresses) (h : Heap) : Type 0 where
@@ -44,9 +40,3 @@ module _ (cells : ℕ → Option Cell) where
   -- a field: where it is taken it is gone
   abbrev pub field_in : Part → Written → Val
   field_in p v = cond p.taken gone (value cells (type_of p.ty) (bare v))
-
--- what a token of a list is said to be
-abbrev pub meant_by : Mark → Meant
-meant_by Item = meant.Item
-meant_by Comma = meant.Comma
-meant_by Over = meant.Over

@@ -10,9 +10,8 @@ ghost use Rattle.cg_heaptext_value.specs.Given.{AreCells, IsFound, abstract_in};
 ghost use Rattle.cg_heaptext_values.specs.Values.{StandsAt};
 ghost use Rattle.cg_value.specs.Values.{value_of};
 
-use crate::array::numbers;
 use cg_base::Memory;
-use cg_heaptext_cells::{CellForm, answers, form};
+use cg_heaptext_cells::{CellForm, answers, elements, form};
 use cg_heaptext_entries::{Index, Numeral};
 use cg_heaptext_index::Addresses;
 use cg_heaptext_lexer::Lexer;
@@ -39,7 +38,7 @@ fn value_in(alloc: Global, cell: &Lexer) -> Result<Value, Memory>
 {
     match form(cell) {
         CellForm::Slots => Ok(Value::Unit),
-        CellForm::Elements => Ok(Value::Array(numbers(alloc, cell)?)),
+        CellForm::Elements => Ok(Value::Array(elements(alloc, cell, u64::MAX)?.numbers)),
         CellForm::Answers => Ok(Value::Answers(answers(alloc, cell)?)),
     }
 }

@@ -5,9 +5,7 @@
 //! docs/LANGUAGE.md, "Heap files", says what values are at which types.
 #![tactic(auto)]
 
-mod array;
 mod cells;
-mod number;
 mod plain;
 mod value;
 

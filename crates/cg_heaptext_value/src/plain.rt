@@ -11,8 +11,8 @@ ghost use Rattle.cg_heaptext_values.specs.Values.{StandsAt};
 ghost use Rattle.cg_value.specs.Values as values;
 ghost use Rattle.cg_value.specs.Values.{value_of};
 
-use crate::number::number;
 use cg_base::{Memory, Name};
+use cg_heaptext_cells::number;
 use cg_heaptext_values::{Head, ValueAt};
 use cg_value::Value;
 use std::alloc::Global;

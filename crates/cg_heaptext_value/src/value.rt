@@ -6,7 +6,6 @@ ghost use Rattle.cg_base.specs.Bytes.{digit, Each};
 ghost use Rattle.cg_base.specs.Types.{type_of, variant, fields};
 ghost use Rattle.cg_base.specs.declared.kind.Sigil.TheVariants.{U};
 ghost use Rattle.cg_heaptext_def.specs.Footprints.{amounts};
-ghost use Rattle.cg_heaptext_def.specs.Grammar.{HeapSpells};
 ghost use Rattle.cg_heaptext_def.specs.HeapText.{cells_of};
 ghost use Rattle.cg_heaptext_def.specs.Reading.{slot_values, value as value_read, value_all, value_applied};
 ghost use Rattle.cg_heaptext_def.specs.Trees.{Cell, Fields, Heap, Written, amount, bare, values_in};
@@ -39,7 +38,7 @@ pub fn value_at(
     ty: &Ty,
     value: &ValueAt,
 ) -> Result<Value, Memory>
-    ensures { (bytes : List ℕ) (h : Heap) → HeapSpells bytes h → IsIndex index.now h → IsMapOf addresses.now (amounts h) → (v : Written) → StandsAt value.now v → IfOk result (λ x. value_of x ≡ capped_value (value_read (cells_of h) (type_of ty.now) (bare v))) }
+    ensures { (h : Heap) → IsIndex index.now h → IsMapOf addresses.now (amounts h) → (v : Written) → StandsAt value.now v → IfOk result (λ x. value_of x ≡ capped_value (value_read (cells_of h) (type_of ty.now) (bare v))) }
 {
     read(alloc, index, addresses, ty, value)
 }

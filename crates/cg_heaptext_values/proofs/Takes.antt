@@ -1,5 +1,5 @@
 -- The values of a tuple and the fields of a record, one by one.
-use Rattle.std.proofs.Common.{◌≡◌, ℕ, Bool, true, false, List, [], ◌∷◌, codes, Some, None, refl, sym, ap, ◌∙◌, subst}
+use Rattle.std.proofs.Common.{◌≡◌, ℕ, Bool, true, false, List, [], ◌∷◌, codes, Some, refl, sym, ap, ◌∙◌, subst}
 use Rattle.cg_base.specs.declared.place.Place.{Place}
 use Rattle.cg_heaptext_def.specs.Grammar.{ReadsFields, ReadsMore, ReadsMoreFields, ReadsTwo}
 use Rattle.cg_heaptext_def.specs.Tokens.{Lexeme, lower, sign, token_text}
@@ -86,11 +86,6 @@ text_same End x = refl
 
 abbrev AllPass : Cursor → Bool → Cursor → Type 0
 AllPass old left new = (ts : List Lexeme) → Before old ts → Passed left new ts
-
--- none is left
-pub takes_none : (left : Bool) (old : Cursor) (vs : List Written) (new : ValuesAt) → left ≡ false → Listed left old vs → TakesValue vs None new
-takes_none left old [] new e l = refl
-takes_none left old (v ∷ vs) new e l = absurd (subst (λ b. Listed b old (v ∷ vs)) e l)
 
 pub takes_value : (left : Bool) (old : Cursor) (vs : List Written) (at : Cursor) (new : ValuesAt) → left ≡ true → at ≡ old → AllPass old new.more new.lexer → Listed left old vs → TakesValue vs (Some at) new
 takes_value left old [] at new e is p l = absurd (subst (λ b. Listed b old []) e l)

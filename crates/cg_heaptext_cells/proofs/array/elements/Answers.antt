@@ -1,4 +1,4 @@
-use Rattle.std.proofs.Common.{[], ◌∷◌, ◌++◌, None, refl, ap, ◌∙◌, subst, arith}
+use Rattle.std.proofs.Common.{[], ◌∷◌, ◌++◌, None, refl, ap, ◌∙◌, subst}
 use Rattle.cg_heaptext_lexer.specs.Next.{Cursor, Gives, lexeme}
 use Rattle.cg_heaptext_cells.proofs.Gathering.{comma_passed, elements_told, none_gathered, one_gathered}
 use Rattle.cg_heaptext_cells.proofs.array.elements.Goals as goal
@@ -10,7 +10,7 @@ loop-numbers-init c =
 pub loop-numbers-preserved-in-Item : goal.loop-numbers-preserved-in-Item
 loop-numbers-preserved-in-Item c =
     one_gathered c.args.cell.now c.loop-numbers.lexer c.next-token.new.self c.next-token.result c.next-token.ensures c.args.most c.loop-numbers.numbers c.loop-numbers.over c.loop-numbers.invariant
-    c.push.new.self c.note-over.result c.in-Item.ensures (c.in_ok-push-in-Item.ensures.ok ∙ ap (λ n. c.loop-numbers.numbers ++ n ∷ []) c.given.ensures) c.note-over.ensures
+    c.push.new.self c.note-over.result c.in-Item.ensures (c.in_ok-push-in-Item.ensures.ok ∙ ap (λ n. c.loop-numbers.numbers ++ n ∷ []) c.number.ensures) c.note-over.ensures
 
 pub loop-numbers-preserved : goal.loop-numbers-preserved
 loop-numbers-preserved c =
@@ -19,4 +19,4 @@ loop-numbers-preserved c =
 pub returns-in-Over : goal.returns-in-Over
 returns-in-Over c = λ p ns s.
     elements_told c.args.cell.now c.loop-numbers.lexer c.next-token.new.self c.next-token.result c.next-token.ensures c.args.most c.loop-numbers.numbers c.loop-numbers.over c.loop-numbers.invariant
-    (omega (arith, c.ranges.most.fits)) c.in-Over.ensures p ns (p, s)
+    c.in-Over.ensures p ns (p, s)

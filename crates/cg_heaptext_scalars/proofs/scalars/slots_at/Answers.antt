@@ -1,7 +1,8 @@
 use Rattle.std.proofs.Common.{◌++◌, map, ap, ◌∙◌}
 use Rattle.cg_heaptext_def.specs.Reading.{scalars_all}
+use Rattle.cg_heaptext_def.specs.Small.{capped}
 use Rattle.cg_heaptext_def.specs.Trees.{values_in}
-use Rattle.cg_heaptext_scalars.specs.Given.{capped, pieces}
+use Rattle.cg_heaptext_scalars.specs.Given.{pieces}
 use Rattle.cg_heaptext_scalars.proofs.scalars.slots_at.Goals as goal
 
 pub returns : goal.returns
