@@ -1,11 +1,14 @@
 pub mod CellItems
 mod Fronts
 mod Lefts
+pub mod Listed
 pub mod Maps
+mod ReachSteps
 mod ReadSteps
 mod Readers
 mod Shorter
+mod SlotCells
 mod Sounds
 pub mod Tables
 pub mod TopSteps
-mod Widths
+pub mod Widths

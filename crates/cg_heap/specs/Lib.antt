@@ -1,3 +1,4 @@
+pub mod Addresses
 pub mod Calls
 pub mod Codes
 pub mod FirstOrder

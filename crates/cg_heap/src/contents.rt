@@ -1,12 +1,12 @@
 // What cells hold, copied out of a store, and what scalars hold.
-#![tactic(auto, using(crate::proofs::CellItems::content_steps))]
+#![tactic(auto, using(crate::proofs::CellItems::content_steps, crate::proofs::SlotCells::slot_steps))]
 
 ghost use Rattle.std.specs.Prelude.{◌≡◌, map, IfOk};
 ghost use Rattle.cg_heap.specs.Readings.{held_answers, held_scalars};
 ghost use Rattle.cg_heap.specs.Reps as reps;
 ghost use Rattle.cg_heap.specs.Stored.{cell_at};
 
-use crate::{Scalar, Store};
+use crate::{Form, Scalar, Store};
 use cg_base::{Items, Memory};
 use std::alloc::Global;
 
@@ -25,6 +25,16 @@ pub(crate) fn scalars_in<S: Store>(
         }
     }
     Ok(scalars)
+}
+
+// The slots of the cell at an address; none where it has none.
+pub(crate) fn slots_at<S: Store>(alloc: Global, store: &S, at: u64) -> Result<Items<Scalar>, Memory>
+    ensures { IfOk result (λ scalars. scalars ≡ reps.slots_in (cell_at (S.stored store.now) at)) }
+{
+    match store.form(at) {
+        Some(Form::Slots) => scalars_in(alloc, store, at),
+        _ => Ok(Items::new(alloc)),
+    }
 }
 
 // The answers in the cell at an address; none where it has none.

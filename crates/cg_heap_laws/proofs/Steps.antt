@@ -4,6 +4,7 @@ use Rattle.std.specs.Option.{IsSome}
 use Rattle.cg_base.specs.declared.kind.Sigil.TheVariants.{R, W}
 use Rattle.cg_heap.specs.declared.cell.Cell.{Cell}
 use Rattle.cg_heap.specs.Reps.{Heap, foot, one_if}
+use Rattle.cg_heap.proofs.Listed.{count_append}
 use Rattle.cg_heap.specs.Steps.{IsFine, Side, Step, count, side}
 use Rattle.cg_heap_laws.specs.StepLaws.{FreedIsExact, FreesAreSteps, HeldIsFine, IsWrittenAt, MakesAreSteps, NothingIsAStep, PartsAreFine, StepsFollow, StepsStandBeside, WritesAreSteps}
 use Rattle.cg_heap_laws.proofs.Frames.{by_count, none_is_not}
@@ -32,11 +33,6 @@ one_once p q = at_most (nat_eq p q)
 -- what isn't written is another address than one that is
 not_own : (w : ℕ → ℕ) (p q : ℕ) → 1 ≤ w p → w q ≡ 0 → nat_eq p q ≡ false
 not_own w p q k z = ⊎_elim (λ e. absurd (let i = rw e at k in omega arith)) (λ e. e) (is_or_not p q)
-
--- what stands in two lists
-pub count_append : (q : ℕ) (xs ys : List ℕ) → count q (xs ++ ys) ≡ count q xs + count q ys
-count_append q [] ys = omega arith
-count_append q (x ∷ xs) ys = let e = count_append q xs ys in omega arith
 
 -- what the first made and what the second made is made once
 both_once : (x y q t : ℕ) → x ≤ 1 → y ≤ 1 → (1 ≤ x → q ≤ t) → (1 ≤ y → t < q) → x + y ≤ 1

@@ -1,8 +1,7 @@
 // The addresses that values reach.
 use crate::read::record_type;
 use cg_base::{Items, Sigil};
-use cg_heap::{Fresh, MapStore, Scalar, Store};
-use cg_heap_reached::reached;
+use cg_heap::{Fresh, MapStore, Scalar, Store, reached};
 use std::test::Fail;
 
 #[test]

@@ -1,1 +1,5 @@
-pub mod Reading
+pub mod Faulting
+pub mod OneByOne
+pub mod Reaching
+pub mod Starting
+pub mod Whole

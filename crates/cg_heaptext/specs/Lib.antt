@@ -1,3 +1,5 @@
-pub mod Cuts
-pub mod HeapText
-pub mod Laws
+pub mod Answers
+pub mod Faults
+pub mod Filled
+pub mod Reach
+pub mod Typed

@@ -6,33 +6,12 @@ use Rattle.cg_base.specs.declared.kind.Sigil.TheVariants.{R, W, U}
 use Rattle.cg_base.specs.Types.{Tau, var, seen, unit, word, bool, arrow, abs, variant, fields, Parts, end, part}
 use Rattle.cg_heap.specs.declared.cell.Scalar.{Scalar}
 use Rattle.cg_heap.specs.declared.cell.Scalar.TheVariants.{Unset, Word}
+use Rattle.cg_heap.proofs.Widths.{parts_within, slots_within}
 use Rattle.cg_heap.specs.Reps.{slots, slots_of_parts}
 use Rattle.cg_typing.specs.Parts.{nodes, nodes_parts}
 use Rattle.cg_heaptext_def.specs.Reading.{scalars, scalars_all, scalars_applied, scalars_bare, skipped}
 use Rattle.cg_heaptext_def.specs.Trees.{Written, numeral, truth, nothing, address, constant, applied, tuple, record', bare, listed, values_in}
 use Rattle.cg_heaptext_laws.proofs.SmallValues.{one_node}
-
--- ---- slots
-
-mutual
-  unfolding slots
-
-  slots_within : (t : Tau) → slots t ≤ nodes t
-  slots_within (var n) = omega arith
-  slots_within (seen n) = omega arith
-  slots_within unit = omega arith
-  slots_within (word w) = omega arith
-  slots_within bool = omega arith
-  slots_within (arrow a b) = omega arith
-  slots_within (abs name ts s) = omega arith
-  slots_within (variant ps) = let many = parts_within ps in omega arith
-  slots_within (fields ps U) = let many = parts_within ps in omega arith
-  slots_within (fields ps R) = omega arith
-  slots_within (fields ps W) = omega arith
-
-  parts_within : (ps : Parts) → slots_of_parts ps ≤ nodes_parts ps
-  parts_within end = omega arith
-  parts_within (part x t taken ps) = let one = slots_within t in let rest = parts_within ps in omega arith
 
 -- ---- scalars
 

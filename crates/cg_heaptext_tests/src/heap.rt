@@ -1,7 +1,7 @@
 // Whole heap files at the type of an argument.
 use cg_base::{Items, Memory, Name, Part, Sigil, Ty, Word};
 use cg_heap::{MapStore, Scalar, Store};
-use cg_heaptext_read::{HeapFault, fill, read_heap};
+use cg_heaptext::{HeapFault, fill, read_heap};
 use cg_value::Value;
 use std::alloc::Global;
 use std::test::Fail;

@@ -1,4 +1,3 @@
-pub mod Addresses
 pub mod Contexts
 pub mod Joined
 pub mod Nodes

@@ -14,10 +14,9 @@ use Rattle.cg_eval_operations.specs.Positions.{position}
 use Rattle.cg_heap.specs.Calls.{heap_of}
 use Rattle.cg_heap.specs.declared.cell.Scalar.{Scalar}
 use Rattle.cg_heap.specs.Reps.{Heap, HeapWorld, Holds, first_number, foot, tail}
-use Rattle.cg_heap.specs.Steps.{IsFine, count}
+use Rattle.cg_heap.specs.Steps.{IsFine}
 use Rattle.cg_heap.specs.Stored.{Stored}
 use Rattle.cg_kinds.specs.Kinds.{subst}
-use Rattle.cg_refine_def.specs.Addresses.{reached}
 use Rattle.cg_refine_def.specs.Contexts.{Divided, HoldsContext, context_foot}
 use Rattle.cg_refine_def.specs.Refined.{IsRefined, is_clear_node, side_of}
 use Rattle.cg_typing.specs.Contexts.{Context, first, second, Splits}
@@ -78,10 +77,6 @@ TermsAreRefined =
     (p : Program) (among : ℕ → Bool) (world : HeapWorld) → TypesAreKnown p among world → MentionsHold p among world → (table : Table) (calls : Calls)
     → ((fuel : ℕ) → CallsRefine p among world table (with_fuel table fuel) calls)
     → (fuel : ℕ) → TermsRefine p among world (with_fuel table fuel) calls
-
--- an address stands in the list of those that scalars reach as often as it is reached
-abbrev pub AddressesAreReached : Type 0
-AddressesAreReached = (h : Heap) (m : Sigil) (t : Tau) (us : List Scalar) (q : ℕ) → count q (reached h m t us) ≡ foot h m t us q
 
 -- marks divide a context that a heap represents, and what it reaches
 abbrev pub SidesDivide : Type 0

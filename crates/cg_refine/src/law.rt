@@ -1,5 +1,5 @@
 // Terms without calls, and what calls have to meet.
-ghost use Rattle.cg_refine.specs.Laws.{AddressesAreReached, FieldsStandAside, NodesAreRefined, PayloadsAreAll, SidesDivide, TermsAreRefined};
+ghost use Rattle.cg_refine.specs.Laws.{FieldsStandAside, NodesAreRefined, PayloadsAreAll, SidesDivide, TermsAreRefined};
 
 /// Where evaluation of parts and of calls is refined by their updates, so is that of a node of any form (the paper's refinement, section 3).
 pub fn nodes_are_refined()
@@ -10,11 +10,6 @@ pub fn nodes_are_refined()
 /// context reaches to what the result reaches.
 pub fn terms_are_refined()
     ensures { TermsAreRefined }
-{}
-
-/// The list of the addresses that scalars reach has each as often as it is reached.
-pub fn addresses_are_reached()
-    ensures { AddressesAreReached }
 {}
 
 /// Marks divide a context that a heap represents: each side is represented, and what may be written is that of both sides together.

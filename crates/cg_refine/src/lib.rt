@@ -1,6 +1,6 @@
 //! Stage: update. Evaluation of terms is refined by their updates, on any heap that represents the context.
 //! Role: public.
-//! Promises: `terms_are_refined`, `nodes_are_refined`, `sides_divide`, `fields_stand_aside`, `payloads_are_all`, `addresses_are_reached`.
+//! Promises: `terms_are_refined`, `nodes_are_refined`, `sides_divide`, `fields_stand_aside`, `payloads_are_all`.
 //! May cite: anything of its stage and of those below; no crate above.
 //! docs/LANGUAGE.md, "Parts of a heap", says it in words.
 #![tactic(auto)]
@@ -8,6 +8,5 @@
 mod law;
 
 pub use law::{
-    addresses_are_reached, fields_stand_aside, nodes_are_refined, payloads_are_all, sides_divide,
-    terms_are_refined,
+    fields_stand_aside, nodes_are_refined, payloads_are_all, sides_divide, terms_are_refined,
 };

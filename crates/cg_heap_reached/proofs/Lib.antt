@@ -1,4 +1,0 @@
-mod Cells
-mod Fronts
-pub mod Listed
-mod Steps
