@@ -49,20 +49,20 @@ own_writes (Some (recheck file certificate)) = tt
 own_writes (Some (run file entry heap steps)) = tt
 
 -- bytes within the limit were read whole
-whole : (most : ℕ) (bytes read : List ℕ) → read ≡ take (most + 1) bytes → length read ≤ most → read ≡ bytes
+pub whole : (most : ℕ) (bytes read : List ℕ) → read ≡ take (most + 1) bytes → length read ≤ most → read ≡ bytes
 whole most bytes read is short = is ∙ take_all (most + 1) bytes (omega (arith, length-take (most + 1) bytes, ap length is))
 
 pub short_whole : (most : ℕ) (bytes : List ℕ) → length bytes ≤ most → take (most + 1) bytes ≡ bytes
 short_whole most bytes short = take_all (most + 1) bytes (omega (arith, short))
 
 -- judgements as steps settle
-settled : (js : List Judgement) (f : Found) (old new : World) (next : Found) → Runs Judges (judged_first js []) f old (goes next) new → Settles Judges js f (goes next)
+pub settled : (js : List Judgement) (f : Found) (old new : World) (next : Found) → Runs Judges (judged_first js []) f old (goes next) new → Settles Judges js f (goes next)
 settled [] f old new next r = r.0
 settled (j ∷ js) f old new next (inl r) = absurd r.0
 settled (j ∷ js) f old new next (inr r) = inr (r.0, r.2.0, settled js r.0 r.1 new next r.3)
 
 -- a rule that leaves the state
-stays : (P Q : Type 0) (js : List Judgement) (f n : Found) → (⊥ × Q) ⊎ ((next : Found) × ((next ≡ f) × P) × Settles Judges js next (goes n)) → P × Settles Judges js f (goes n)
+pub stays : (P Q : Type 0) (js : List Judgement) (f n : Found) → (⊥ × Q) ⊎ ((next : Found) × ((next ≡ f) × P) × Settles Judges js next (goes n)) → P × Settles Judges js f (goes n)
 stays P Q js f n (inl r) = absurd r.0
 stays P Q js f n (inr r) = (r.1.1, subst (λ x. Settles Judges js x (goes n)) r.1.0 r.2)
 
@@ -78,13 +78,13 @@ spells Q js f n (inl r) = absurd r.0
 spells Q js f n (inr r) = (r.1.0, r.1.2, subst (λ x. Settles Judges js x (goes n)) r.1.1 r.2)
 
 -- judgements that all go, and then others
-parted : (js ks : List Judgement) (f n : Found) → Settles Judges (js ++ ks) f (goes n) → (m : Found) × Settles Judges js f (goes m) × Settles Judges ks m (goes n)
+pub parted : (js ks : List Judgement) (f n : Found) → Settles Judges (js ++ ks) f (goes n) → (m : Found) × Settles Judges js f (goes m) × Settles Judges ks m (goes n)
 parted [] ks f n r = (f, refl, r)
 parted (j ∷ js) ks f n (inl r) = absurd r.0
 parted (j ∷ js) ks f n (inr r) = let p = parted js ks r.0 n r.2 in (p.0, inr (r.0, r.1, p.1), p.2)
 
 -- judgements that all go, and then steps
-parted_steps : (js : List Judgement) (rest : List (Step Judgement Found)) (f : Found) (old new : World) (n : Found) → Runs Judges (judged_first js rest) f old (goes n) new
+pub parted_steps : (js : List Judgement) (rest : List (Step Judgement Found)) (f : Found) (old new : World) (n : Found) → Runs Judges (judged_first js rest) f old (goes n) new
     → (m : Found) × Settles Judges js f (goes m) × Runs Judges rest m old (goes n) new
 parted_steps [] rest f old new n r = (f, refl, r)
 parted_steps (j ∷ js) rest f old new n (inl r) = absurd r.0
@@ -122,7 +122,7 @@ read_of file f n r =
     }
 
 -- rules that all go leave a source that is accepted
-accepted_of : (file : List ℕ) (f n : Found) → Settles Judges (source_rules file) f (goes n) → IsAcceptedSource f.source (functions n)
+pub accepted_of : (file : List ℕ) (f n : Found) → Settles Judges (source_rules file) f (goes n) → IsAcceptedSource f.source (functions n)
 accepted_of file f n r =
     let both = parted (reading_rules file) (kernel_rules file) f n r in
     let read = read_of file f both.0 both.1 in
@@ -154,7 +154,7 @@ all_accepted held file a =
 -- ---- building
 
 -- the judgement of instances
-lists : (Q : Type 0) (js : List Judgement) (f n : Found)
+pub lists : (Q : Type 0) (js : List Judgement) (f n : Found)
     → (⊥ × Q) ⊎ ((next : Found) × ((copies : List Copy) × (next ≡ with_copies copies f) × HasInstances (functions f) copies) × Settles Judges js next (goes n))
     → (copies : List Copy) × HasInstances (functions f) copies × Settles Judges js (with_copies copies f) (goes n)
 lists Q js f n (inl r) = absurd r.0

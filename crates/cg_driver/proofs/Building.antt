@@ -1,7 +1,7 @@
 -- From what the functions of `build` answer to what its judgements and writes come to.
 use Rattle.std.proofs.Common.{◌≡◌, ◌∙◌, ◌<◌, ◌≤◌, inl, inr, ℕ, List, [], ◌∷◌, Result, Ok, Err, length, map, refl, sym, ap, subst, arith}
 use Rattle.std.proofs.lemmas.List.{length-map}
-use Rattle.std.specs.Prelude.{IfOk, Vec, codes, string_bytes}
+use Rattle.std.specs.Prelude.{IfOk, Vec, codes}
 use Rattle.std.specs.declared.alloc.Global.{Global}
 use Rattle.cg_base.specs.declared.limit.Limit.{Limit}
 use Rattle.cg_base.specs.declared.limit.Limit.TheVariants as limits
@@ -228,5 +228,5 @@ pub concluded : (checked : Checked) (list : List Instance) (built : Built) (foun
     → (kernel : Kernel) (fs : List KFun) → kernel ≡ kernel_in checked → fs ≡ kernel.funs → (r : Result Report Memory)
     → IfOk r (IsLine Done (written_line (map function_of fs) built.instances)) → Rules Judges IsBuilt [] found r
 concluded checked list built found ready b kept kernel fs k is (Ok r) said =
-    (goes found, refl, (said.0, built_said checked list built found ready b kept kernel fs k is (string_bytes r.text) said.1))
+    (goes found, refl, (said.0, built_said checked list built found ready b kept kernel fs k is r.text.items said.1))
 concluded checked list built found ready b kept kernel fs k is (Err e) said = tt

@@ -1,15 +1,22 @@
 -- From the parts of the two runs of a function to what is said of them.
-use Rattle.std.proofs.Common.{◌≡◌, ◌<◌, ◌^◌, ℕ, zero, suc, List, [], ◌∷◌, inl, inr, Option, Some, Result, Ok, Err, map, slice_get, refl, sym, ap, ◌∙◌, subst, rules}
-use Rattle.std.specs.Prelude.{IfOk, string_bytes}
+use Rattle.std.proofs.Common.{◌≡◌, ℕ, zero, suc, IsTrue, List, [], ◌∷◌, inl, inr, Option, Some, Result, Ok, Err, map, slice_get, refl, sym, ap, ◌∙◌, subst, arith}
+use Rattle.std.specs.Prelude.{IfOk}
 use Rattle.cg_base.specs.declared.fun.Fun.TheVariants.{User}
 use Rattle.cg_base.specs.declared.memory.Memory.{Memory}
 use Rattle.cg_base.specs.declared.place.Place.{Place}
+use Rattle.cg_base.specs.Types.{Tau, arrow}
+use Rattle.cg_cmachine.specs.Answers.{EndsAs}
+use Rattle.cg_cmachine.specs.declared.answer.Ran.{Ran}
+use Rattle.cg_cmachine_def.specs.Outcomes.{State, done, needs, stuck}
+use Rattle.cg_cmachine_def.specs.WordRuns.{no_cells}
+use Rattle.cg_cmachine_def.specs.Runs.{crun}
 use Rattle.cg_lower.specs.Collected.{Copy}
 use Rattle.cg_core.specs.declared.term.Term.{Term}
 use Rattle.cg_core.specs.declared.term.Typed.{Typed}
 use Rattle.cg_cread.specs.Answers.{Answers}
 use Rattle.cg_cread.specs.declared.fault.CFault.TheVariants.{Text}
 use Rattle.cg_ctree.specs.declared.tree.CProgram.{CProgram}
+use Rattle.cg_ctree.specs.declared.why.Why.{Why}
 use Rattle.cg_ctree.specs.Spells.{CSpells}
 use Rattle.cg_ctree.specs.Trees.{Program, program_of}
 use Rattle.cg_inst.specs.Judged.{core_in}
@@ -17,16 +24,24 @@ use Rattle.cg_cgen_def.specs.Names.{function_name}
 use Rattle.cg_lower.specs.Promises.{IsSimulated}
 use Rattle.cg_eval_def.specs.Evaluation.{Table, evaluation, IsSpent}
 use Rattle.cg_eval_def.specs.Foreigns.{table_of, table_over}
-use Rattle.cg_driver_laws.specs.Laws.{EntriesRun, copies_in}
-use Rattle.cg_cmachine_def.specs.WordRuns.{RunsTo}
+use Rattle.cg_driver_laws.specs.Laws.{EntriesRun, NoneAreLinked, copies_in, linked_over}
+use Rattle.cg_heap.specs.Calls.{heap_of}
+use Rattle.cg_heap.specs.declared.cell.Cell.{Cell}
+use Rattle.cg_heap.specs.declared.cell.Scalar.{Scalar}
+use Rattle.cg_heap.specs.FirstOrder.{is_first_order}
+use Rattle.cg_heap.specs.NoForeignHeap.{no_foreign_heap, none_is_lawful_on_heaps}
+use Rattle.cg_heap.specs.Reps.{Represents}
+use Rattle.cg_heap.specs.Stored.{Stored}
+use Rattle.cg_heap.specs.Steps.{count}
+use Rattle.cg_heaptext.specs.declared.start.Start.{Start}
+use Rattle.cg_heaptext.specs.Filled.{IsFilled}
+use Rattle.cg_typing.specs.Parts.{given_by, taken_by}
 use Rattle.cg_typing.specs.declared.checked.Checked.{Checked}
-use Rattle.cg_typing.specs.Holds.{cores_in, kept_at}
+use Rattle.cg_typing.specs.Holds.{cores_in, kept_at, trees_in}
 use Rattle.cg_typing.specs.Instances.{Instance}
-use Rattle.cg_typing.specs.Kept.{maybe_core}
-use Rattle.cg_value.specs.NoForeign.{no_foreign}
-use Rattle.cg_value.specs.declared.value.Value.{the_lemmas}
-use Rattle.cg_value.specs.declared.value.Value.TheVariants.{Num}
-use Rattle.cg_value.specs.Values.{Val, value_of, number, function}
+use Rattle.cg_typing.specs.Kept.{AreKept, maybe_core, maybe_tree}
+use Rattle.cg_value.specs.NoForeign.{no_foreign, none_is_lawful}
+use Rattle.cg_value.specs.Values.{Val, value_of, function}
 use Rattle.cg_driver_steps.specs.declared.report.Report.{Report}
 use Rattle.cg_driver_steps.specs.declared.status.Status.{Status}
 use Rattle.cg_driver_steps.specs.declared.status.Status.TheVariants.{Done, Refused, Usage, ReadFault, WriteFault, Memory as NoMemory, StepLimit, HeapRefused, CertRefused, TooLarge}
@@ -34,14 +49,17 @@ use Rattle.cg_driver_steps.specs.Steps.{refuses, goes}
 use Rattle.cg_driver_steps.specs.Parts.{IsLine, Reports, Rules}
 use Rattle.cg_driver.specs.Built.{CanRun, KeepsCopies}
 use Rattle.cg_driver.specs.Commands.{Judges, evaluated, ran_lines}
-use Rattle.cg_driver.specs.Executed.{cores_of, Emits, Ends, Gives, Machines, Executes}
-use Rattle.cg_driver.specs.Found.{Found, functions, with_value}
+use Rattle.cg_driver.specs.declared.machine.Machined.{Machined}
+use Rattle.cg_driver.specs.Entered.{argument_type, entry_place, entry_type, result_type}
+use Rattle.cg_driver.specs.Executed.{cores_of, Emits, Gives, GivesAlike, IsReady, Machines, ReadsBack, Runs, Executes}
+use Rattle.cg_driver.specs.Found.{Argument, Found, functions, with_value}
 use Rattle.cg_driver.specs.Instanced.{IsMeant, bodies_in, emitted}
-use Rattle.cg_driver.specs.Judged.{functions_in, HoldsCores}
+use Rattle.cg_driver.specs.Judged.{argument_of, functions_in, CanBeBuilt, HoldsCores, IsStartOf}
 use Rattle.cg_driver.specs.Lines.{report, step_limit_line}
-use Rattle.cg_driver.specs.Run.{budget, table_in}
-use Rattle.cg_driver.proofs.Placing.{function_there, place_stands}
-use Rattle.cg_driver.proofs.Saying.{line_says}
+use Rattle.cg_driver.specs.Run.{begun, budget, filled, table_in}
+use Rattle.cg_driver.proofs.Begun.{filled_is, filled_low, filled_represents}
+use Rattle.cg_driver.proofs.Ends.{end_same}
+use Rattle.cg_driver.proofs.Saying.{each, line_says}
 
 -- ---- the cores of a checked source, as the code keeps them and as plain trees
 
@@ -53,7 +71,7 @@ body_same (c ∷ cores) (suc i) = body_same cores i
 pub bodies_same : (checked : Checked) → core_in checked ≡ bodies_in (cores_of checked)
 bodies_same checked = λ j i. body_same (cores_in checked) i j
 
-table_same : (checked : Checked) → table_of no_foreign checked ≡ table_in (functions_in checked) (cores_of checked)
+table_same : (checked : Checked) → table_of no_foreign checked ≡ table_in no_foreign (functions_in checked) (cores_of checked)
 table_same checked = ap (table_over no_foreign (functions_in checked)) (bodies_same checked)
 
 -- ---- the text
@@ -69,98 +87,167 @@ emits copies read text bytes is m same answer =
 pub unreadable : (copies : List Copy) (text bytes : List ℕ) (place : Place) → text ≡ emitted copies → IsMeant copies → bytes ≡ text → Answers bytes (Err (Text place)) → ⊥
 unreadable copies text bytes place is m same answer = answer.4 m.program (subst (λ b. CSpells b m.program) (sym (same ∙ is)) m.spelled)
 
+-- ---- what is ready
+
+-- what the entry takes and gives, as a state that keeps these instances sees it
+pub types_here : (checked : Checked) (list : List Instance) (at place : ℕ) (argument result : Tau) → CanRun checked list at place argument result → (f : Found) → KeepsCopies checked list f → f.at ≡ at
+    → (argument_type (functions f) f.at ≡ argument) × (result_type (functions f) f.at ≡ result)
+types_here checked list at place argument result can f kept there =
+    let arrow_is : entry_type (slice_get (functions f) f.at) ≡ arrow argument result =
+    ap (λ fs. entry_type (slice_get fs f.at)) kept.same ∙ ap (λ i. entry_type (slice_get (functions_in checked) i)) there ∙ ap entry_type can.ty.there ∙ can.ty.typed.is in
+    (ap taken_by arrow_is, ap given_by arrow_is)
+
+pub ready_of : (checked : Checked) (list : List Instance) (at place : ℕ) (argument result : Tau) (bytes : List ℕ) (start : Start) → CanRun checked list at place argument result → IsStartOf bytes argument start
+    → IsReady checked list at place argument result (argument_of start)
+ready_of checked list at place argument result bytes start can s =
+    record { can = can; writes = λ q. count q start.writes; reads = λ q. count q start.reads; represents = s.held.represents; placeable = s.held.placeable s.short }
+
 -- ---- the run
 
--- the C of an entry's instance gives what evaluation gives
-pub runs_alike : EntriesRun → (checked : Checked) (list : List Instance) (program : CProgram) (at place : ℕ) → CanRun checked list at place → Emits (copies_in checked list) program
-    → (arg steps cost : ℕ) (value : Val) → arg < 2 ^ 32 → Gives checked at arg steps value cost
-    → (result : ℕ) × (value ≡ number result) × (left : ℕ) × RunsTo (program_of program) (function_name place) arg (budget cost) result left
-runs_alike law checked list program at place ready e arg steps cost value small gives =
-    let f = function_there (slice_get (functions_in checked) at) ready.on_words.words in
-    let r = law checked list (program_of program) ready.listed.is e.simulates place at steps cost arg f.0 value (place_stands checked list at place ready.on_words.stands) f.1 f.2
-    ready.allowed.concrete ready.on_words.without small gives in
-    (r.0, r.1, r.3, r.4)
+-- the list of derivations that a checked source keeps
+kept_trees : (checked : Checked) → CanBeBuilt checked → AreKept (functions_in checked) (functions_in checked) (map maybe_core (cores_in checked)) (map maybe_tree (trees_in checked))
+kept_trees checked ready = subst (AreKept (functions_in checked) (functions_in checked) (map maybe_core (cores_in checked))) (sym ready.marks.are) ready.marks.kept
 
--- two runs from one state end alike
-alike : (program : Program) (name : List ℕ) (arg most a b left rest : ℕ) → RunsTo program name arg most a left → RunsTo program name arg most b rest → a ≡ b
-alike program name arg most a b left rest r s = let both = sym r ∙ s in cc
+-- the C of an entry's instance gives what represents what evaluation gives
+pub gives_alike : EntriesRun → NoneAreLinked → (checked : Checked) (list : List Instance) (program : CProgram) → CanBeBuilt checked → Emits (copies_in checked list) program
+    → (at place steps cost : ℕ) (argument result : Tau) (a : Argument) (value : Val) → IsReady checked list at place argument result a → Gives checked at a.value steps value cost
+    → GivesAlike (program_of program) (function_name place) a.scalars (begun a) result value cost
+gives_alike law unlinked checked list program built e at place steps cost argument result a value ready gives =
+    let ty = ready.can.ty in
+    let r = law no_foreign no_foreign_heap none_is_lawful none_is_lawful_on_heaps checked list (program_of program) (kept_trees checked built) ready.can.listed.is e.simulates [] (unlinked (functions_in checked) list)
+    place at steps cost ty.function argument result a.scalars (begun a) a.value value ready.writes ready.reads ready.can.stands ty.there
+    (λ none. ready.can.allowed.concrete (record { place = at; function = ty.function; stands = ty.there; abstract = none; reached = inl refl })) ty.typed.is
+    (λ r. ready.can.allowed.concrete r.abstract)
+    (λ world. filled_represents a.cells (λ h. Represents world h argument a.scalars a.value ready.writes ready.reads) (ready.represents world))
+    (filled_low a.cells) gives in
+    record { world = r.0; writes = ready.writes; reads = ready.reads; gives = r.1 }
 
--- what the C of a function was seen to give is what evaluation gives
-pub machined : (checked : Checked) (list : List Instance) (program : CProgram) → Emits (copies_in checked list) program → (at arg cost : ℕ) (value : Val)
-    → (result : ℕ) × (value ≡ number result) × (left : ℕ) × RunsTo (program_of program) (function_name at) arg (budget cost) result left
-    → (name : List ℕ) → name ≡ function_name at → (r : Result (ℕ × ℕ) Memory) → IfOk r (λ r. Ends (program_of program) name arg (budget cost) r.0 r.1)
-    → IfOk r (λ r. Machines (copies_in checked list) at arg value cost r.0 r.1)
-machined checked list program e at arg cost value said name is (Err m) ends = tt
-machined checked list program e at arg cost value said name is (Ok r) ends =
-    let run = subst (λ n. Ends (program_of program) n arg (budget cost) r.0 r.1) is ends in
-    record {
-      program = program_of program;
-      spelled = e.spelled;
-      run = run;
-      equal = said.1 ∙ ap number (alike (program_of program) (function_name at) arg (budget cost) said.0 r.0 said.2 run.left said.3 run.ends);
-    }
+-- what was seen of the run is what is said of it
+pub ran_so : (program : Program) (name : List ℕ) (us : List Scalar) (m after : Stored) (most : ℕ) (t : Tau) (value : Val) (cost : ℕ) → most ≡ budget cost → IsTrue (is_first_order t)
+    → GivesAlike program name us m t value cost → (ran : Ran) → EndsAs (crun (linked_over program [] no_foreign_heap) most name us m) most after ran
+    → (r : Machined) → ReadsBack after t ran r → Runs program name us m most t value r
+ran_so program name us m after most t value cost is plain g ran ended r back =
+    let linked = linked_over program [] no_foreign_heap in
+    let state : State = record { store = after; made = ran.made; freed = ran.freed } in
+    let gives : crun linked most name us m ≡ done g.gives.given g.gives.state g.gives.left = subst (λ n. crun linked n name us m ≡ done g.gives.given g.gives.state g.gives.left) (sym is) g.gives.ends in
+    let e = end_same ran.value g.gives.given state g.gives.state ended.left g.gives.left (crun linked most name us m) ended.ends gives in
+    let here : Represents g.world (heap_of after) t ran.value value g.gives.writes' g.gives.reads' =
+    subst (λ us. Represents g.world (heap_of after) t us value g.gives.writes' g.gives.reads') (sym e.given)
+    (subst (λ s. Represents g.world (heap_of s.store) t g.gives.given value g.gives.writes' g.gives.reads') (sym e.state) g.gives.represents) in
+    let same : value_of r.value ≡ value = back.is g.world value here.holds plain in
+    let steps = back.steps in
+    let counted = ended.steps in (
+      record {
+        given = ran.value;
+        state = state;
+        left = ended.left;
+        ends = ended.ends;
+        counted = omega (arith, steps, counted);
+        are_made = back.made;
+        are_freed = back.freed;
+        world = g.world;
+        writes = g.gives.writes';
+        reads = g.gives.reads';
+        represents = subst (λ v. Represents g.world (heap_of after) t ran.value v g.gives.writes' g.gives.reads') (sym same) here;
+        are_kept = λ q. back.are_kept q ∙ sym (here.are_writes q);
+      },
+      same,
+    )
+
+-- ---- the machine's answers, on cells that were put into a store
+
+module _ (program : Program) (name : List ℕ) (us : List Scalar) (cs : List (ℕ × Cell)) (t : Tau) (cost : ℕ) where
+  -- the run from the store is that from the cells
+  run_from : (s : Stored) → IsFilled cs s
+      → crun (linked_over program [] no_foreign_heap) (budget cost) name us s ≡ crun (linked_over program [] no_foreign_heap) (budget cost) name us (filled cs no_cells)
+  run_from s f = ap (crun (linked_over program [] no_foreign_heap) (budget cost) name us) (filled_is cs s f)
+
+  -- so it is neither stuck nor short of steps
+  pub not_stuck : (s after : Stored) (why : Why) → IsFilled cs s → (value : Val) × GivesAlike program name us (filled cs no_cells) t value cost
+      → crun (linked_over program [] no_foreign_heap) (budget cost) name us s ≡ stuck why after → ⊥
+  not_stuck s after why f g e = let a = run_from s f in let b = g.1.gives.ends in absurd (cc)
+
+  pub not_short : (s after : Stored) → IsFilled cs s → (value : Val) × GivesAlike program name us (filled cs no_cells) t value cost
+      → crun (linked_over program [] no_foreign_heap) (budget cost) name us s ≡ needs after → ⊥
+  not_short s after f g e = let a = run_from s f in let b = g.1.gives.ends in absurd (cc)
+
+  -- and what is read back is what it gives
+  pub gives_so : (s after : Stored) → IsFilled cs s → IsTrue (is_first_order t) → (ran : Ran)
+      → EndsAs (crun (linked_over program [] no_foreign_heap) (budget cost) name us s) (budget cost) after ran
+      → (r : Result Machined Memory) → IfOk r (ReadsBack after t ran)
+      → (value : Val) → GivesAlike program name us (filled cs no_cells) t value cost
+      → IfOk r (Runs program name us (filled cs no_cells) (budget cost) t value)
+  gives_so s after f plain ran ended r back value g =
+      each (ReadsBack after t ran) (Runs program name us (filled cs no_cells) (budget cost) t value)
+      (ran_so program name us (filled cs no_cells) after (budget cost) t value cost refl plain g ran
+      (subst (λ o. EndsAs o (budget cost) after ran) (run_from s f) ended)) r back
 
 -- ---- what is said
 
--- a word as a value
-pub word_value : (n : ℕ) → value_of (Num n) ≡ number n
-word_value n = search (rules, the_lemmas)
+-- what the machine gave is what is said of the C of an entry
+pub machined : (copies : List Copy) (program : CProgram) (name : List ℕ) (place : ℕ) (t : Tau) (us : List Scalar) (m : Stored) (value : Val) (cost : ℕ) → Emits copies program → name ≡ function_name place
+    → (r : Result Machined Memory) → IfOk r (Runs (program_of program) name us m (budget cost) t value) → IfOk r (Machines copies place t us m value cost)
+machined copies program name place t us m value cost e is r h =
+    each (Runs (program_of program) name us m (budget cost) t value) (Machines copies place t us m value cost)
+    (λ x ran. record { program = program_of program; spelled = e.spelled; runs = subst (λ n. Runs (program_of program) n us m (budget cost) t value x) is ran }) r h
 
-pub runs : (checked : Checked) (copies : List Copy) (at place arg : ℕ) (v : Val) (cost result taken n : ℕ) → HoldsCores checked → Machines copies place arg v cost result taken
-    → ((m : ℕ) → v ≡ number m → n ≡ m) → (r : Report) → IsLine Done (report (number n) (number result) cost taken [] [] []) r → (steps : ℕ) → Gives checked at arg steps v cost
-    → Reports (Executes (functions_in checked) copies at place arg steps) r
-runs checked copies at place arg v cost result taken n cores m is r line steps gives =
-    let same : n ≡ result = is result m.equal in
-    line_says (Executes (functions_in checked) copies at place arg steps) Done (report (number n) (number result) cost taken [] [] []) r line (
-      n,
+pub said_of : (checked : Checked) (list : List Instance) (at place : ℕ) (t : Tau) (a : Argument) (value : Val) (cost : ℕ) (r : Machined) → HoldsCores checked → entry_place (copies_in checked list) at ≡ Some place
+    → Machines (copies_in checked list) place t a.scalars (begun a) value cost r → (p : Report) → IsLine Done (report t value (value_of r.value) cost r.steps r.made r.freed r.kept) p
+    → (steps : ℕ) → Gives checked at a.value steps value cost → Reports (Executes (functions_in checked) (copies_in checked list) at t a steps) p
+said_of checked list at place t a value cost r cores stands m p line steps gives =
+    line_says (Executes (functions_in checked) (copies_in checked list) at t a steps) Done (report t value (value_of r.value) cost r.steps r.made r.freed r.kept) p line (
+      value,
       cost,
       record {
         cores = cores_of checked;
         derived = cores;
-        gives = ap (λ (t : Table). evaluation t steps (function (User at) []) (number arg)) (sym (table_same checked)) ∙ gives ∙ ap (λ x. Some (x, cost)) (m.equal ∙ ap number (sym same));
+        gives = ap (λ (x : Table). evaluation x steps (function (User at) []) a.value) (sym (table_same checked)) ∙ gives;
       },
       record {
+        place = place;
+        stands = stands;
         program = m.program;
         spelled = m.spelled;
-        result = result;
-        taken = taken;
-        left = m.run.left;
-        ends = m.run.ends;
-        counted = m.run.counted;
-        equal = sym same;
+        result = value_of r.value;
+        taken = r.steps;
+        made = r.made;
+        freed = r.freed;
+        kept = r.kept;
+        runs = m.runs.0;
+        equal = m.runs.1;
         lines = refl;
       },
     )
 
-pub runs_out : (checked : Checked) (copies : List Copy) (at place arg steps : ℕ) → HoldsCores checked → IsSpent (table_of no_foreign checked) steps (function (User at) []) (value_of (Num arg))
-    → Executes (functions_in checked) copies at place arg steps StepLimit (step_limit_line steps)
-runs_out checked copies at place arg steps cores out = (
+pub runs_out : (checked : Checked) (copies : List Copy) (at : ℕ) (t : Tau) (a : Argument) (steps : ℕ) → HoldsCores checked → IsSpent (table_of no_foreign checked) steps (function (User at) []) a.value
+    → Executes (functions_in checked) copies at t a steps StepLimit (step_limit_line steps)
+runs_out checked copies at t a steps cores out = (
   record {
     cores = cores_of checked;
     derived = cores;
-    spent = subst (λ (t : Table). IsSpent t steps (function (User at) []) (number arg)) (table_same checked) (subst (IsSpent (table_of no_foreign checked) steps (function (User at) [])) (word_value arg) out);
+    spent = subst (λ (x : Table). IsSpent x steps (function (User at) []) a.value) (table_same checked) out;
   },
   refl,
 )
 
 -- what both runs say is what the last judgement of `run` comes to
-pub executed : (checked : Checked) (list : List Instance) (at place arg steps : ℕ) (f : Found) → KeepsCopies checked list f → f.at ≡ at → f.place ≡ place → f.argument ≡ arg
-    → (r : Result Report Memory) → IfOk r (Reports (Executes (functions_in checked) (copies_in checked list) at place arg steps)) → Rules Judges ran_lines (evaluated steps ∷ []) f r
-executed checked list at place arg steps f kept there placed given (Err e) h = tt
-executed checked list at place arg steps f kept there placed given (Ok r) h = from r.status refl (moved h)
+pub executed : (checked : Checked) (list : List Instance) (at : ℕ) (t : Tau) (a : Argument) (steps : ℕ) (f : Found) → KeepsCopies checked list f → f.at ≡ at → result_type (functions f) f.at ≡ t → f.argument ≡ a
+    → (r : Result Report Memory) → IfOk r (Reports (Executes (functions_in checked) (copies_in checked list) at t a steps)) → Rules Judges ran_lines (evaluated steps ∷ []) f r
+executed checked list at t a steps f kept there typed given (Err e) h = tt
+executed checked list at t a steps f kept there typed given (Ok r) h = from r.status refl (moved h)
   where
-    moved : Executes (functions_in checked) (copies_in checked list) at place arg steps r.status (string_bytes r.text)
-        → Executes (functions f) f.copies f.at f.place f.argument steps r.status (string_bytes r.text)
+    moved : Executes (functions_in checked) (copies_in checked list) at t a steps r.status r.text.items
+        → Executes (functions f) f.copies f.at (result_type (functions f) f.at) f.argument steps r.status r.text.items
     moved h =
-        subst (λ x. Executes x f.copies f.at f.place f.argument steps r.status (string_bytes r.text)) (sym kept.same)
-        (subst (λ x. Executes (functions_in checked) x f.at f.place f.argument steps r.status (string_bytes r.text)) (sym kept.copies)
-        (subst (λ x. Executes (functions_in checked) (copies_in checked list) x f.place f.argument steps r.status (string_bytes r.text)) (sym there)
-        (subst (λ x. Executes (functions_in checked) (copies_in checked list) at x f.argument steps r.status (string_bytes r.text)) (sym placed)
-        (subst (λ x. Executes (functions_in checked) (copies_in checked list) at place x steps r.status (string_bytes r.text)) (sym given) h))))
+        subst (λ x. Executes x f.copies f.at (result_type (functions f) f.at) f.argument steps r.status r.text.items) (sym kept.same)
+        (subst (λ x. Executes (functions_in checked) x f.at (result_type (functions f) f.at) f.argument steps r.status r.text.items) (sym kept.copies)
+        (subst (λ x. Executes (functions_in checked) (copies_in checked list) x (result_type (functions f) f.at) f.argument steps r.status r.text.items) (sym there)
+        (subst (λ x. Executes (functions_in checked) (copies_in checked list) at x f.argument steps r.status r.text.items) (sym typed)
+        (subst (λ x. Executes (functions_in checked) (copies_in checked list) at t x steps r.status r.text.items) (sym given) h))))
 
-    from : (s : Status) → r.status ≡ s → Executes (functions f) f.copies f.at f.place f.argument steps s (string_bytes r.text) → Rules Judges ran_lines (evaluated steps ∷ []) f (Ok r)
+    from : (s : Status) → r.status ≡ s → Executes (functions f) f.copies f.at (result_type (functions f) f.at) f.argument steps s r.text.items → Rules Judges ran_lines (evaluated steps ∷ []) f (Ok r)
     from Done is h = (goes (with_value h.0 h.1 f), inr (with_value h.0 h.1 f, (h.0, h.1, refl, h.2), refl), (is, h.3))
-    from StepLimit is h = (refuses StepLimit (string_bytes r.text), inl (tt, (refl, h.1, h.0)), (is, refl))
+    from StepLimit is h = (refuses StepLimit r.text.items, inl (tt, (refl, h.1, h.0)), (is, refl))
     from Refused is h = absurd h
     from Usage is h = absurd h
     from ReadFault is h = absurd h

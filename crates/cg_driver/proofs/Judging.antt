@@ -1,5 +1,5 @@
 -- Each judgement comes to one outcome, refuses with a status of its own, and each command says one text of what it found.
-use Rattle.std.proofs.Common.{◌≡◌, ◌⊎◌, inl, inr, ◌<◌, ◌∙◌, ◌+◌, ℕ, List, [], ◌∷◌, Option, Some, None, Result, Err, refl, sym, ap, subst, arith}
+use Rattle.std.proofs.Common.{◌≡◌, ◌⊎◌, inl, inr, ◌<◌, ◌∙◌, ℕ, List, [], ◌∷◌, Option, Some, None, Result, Err, length, refl, sym, ap, subst, arith}
 use Rattle.std.specs.Prelude.{codes, slice_get}
 use Rattle.std.proofs.lemmas.Option.{same_Some}
 use Rattle.cg_base.specs.declared.fun.Fun.TheVariants.{User}
@@ -11,7 +11,6 @@ use Rattle.cg_check_laws.proofs.OneFault.{one_fault}
 use Rattle.cg_lower.specs.Collected.{Copy}
 use Rattle.cg_core.specs.Kernels.{Function}
 use Rattle.cg_cread.proofs.One.{one_program as one_text}
-use Rattle.cg_cmachine_def.specs.Outcomes.{State, Outcome as Ended, done}
 use Rattle.cg_resolve_def.specs.Desugar.{entry_at as name_at}
 use Rattle.cg_resolve_def.specs.Faults.{NameFault, program_faults}
 use Rattle.cg_eval_def.specs.Evaluation.{evaluation}
@@ -20,8 +19,18 @@ use Rattle.cg_faults.specs.Events.{kernel_events, first_failing}
 use Rattle.cg_faults.specs.Rule.{Test, rule, type_limit}
 use Rattle.cg_faults_laws.proofs.Occurring.{kernels_are_accepted_or_at_fault}
 use Rattle.cg_heap.specs.declared.cell.Scalar.{Scalar}
-use Rattle.cg_heap.specs.declared.cell.Scalar.TheVariants.{Word}
-use Rattle.cg_heaptext.proofs.Reading.{one_argument}
+use Rattle.cg_base.specs.declared.kind.Sigil.TheVariants.{W}
+use Rattle.cg_base.specs.Types.{Tau}
+use Rattle.cg_heap.specs.Calls.{heap_of}
+use Rattle.cg_heap.specs.NoForeignHeap.{no_foreign_heap}
+use Rattle.cg_heap.specs.Reps.{foot}
+use Rattle.cg_heap.specs.Stored.{Stored}
+use Rattle.cg_heaptext.specs.Answers.{IsFault}
+use Rattle.cg_heaptext.specs.declared.fault.HeapFault.{HeapFault}
+use Rattle.cg_heaptext.specs.declared.fault.HeapFault.TheVariants.{H1, H2, H3, H4, H5, H6, H7, Memory}
+use Rattle.cg_heaptext_def.specs.HeapText.{Fault, IsFaulty, IsNoHeap, absent, aliased, large, misfits, over, second}
+use Rattle.cg_heaptext_fault_laws.proofs.Cuts.{cut_is_no_text, one_cut}
+use Rattle.cg_heaptext_fault_laws.proofs.Faults.{fault_is_no_text, one_fault as one_fault_of, one_text as one_text_of}
 use Rattle.cg_core_def.specs.Lawful.{IsLawfulKernel}
 use Rattle.cg_cgen_def.specs.Names.{function_name}
 use Rattle.cg_resolve_names.specs.Says.{IsFirst}
@@ -31,8 +40,8 @@ use Rattle.cg_parser.specs.declared.fault.ParseFault.TheVariants.{S1, S2, S3, S4
 use Rattle.cg_parser.proofs.One.{one_program}
 use Rattle.cg_parser.proofs.Same.{one_answer as one_reading}
 use Rattle.cg_resolve.specs.Answers.{IsCircleAt}
-use Rattle.cg_driver_laws.specs.Laws.{CopiesReachCells}
-use Rattle.cg_cmachine_def.specs.WordRuns.{RunsTo}
+use Rattle.cg_cmachine_def.specs.Runs.{Linked, crun}
+use Rattle.cg_driver_laws.specs.Laws.{linked_over}
 use Rattle.cg_driver_steps.specs.declared.status.Status.{Status}
 use Rattle.cg_driver_steps.specs.declared.status.Status.TheVariants.{Refused, Usage, StepLimit, HeapRefused, CertRefused, TooLarge}
 use Rattle.cg_driver_steps.specs.Steps.{Outcome, refuses, goes}
@@ -40,16 +49,19 @@ use Rattle.cg_driver_steps.specs.Scripts.{IsRuling}
 use Rattle.cg_surface.specs.declared.program.Program.{Program}
 use Rattle.cg_surface.specs.Programs.{Entry}
 use Rattle.cg_typing.specs.Accepted.{IsAcceptedKernel}
-use Rattle.cg_value.specs.Values.{Val, number, function}
+use Rattle.cg_value.specs.NoForeign.{no_foreign}
+use Rattle.cg_value.specs.Values.{Val, function}
 use Rattle.cg_driver_words.specs.Words.{Command, check, build, recheck, run}
-use Rattle.cg_driver.specs.Commands.{Judgement, no_command, within, spelled, named, acyclic, with_fields, typed, written, certified, instanced, certifiable, has_entry, allowed, concrete, on_words, heap_spelled, in_range, evaluated, RefusesSyntax, unknown_byte, open_comment, unexpected, wrong_bar, RefusesTyping, RefusesType, Judges, script_of}
-use Rattle.cg_driver.specs.Entered.{IsOnWords, NeedsMore, cells, other_type}
-use Rattle.cg_driver.specs.Found.{Found, with_program, with_copies, with_cert, with_entry, with_place, with_argument, with_value, functions}
-use Rattle.cg_driver.specs.Lines.{fault_line, name_rule, rule_line, byte_line, limit_line, report}
+use Rattle.cg_driver.specs.Commands.{Judgement, no_command, within, spelled, named, acyclic, with_fields, typed, written, certified, instanced, certifiable, has_entry, allowed, concrete, has_argument, evaluated, HoldsArgument, RefusesHeap, RefusesSyntax, unknown_byte, open_comment, unexpected, wrong_bar, RefusesTyping, RefusesType, Judges, script_of}
+use Rattle.cg_driver.specs.Entered.{argument_type, result_type}
+use Rattle.cg_driver.specs.Found.{Argument, Found, with_program, with_copies, with_cert, with_entry, with_argument, with_value, functions}
+use Rattle.cg_driver.specs.Lines.{fault_line, name_rule, rule_line, byte_line, heap_line, limit_line, report, run_lines}
 use Rattle.cg_driver.specs.Instanced.{emitted}
-use Rattle.cg_driver.specs.Run.{table_in, budget, Evaluates, RunsOut, IsReport}
+use Rattle.cg_driver.specs.Run.{table_in, begun, budget, Evaluates, RunsOut, RunsTo, IsReport}
 use Rattle.cg_driver.proofs.Certifying.{one_node, none_misfits, node_ruling, node_not_usage}
 use Rattle.cg_driver.proofs.Cores.{one_list}
+use Rattle.cg_driver.proofs.Ends.{end_same}
+use Rattle.cg_driver.proofs.Kept.{equally_long}
 use Rattle.cg_driver.proofs.Instancing.{not_passed, one_copies, one_passed}
 use Rattle.cg_resolve.proofs.One.{no_first as no_name, same_place as first_take, no_place as no_take}
 
@@ -142,37 +154,72 @@ not_typed file fs s t (inr a) accepted narrow = none_fails fs type_limit a.1.pla
 
 -- ---- evaluation
 
-record SameGiven (v w k l : ℕ) : Type 0 where
+record SameGiven (v w : Val) (k l : ℕ) : Type 0 where
   value : v ≡ w
   cost : k ≡ l
 
-number_same : (v w : ℕ) → number v ≡ number w → v ≡ w
-number_same v w e = cc
-
-given_same : (v w k l : ℕ) (o : Option (Val × ℕ)) → o ≡ Some (number v, k) → o ≡ Some (number w, l) → SameGiven v w k l
+given_same : (v w : Val) (k l : ℕ) (o : Option (Val × ℕ)) → o ≡ Some (v, k) → o ≡ Some (w, l) → SameGiven v w k l
 given_same v w k l o a b =
-    let e : (number v, k) ≡ (number w, l) = same_Some (number v, k) (number w, l) (sym a ∙ b) in
-    record { value = number_same v w (ap (λ p. p.0) e); cost = ap (λ p. p.1) e }
+    let e : (v, k) ≡ (w, l) = same_Some (v, k) (w, l) (sym a ∙ b) in
+    record { value = ap (λ p. p.0) e; cost = ap (λ p. p.1) e }
 
-evaluates_once : (fs : List Function) (at arg steps v k w l : ℕ) → Evaluates fs at arg steps v k → Evaluates fs at arg steps w l → SameGiven v w k l
+evaluates_once : (fs : List Function) (at : ℕ) (arg : Val) (steps : ℕ) (v : Val) (k : ℕ) (w : Val) (l : ℕ) → Evaluates no_foreign fs at arg steps v k → Evaluates no_foreign fs at arg steps w l → SameGiven v w k l
 evaluates_once fs at arg steps v k w l a b =
     let same : b.cores ≡ a.cores = one_list fs b.cores a.cores b.derived a.derived in
-    given_same v w k l (evaluation (table_in fs a.cores) steps (function (User at) []) (number arg)) a.gives
-    (subst (λ c. evaluation (table_in fs c) steps (function (User at) []) (number arg) ≡ Some (number w, l)) same b.gives)
+    given_same v w k l (evaluation (table_in no_foreign fs a.cores) steps (function (User at) []) arg) a.gives
+    (subst (λ c. evaluation (table_in no_foreign fs c) steps (function (User at) []) arg ≡ Some (w, l)) same b.gives)
 
-not_both : (fs : List Function) (at arg steps v k : ℕ) → Evaluates fs at arg steps v k → RunsOut fs at arg steps → ⊥
+not_both : (fs : List Function) (at : ℕ) (arg : Val) (steps : ℕ) (v : Val) (k : ℕ) → Evaluates no_foreign fs at arg steps v k → RunsOut no_foreign fs at arg steps → ⊥
 not_both fs at arg steps v k a b =
     let same : b.cores ≡ a.cores = one_list fs b.cores a.cores b.derived a.derived in
-    let none : evaluation (table_in fs a.cores) steps (function (User at) []) (number arg) ≡ None = subst (λ c. evaluation (table_in fs c) steps (function (User at) []) (number arg) ≡ None) same b.spent.none in
-    let some : evaluation (table_in fs a.cores) steps (function (User at) []) (number arg) ≡ Some (number v, k) = a.gives in
+    let none : evaluation (table_in no_foreign fs a.cores) steps (function (User at) []) arg ≡ None = subst (λ c. evaluation (table_in no_foreign fs c) steps (function (User at) []) arg ≡ None) same b.spent.none in
+    let some : evaluation (table_in no_foreign fs a.cores) steps (function (User at) []) arg ≡ Some (v, k) = a.gives in
     absurd (cc)
 
--- ---- entries
+-- ---- heap files
 
--- an entry that can be run needs no more
-not_on_words : (fs : List Function) (copies : List Copy) (at place : ℕ) → NeedsMore fs copies at → IsOnWords fs copies at place → ⊥
-not_on_words fs copies at place (other_type other) w = let words = w.words in absurd (cc)
-not_on_words fs copies at place (cells k stands reached) w = w.without (subst (CopiesReachCells copies) (same_Some k place (sym stands ∙ w.stands)) reached)
+-- a fault is H1 on a line, or one of the others on a line
+abbrev made : Fault → ℕ → HeapFault
+made second line = H2 line
+made absent line = H3 line
+made misfits line = H4 line
+made over line = H5 line
+made aliased line = H6 line
+made large line = H7 line
+
+data Kind (bytes : List ℕ) (t : Tau) (f : HeapFault) : Type 0 where
+  cut : (line : ℕ) → f ≡ H1 line → IsNoHeap bytes line → Kind bytes t f
+  other : (fault : Fault) (line : ℕ) → f ≡ made fault line → IsFaulty bytes t fault line → Kind bytes t f
+
+kind : (bytes : List ℕ) (t : Tau) (f : HeapFault) → IsFault bytes t f → Kind bytes t f
+kind bytes t (H1 line) h = cut line refl h
+kind bytes t (H2 line) h = other second line refl h
+kind bytes t (H3 line) h = other absent line refl h
+kind bytes t (H4 line) h = other misfits line refl h
+kind bytes t (H5 line) h = other over line refl h
+kind bytes t (H6 line) h = other aliased line refl h
+kind bytes t (H7 line) h = other large line refl h
+kind bytes t Memory h = absurd h
+
+one_kind_of : (bytes : List ℕ) (t : Tau) (f g : HeapFault) → Kind bytes t f → Kind bytes t g → f ≡ g
+one_kind_of bytes t f g (cut m e a) (cut n d b) = e ∙ ap H1 (one_cut bytes m n a b) ∙ sym d
+one_kind_of bytes t f g (cut m e a) (other y n d b) = absurd (cut_is_no_text bytes m a b.heap b.spells)
+one_kind_of bytes t f g (other x m e a) (cut n d b) = absurd (cut_is_no_text bytes n b a.heap a.spells)
+one_kind_of bytes t f g (other x m e a) (other y n d b) =
+    let one = one_fault_of bytes t x y m n a b in e ∙ ap (λ z. made z m) one.0 ∙ ap (made y) one.1 ∙ sym d
+
+no_text_at : (bytes : List ℕ) (t : Tau) (f : HeapFault) (a : Argument) → Kind bytes t f → HoldsArgument bytes t a → ⊥
+no_text_at bytes t f a (cut m e n) h = cut_is_no_text bytes m n h.heap h.spells
+no_text_at bytes t f a (other x m e n) h = fault_is_no_text bytes t x m n a.cells a.scalars a.value h
+
+same_heap_line : (heap bytes : List ℕ) (t : Tau) (s s' : List ℕ) → RefusesHeap heap bytes t s → RefusesHeap heap bytes t s' → s ≡ s'
+same_heap_line heap bytes t s s' a b =
+    a.line ∙ ap (heap_line heap) (one_kind_of bytes t a.fault b.fault (kind bytes t a.fault a.first) (kind bytes t b.fault b.first)) ∙ sym b.line
+
+one_argument : (bytes : List ℕ) (t : Tau) (a b : Argument) → HoldsArgument bytes t a → HoldsArgument bytes t b → a ≡ b
+one_argument bytes t a b h k =
+    let one = one_text_of bytes t a.cells b.cells a.scalars b.scalars a.value b.value h k in
+    λ i. record { cells = one.0 i; scalars = one.1 i; value = one.2 i }
 
 -- ---- the judgements
 
@@ -237,23 +284,19 @@ single (concrete file) f (refuses s t) (refuses s' t') d d' = refused_same s s' 
 single (concrete file) f (refuses s t) (goes n) d d' = absurd (d'.1 d.2)
 single (concrete file) f (goes n) (refuses s t) d d' = absurd (d.1 d'.2)
 single (concrete file) f (goes n) (goes n') d d' = ap goes (d.0 ∙ sym d'.0)
-single (on_words file) f (refuses s t) (refuses s' t') d d' = refused_same s s' Refused t t' d.0 d'.0 (d.1 ∙ sym d'.1)
-single (on_words file) f (refuses s t) (goes n) d d' = absurd (not_on_words (functions f) f.copies f.at d'.0 d.2 d'.2)
-single (on_words file) f (goes n) (refuses s t) d d' = absurd (not_on_words (functions f) f.copies f.at d.0 d'.2 d.2)
-single (on_words file) f (goes n) (goes n') d d' = ap goes (d.1 ∙ ap (λ place. with_place place f) (same_Some d.0 d'.0 (sym d.2.stands ∙ d'.2.stands)) ∙ sym d'.1)
-single (heap_spelled heap) f (refuses s t) (refuses s' t') d d' = refused_same s s' HeapRefused t t' d.0 d'.0 (d.1 ∙ sym d'.1)
-single (heap_spelled heap) f (refuses s t) (goes n) d d' = absurd (d.2 d'.0 d'.2)
-single (heap_spelled heap) f (goes n) (refuses s t) d d' = absurd (d'.2 d.0 d.2)
-single (heap_spelled heap) f (goes n) (goes n') d d' = ap goes (d.1 ∙ ap (λ m. with_argument m f) (one_argument f.heap d.0 d'.0 d.2 d'.2) ∙ sym d'.1)
-single (in_range heap) f (refuses s t) (refuses s' t') d d' = refused_same s s' HeapRefused t t' d.0 d'.0 (d.1 ∙ sym d'.1)
-single (in_range heap) f (refuses s t) (goes n) d d' = let x = d.2 in let y = d'.1 in absurd (omega (arith, x, y))
-single (in_range heap) f (goes n) (refuses s t) d d' = let x = d'.2 in let y = d.1 in absurd (omega (arith, x, y))
-single (in_range heap) f (goes n) (goes n') d d' = ap goes (d.0 ∙ sym d'.0)
+single (has_argument heap) f (refuses s t) (refuses s' t') d d' =
+    refused_same s s' HeapRefused t t' d.0 d'.0 (same_heap_line heap f.heap (argument_type (functions f) f.at) t t' d.1 d'.1)
+single (has_argument heap) f (refuses s t) (goes n) d d' =
+    absurd (no_text_at f.heap (argument_type (functions f) f.at) d.1.fault d'.0 (kind f.heap (argument_type (functions f) f.at) d.1.fault d.1.first) d'.2)
+single (has_argument heap) f (goes n) (refuses s t) d d' =
+    absurd (no_text_at f.heap (argument_type (functions f) f.at) d'.1.fault d.0 (kind f.heap (argument_type (functions f) f.at) d'.1.fault d'.1.first) d.2)
+single (has_argument heap) f (goes n) (goes n') d d' =
+    ap goes (d.1 ∙ ap (λ a. with_argument a f) (one_argument f.heap (argument_type (functions f) f.at) d.0 d'.0 d.2 d'.2) ∙ sym d'.1)
 single (evaluated steps) f (refuses s t) (refuses s' t') d d' = refused_same s s' StepLimit t t' d.0 d'.0 (d.1 ∙ sym d'.1)
-single (evaluated steps) f (refuses s t) (goes n) d d' = absurd (not_both (functions f) f.at f.argument steps d'.0 d'.1 d'.3 d.2)
-single (evaluated steps) f (goes n) (refuses s t) d d' = absurd (not_both (functions f) f.at f.argument steps d.0 d.1 d.3 d'.2)
+single (evaluated steps) f (refuses s t) (goes n) d d' = absurd (not_both (functions f) f.at f.argument.value steps d'.0 d'.1 d'.3 d.2)
+single (evaluated steps) f (goes n) (refuses s t) d d' = absurd (not_both (functions f) f.at f.argument.value steps d.0 d.1 d.3 d'.2)
 single (evaluated steps) f (goes n) (goes n') d d' =
-    let e = evaluates_once (functions f) f.at f.argument steps d.0 d.1 d'.0 d'.1 d.3 d'.3 in
+    let e = evaluates_once (functions f) f.at f.argument.value steps d.0 d.1 d'.0 d'.1 d.3 d'.3 in
     ap goes (d.2 ∙ ap (λ v. with_value v d.1 f) e.value ∙ ap (λ k. with_value d'.0 k f) e.cost ∙ sym d'.2)
 
 -- of lawful functions the rules decide
@@ -287,9 +330,7 @@ ruling certifiable f s t d = subst IsRuling (sym d.0) tt
 ruling (has_entry file name) f s t d = subst IsRuling (sym d.0) tt
 ruling (allowed file) f s t d = subst IsRuling (sym d.0) tt
 ruling (concrete file) f s t d = subst IsRuling (sym d.0) tt
-ruling (on_words file) f s t d = subst IsRuling (sym d.0) tt
-ruling (heap_spelled heap) f s t d = subst IsRuling (sym d.0) tt
-ruling (in_range heap) f s t d = subst IsRuling (sym d.0) tt
+ruling (has_argument heap) f s t d = subst IsRuling (sym d.0) tt
 ruling (evaluated steps) f s t d = subst IsRuling (sym d.0) tt
 
 -- only words that are no command are answered with the usage text
@@ -316,34 +357,53 @@ not_usage certifiable f s t of d = λ e. let x = d.0 in absurd (cc)
 not_usage (has_entry file name) f s t of d = λ e. let x = d.0 in absurd (cc)
 not_usage (allowed file) f s t of d = λ e. let x = d.0 in absurd (cc)
 not_usage (concrete file) f s t of d = λ e. let x = d.0 in absurd (cc)
-not_usage (on_words file) f s t of d = λ e. let x = d.0 in absurd (cc)
-not_usage (heap_spelled heap) f s t of d = λ e. let x = d.0 in absurd (cc)
-not_usage (in_range heap) f s t of d = λ e. let x = d.0 in absurd (cc)
+not_usage (has_argument heap) f s t of d = λ e. let x = d.0 in absurd (cc)
 not_usage (evaluated steps) f s t of d = λ e. let x = d.0 in absurd (cc)
 
 -- ---- what is printed at status 0
 
-record SameRun (r r' l l' : ℕ) : Type 0 where
-  result : r ≡ r'
-  left : l ≡ l'
+record SameRun (n n' : ℕ) (ms ms' fs fs' ks ks' : List ℕ) : Type 0 where
+  taken : n ≡ n'
+  made : ms ≡ ms'
+  freed : fs ≡ fs'
+  kept : length ks ≡ length ks'
 
-run_same : (r r' l l' : ℕ) (s : State) (o : Ended (List Scalar)) → o ≡ done (Word r ∷ []) s l → o ≡ done (Word r' ∷ []) s l' → SameRun r r' l l'
-run_same r r' l l' s o a b = record { result = cc; left = cc }
+-- two runs from one heap tell the same
+run_same : (linked : Linked) (name : List ℕ) (us : List Scalar) (m : Stored) (most : ℕ) (t : Tau) (v w : Val) (taken taken' : ℕ) (made freed kept made' freed' kept' : List ℕ)
+    → RunsTo linked name us m most t v taken made freed kept → RunsTo linked name us m most t w taken' made' freed' kept' → SameRun taken taken' made made' freed freed' kept kept'
+run_same linked name us m most t v w taken taken' made freed kept made' freed' kept' a b =
+    let e = end_same a.given b.given a.state b.state a.left b.left (crun linked most name us m) a.ends b.ends in
+    let left = e.left in
+    let x = a.counted in
+    let y = b.counted in
+    record {
+      taken = omega (arith, left, x, y);
+      made = a.are_made ∙ ap (λ s. s.made) e.state ∙ sym b.are_made;
+      freed = a.are_freed ∙ ap (λ s. s.freed) e.state ∙ sym b.are_freed;
+      kept = equally_long kept kept' (λ q. a.are_kept q ∙ a.represents.are_writes q ∙ ap (λ s. foot (heap_of s.store) W t a.given q) e.state ∙ ap (λ vs. foot (heap_of b.state.store) W t vs q) e.given
+          ∙ sym (b.represents.are_writes q) ∙ sym (b.are_kept q));
+    }
 
-report_once : (copies : List Copy) (at arg value cost : ℕ) (t t' : List ℕ) → IsReport copies at arg value cost t → IsReport copies at arg value cost t' → t ≡ t'
-report_once copies at arg value cost t t' a b =
+lines_same : (t : Tau) (value v w : Val) (cost taken taken' : ℕ) (made made' freed freed' kept kept' : List ℕ) → v ≡ w → SameRun taken taken' made made' freed freed' kept kept'
+    → report t value v cost taken made freed kept ≡ report t value w cost taken' made' freed' kept'
+lines_same t value v w cost taken taken' made made' freed freed' kept kept' e r =
+    λ i. run_lines t value (e i) cost (r.taken i) (length (r.made i)) (length (r.freed i)) (r.kept i)
+
+report_once : (copies : List Copy) (at : ℕ) (t : Tau) (arg : Argument) (value : Val) (cost : ℕ) (s s' : List ℕ) → IsReport copies at t arg value cost s → IsReport copies at t arg value cost s' → s ≡ s'
+report_once copies at t arg value cost s s' a b =
     let program : b.program ≡ a.program = one_text (emitted copies) b.program a.program b.spelled a.spelled in
-    let ends : RunsTo a.program (function_name at) arg (budget cost) b.result b.left = subst (λ p. RunsTo p (function_name at) arg (budget cost) b.result b.left) program b.ends in
-    let e = run_same a.result b.result a.left b.left _ _ a.ends ends in
-    let left : a.left ≡ b.left = e.left in
-    let x : a.taken + a.left ≡ budget cost = a.counted in
-    let y : b.taken + b.left ≡ budget cost = b.counted in
-    let taken : a.taken ≡ b.taken = omega (arith, left, x, y) in
-    a.lines ∙ ap (λ r. report (number value) (number r) cost a.taken [] [] []) e.result ∙ ap (λ n. report (number value) (number b.result) cost n [] [] []) taken ∙ sym b.lines
+    let place : b.place ≡ a.place = same_Some b.place a.place (sym b.stands ∙ a.stands) in
+    let runs : RunsTo (linked_over a.program [] no_foreign_heap) (function_name a.place) arg.scalars (begun arg) (budget cost) t b.result b.taken b.made b.freed b.kept =
+    subst (λ p. RunsTo (linked_over p [] no_foreign_heap) (function_name a.place) arg.scalars (begun arg) (budget cost) t b.result b.taken b.made b.freed b.kept) program
+    (subst (λ k. RunsTo (linked_over b.program [] no_foreign_heap) (function_name k) arg.scalars (begun arg) (budget cost) t b.result b.taken b.made b.freed b.kept) place b.runs) in
+    a.lines
+    ∙ lines_same t value a.result b.result cost a.taken b.taken a.made b.made a.freed b.freed a.kept b.kept (a.equal ∙ sym b.equal)
+    (run_same (linked_over a.program [] no_foreign_heap) (function_name a.place) arg.scalars (begun arg) (budget cost) t a.result b.result a.taken b.taken a.made a.freed a.kept b.made b.freed b.kept a.runs runs)
+    ∙ sym b.lines
 
 pub once : (c : Option Command) (f : Found) (t t' : List ℕ) → (script_of c).line f t → (script_of c).line f t' → t ≡ t'
 once None f t t' a b = absurd a
 once (Some (check file)) f t t' a b = a ∙ sym b
 once (Some (build file text certificate)) f t t' a b = a.0 ∙ sym b.0
 once (Some (recheck file certificate)) f t t' a b = a ∙ sym b
-once (Some (run file entry heap steps)) f t t' a b = report_once f.copies f.place f.argument f.value f.cost t t' a b
+once (Some (run file entry heap steps)) f t t' a b = report_once f.copies f.at (result_type (functions f) f.at) f.argument f.value f.cost t t' a b

@@ -1,6 +1,6 @@
 -- From what the functions for certificates answer to what the judgements come to.
 use Rattle.std.proofs.Common.{◌≡◌, ◌<◌, ◌≤◌, inl, inr, ℕ, List, [], ◌∷◌, Result, Ok, Err, length, refl, sym, ap, ◌∙◌, subst}
-use Rattle.std.specs.Prelude.{codes, IfOk, string_bytes, map}
+use Rattle.std.specs.Prelude.{codes, IfOk, map}
 use Rattle.cg_base.specs.declared.limit.Limit.{Limit}
 use Rattle.cg_base.specs.declared.memory.Memory.{Memory}
 use Rattle.cg_cert.specs.Answers.{Answers as IsReadAs}
@@ -80,7 +80,7 @@ module _ (name : List ℕ) (fs : List Function) (cert : Cert) (lawful : IsLawful
 -- what is said of a certificate that is refused are the last rules
 pub refused_rules : (name : List ℕ) (fs : List Function) (cert : Cert) (f : Found) → functions f ≡ fs → f.cert ≡ cert → (r : Result Report Memory) → IfOk r (Reports (RefusesCert name fs cert))
     → Rules Judges rechecked_line (certified name ∷ []) f r
-refused_rules name fs cert f same is (Ok r) h = (refuses r.status (string_bytes r.text), h f same is, (refl, refl))
+refused_rules name fs cert f same is (Ok r) h = (refuses r.status r.text.items, h f same is, (refl, refl))
 refused_rules name fs cert f same is (Err e) h = tt
 
 -- and of one that spells a derivation

@@ -1,6 +1,6 @@
 -- From what the functions for judgements answer to what the judgements come to.
-use Rattle.std.proofs.Common.{◌≡◌, inl, inr, ◌<◌, ◌≤◌, ◌+◌, ◌^◌, ℕ, Bool, true, false, cond, List, [], ◌∷◌, Option, Some, None, Result, Ok, Err, length, map, refl, sym, ap, ◌∙◌, subst, arith}
-use Rattle.std.specs.Prelude.{codes, IfOk, string_bytes, nat_lt, not, position, slice_get, bytes_eq}
+use Rattle.std.proofs.Common.{◌≡◌, inl, inr, ◌<◌, ◌≤◌, ◌+◌, ℕ, Bool, true, false, cond, List, [], ◌∷◌, Option, Some, None, Result, Ok, Err, length, map, refl, sym, ap, ◌∙◌, subst, arith}
+use Rattle.std.specs.Prelude.{codes, IfOk, nat_lt, not, position, slice_get, bytes_eq}
 use Rattle.std.specs.List.{position_or_len}
 use Rattle.cg_base.specs.declared.limit.Limit.{Limit}
 use Rattle.cg_base.specs.declared.limit.Limit.TheVariants as limits
@@ -24,7 +24,11 @@ use Rattle.cg_graphs.specs.Circles.{NoCircle}
 use Rattle.cg_driver_entry.specs.Entries.{ReachesAbstract}
 use Rattle.cg_faults.specs.declared.rule.Rule.{Rule}
 use Rattle.cg_faults.specs.Rule.{rule, type_limit}
-use Rattle.cg_heaptext.specs.HeapText.{HeapText}
+use Rattle.cg_base.specs.Types.{Tau}
+use Rattle.cg_heaptext.specs.Answers.{Answers as Answered, IsFault}
+use Rattle.cg_heaptext.specs.declared.fault.HeapFault.{HeapFault}
+use Rattle.cg_heaptext.specs.declared.fault.HeapFault.TheVariants.{H1, H2, H3, H4, H5, H6, H7, Memory as Wanting}
+use Rattle.cg_heaptext.specs.declared.start.Start.{Start}
 use Rattle.cg_core_def.specs.Lawful.{IsLawfulKernel}
 use Rattle.cg_resolve_names.specs.Says.{IsFirst}
 use Rattle.cg_resolve_takes.specs.Says as takes
@@ -46,22 +50,27 @@ use Rattle.cg_surface.specs.Programs.{Entry, program_depth}
 use Rattle.cg_typing.specs.Accepted.{IsAcceptedKernel}
 use Rattle.cg_typing.specs.declared.checked.Checked.{Checked}
 use Rattle.cg_typing.specs.Holds.{kernel_in, cores_in, trees_in}
+use Rattle.cg_typing.specs.Parts.{nodes, type_size}
 use Rattle.cg_typing.specs.Kept.{AreKept, maybe_core, maybe_tree}
 use Rattle.cg_driver.specs.Accepted.{HasKernel, IsAcceptedSource}
-use Rattle.cg_driver.specs.Commands.{Judgement, RefusesSyntax, Judges, kernel_rules, resolving_rules, reading_rules, source_rules, entry_rules, type_rules, heap_rules, entry_at}
-use Rattle.cg_driver.specs.Entered.{is_entry}
+use Rattle.cg_driver.specs.Commands.{HoldsArgument, Judgement, RefusesSyntax, Judges, kernel_rules, resolving_rules, reading_rules, source_rules, entry_rules, type_rules, heap_rules, entry_at}
+use Rattle.cg_driver.specs.Entered.{argument_type, is_entry}
 use Rattle.cg_driver.specs.Found.{Found, with_program, with_entry, with_argument, functions, source_limit, heap_limit}
-use Rattle.cg_driver.specs.Judged.{functions_in, IsCheckedKernel, IsCheckedSource, IsKernelOf, IsReadSource, Keeps, RefusesKernel, RefusesProgram, RefusesReading, RefusesSource, RefusesEntry, RefusesFunction, RefusesBytes, IsAllowed, IsAllowedAt, IsEntry, IsArgument}
-use Rattle.cg_driver.specs.Lines.{fault_line, name_rule, rule_line, no_entry_line, entry_type_line, abstract_line, no_heap_text_line, out_of_range_line, limit_name, limit_line}
+use Rattle.cg_driver.specs.Judged.{functions_in, IsCheckedKernel, IsCheckedSource, IsKernelOf, IsReadSource, Keeps, RefusesKernel, RefusesProgram, RefusesReading, RefusesSource, RefusesEntry, RefusesFunction, RefusesBytes, IsAllowed, IsAllowedAt, IsEntry, IsFaultOfFile, IsStartOf, argument_of}
+use Rattle.cg_driver.specs.Lines.{fault_line, name_rule, rule_line, no_entry_line, entry_type_line, abstract_line, heap_line, limit_name, limit_line}
 use Rattle.cg_driver.proofs.Sources.{accepted_source, resolved_in}
 
 -- a report of a line says what the line says
 pub line_says : (Q : Status → List ℕ → Type 0) (wanted : Status) (line : List ℕ) (r : Report) → IsLine wanted line r → Q wanted line → Reports Q r
-line_says Q wanted line r is q = subst (λ s. Q s (string_bytes r.text)) (sym is.0) (subst (λ t. Q wanted t) (sym is.1) q)
+line_says Q wanted line r is q = subst (λ s. Q s r.text.items) (sym is.0) (subst (λ t. Q wanted t) (sym is.1) q)
 
-pub each : {E : Type 0} (P Q : Report → Type 0) → ((r : Report) → P r → Q r) → (r : Result Report E) → IfOk r P → IfOk r Q
+pub each : {T E : Type 0} (P Q : T → Type 0) → ((r : T) → P r → Q r) → (r : Result T E) → IfOk r P → IfOk r Q
 each P Q step (Ok r) h = step r h
 each P Q step (Err e) h = tt
+
+-- what holds of a step that goes on
+pub goes_is : {T E : Type 0} (P : T → Type 0) (S : Status → List ℕ → Type 0) (r : Result (Step T) E) (x : T) → r ≡ Ok (Goes x) → IfOk r (Steps P S) → P x
+goes_is P S r x is said = subst (λ y. IfOk y (Steps P S)) is said
 
 -- the same, where memory may have run out
 pub line_told : {E : Type 0} (Q : Status → List ℕ → Type 0) (wanted : Status) (line : List ℕ) → Q wanted line → (r : Result Report E) → IfOk r (IsLine wanted line) → IfOk r (Reports Q)
@@ -70,7 +79,7 @@ line_told Q wanted line q r h = each (IsLine wanted line) (Reports Q) (λ x is. 
 pub steps_follow : {T E : Type 0} (P Q : T → Type 0) (S U : Status → List ℕ → Type 0) → ((x : T) → P x → Q x) → ((s : Status) (text : List ℕ) → S s text → U s text)
     → (r : Result (Step T) E) → IfOk r (Steps P S) → IfOk r (Steps Q U)
 steps_follow P Q S U on out (Ok (Goes x)) said = on x said
-steps_follow P Q S U on out (Ok (Ends r)) said = out r.status (string_bytes r.text) said
+steps_follow P Q S U on out (Ok (Ends r)) said = out r.status r.text.items said
 steps_follow P Q S U on out (Err e) said = tt
 
 -- what a function for judgements answers is what they come to
@@ -78,7 +87,7 @@ pub steps_judged : {T : Type 0} (P : T → Type 0) (S : Status → List ℕ → 
     → ((x : T) → P x → (next : Found) × Settles Judges js f (goes next) × K x next) → ((s : Status) (text : List ℕ) → S s text → Settles Judges js f (refuses s text))
     → (r : Result (Step T) Memory) → IfOk r (Steps P S) → Judged Judges K js f r
 steps_judged P S K js f on out (Ok (Goes x)) said = on x said
-steps_judged P S K js f on out (Ok (Ends r)) said = out r.status (string_bytes r.text) said
+steps_judged P S K js f on out (Ok (Ends r)) said = out r.status r.text.items said
 steps_judged P S K js f on out (Err e) said = tt
 
 -- ---- kernels
@@ -285,7 +294,7 @@ read_is file source r kernel is said = subst (λ x. IfOk x (Steps (IsReadSource 
 pub unread_is : (file source : List ℕ) (r : Result (Step Kernel) Memory) (report : Report) → r ≡ Ok (Ends report) → IfOk r (Steps (IsReadSource source) (RefusesReading file source))
     → Reports (RefusesSource file source) report
 unread_is file source r report is said =
-    reading_refused file source report.status (string_bytes report.text) (subst (λ x. IfOk x (Steps (IsReadSource source) (RefusesReading file source))) is said)
+    reading_refused file source report.status report.text.items (subst (λ x. IfOk x (Steps (IsReadSource source) (RefusesReading file source))) is said)
 
 pub source_checked : (source : List ℕ) (kernel : Kernel) → IsReadSource source kernel → (checked : Checked) → IsCheckedKernel (kernel_of kernel) checked → IsCheckedSource source checked
 source_checked source kernel r checked c =
@@ -393,28 +402,57 @@ entry_judged file entry fs f same r said =
 
 -- ---- heap files
 
-pub heap_long_refused : (heap bytes : List ℕ) → heap_limit < length bytes → RefusesBytes heap bytes TooLarge (limit_line (codes "heap"))
-heap_long_refused heap bytes long f same = inl (tt, (refl, refl, subst (λ x. heap_limit < length x) (sym same) long))
+pub heap_long_refused : (heap bytes : List ℕ) (t : Tau) → heap_limit < length bytes → RefusesBytes heap bytes t TooLarge (limit_line (codes "heap"))
+heap_long_refused heap bytes t long f same is = inl (tt, (refl, refl, subst (λ x. heap_limit < length x) (sym same) long))
 
-pub no_text_refused : (heap bytes : List ℕ) → length bytes ≤ heap_limit → ((n : ℕ) → HeapText bytes n → ⊥) → RefusesBytes heap bytes HeapRefused (no_heap_text_line heap)
-no_text_refused heap bytes short none f same =
-    inr (f, (refl, subst (λ x. length x ≤ heap_limit) (sym same) short), inl (tt, (refl, refl, λ n h. none n (subst (λ x. HeapText x n) same h))))
+-- a fault of the answer that isn't want of memory is the first one
+fault_is : (bytes : List ℕ) (t : Tau) (fault : HeapFault) → Answered bytes t (Err fault) → IsFaultOfFile fault → IsFault bytes t fault
+fault_is bytes t (H1 line) a real = a
+fault_is bytes t (H2 line) a real = a
+fault_is bytes t (H3 line) a real = a
+fault_is bytes t (H4 line) a real = a
+fault_is bytes t (H5 line) a real = a
+fault_is bytes t (H6 line) a real = a
+fault_is bytes t (H7 line) a real = a
+fault_is bytes t Wanting a real = absurd real
 
-pub too_great_refused : (heap bytes : List ℕ) → length bytes ≤ heap_limit → (n : ℕ) × HeapText bytes n × (2 ^ 32 ≤ n) → RefusesBytes heap bytes HeapRefused (out_of_range_line heap)
-too_great_refused heap bytes short h f same =
-    inr (f, (refl, subst (λ x. length x ≤ heap_limit) (sym same) short), inr (with_argument h.0 f, (h.0, refl, subst (λ x. HeapText x h.0) (sym same) h.1), inl (tt, (refl, refl, h.2))))
+pub heap_fault_refused : (heap bytes : List ℕ) (t : Tau) → length bytes ≤ heap_limit → (fault : HeapFault) → Answered bytes t (Err fault) → IsFaultOfFile fault
+    → RefusesBytes heap bytes t HeapRefused (heap_line heap fault)
+heap_fault_refused heap bytes t short fault a real f same is =
+    inr (
+      f,
+      (refl, subst (λ x. length x ≤ heap_limit) (sym same) short),
+      inl (
+        tt,
+        (
+          refl,
+          record {
+            fault = fault;
+            first = subst (λ x. IsFault x (argument_type (functions f) f.at) fault) (sym same) (subst (λ u. IsFault bytes u fault) (sym is) (fault_is bytes t fault a real));
+            line = refl;
+          },
+        ),
+      ),
+    )
 
 -- a state in which the argument was found
-pub record HasArgument (f : Found) (n : ℕ) (next : Found) : Type 0 where
-  pub same : next ≡ with_argument n f
+pub record HasArgument (f : Found) (start : Start) (next : Found) : Type 0 where
+  pub same : next ≡ with_argument (argument_of start) f
 
-pub bytes_judged : (heap bytes : List ℕ) (f : Found) → f.heap ≡ bytes → (r : Result (Step ℕ) Memory) → IfOk r (Steps (IsArgument bytes) (RefusesBytes heap bytes))
-    → Judged Judges (HasArgument f) (heap_rules heap) f r
-bytes_judged heap bytes f same r said =
-    steps_judged (IsArgument bytes) (RefusesBytes heap bytes) (HasArgument f) (heap_rules heap) f
-    (λ n a. (
-      with_argument n f,
-      inr (f, (refl, subst (λ x. length x ≤ heap_limit) (sym same) a.short), inr (with_argument n f, (n, refl, subst (λ x. HeapText x n) (sym same) a.spelled), inr (with_argument n f, (refl, a.word), refl))),
+pub bytes_judged : (heap bytes : List ℕ) (t : Tau) (f : Found) → f.heap ≡ bytes → argument_type (functions f) f.at ≡ t → (r : Result (Step Start) Memory)
+    → IfOk r (Steps (IsStartOf bytes t) (RefusesBytes heap bytes t)) → Judged Judges (HasArgument f) (heap_rules heap) f r
+bytes_judged heap bytes t f same is r said =
+    steps_judged (IsStartOf bytes t) (RefusesBytes heap bytes t) (HasArgument f) (heap_rules heap) f
+    (λ start a. (
+      with_argument (argument_of start) f,
+      inr (f, (refl, subst (λ x. length x ≤ heap_limit) (sym same) a.short), inr (with_argument (argument_of start) f, (argument_of start, refl, text_here start a), refl)),
       record { same = refl },
     ))
-    (λ s text j. j f same) r said
+    (λ s text j. j f same is) r said
+  where
+    text_here : (start : Start) → IsStartOf bytes t start → HoldsArgument f.heap (argument_type (functions f) f.at) (argument_of start)
+    text_here start a = subst (λ x. HoldsArgument x (argument_type (functions f) f.at) (argument_of start)) (sym same) (subst (λ u. HoldsArgument bytes u (argument_of start)) (sym is) a.held.text)
+
+-- what the reader answers of a file within its limit
+pub start_here : (bytes : List ℕ) (t : Tau) (start : Start) → length bytes ≤ heap_limit → nodes t ≤ type_size → Answered bytes t (Ok start) → IsStartOf bytes t start
+start_here bytes t start short small a = record { short = short; held = a.holds small }

@@ -1,6 +1,6 @@
 -- Which sources are accepted, and which certificates.
 use Rattle.std.specs.FinMap.{insert}
-use Rattle.std.specs.Prelude.{◌≡◌, ◌⊎◌, ℕ, ◌≤◌, List, length, map, Option, Some}
+use Rattle.std.specs.Prelude.{◌≡◌, ◌⊎◌, ℕ, ◌≤◌, true, List, length, map, slice_get, Option, Some}
 use Rattle.cg_cert.specs.Certificates.{certificate}
 use Rattle.cg_cert.specs.declared.cert.Cert.{Cert}
 use Rattle.cg_cert.specs.Texts.{CertText, text as text_of}
@@ -21,8 +21,13 @@ use Rattle.cg_driver_steps.specs.Steps.{Runs, Writes, WritesNone, goes}
 use Rattle.cg_driver_steps.specs.World.{World}
 use Rattle.cg_lower.specs.Collected.{Copy}
 use Rattle.cg_driver_words.specs.Words.{Command, build}
-use Rattle.cg_driver.specs.Commands.{Judges, script_of}
-use Rattle.cg_driver.specs.Found.{Found, certificate_limit, functions, source_limit}
+use Rattle.cg_driver_entry.specs.Entries.{ReachesAbstract}
+use Rattle.cg_value.specs.NoForeign.{no_foreign}
+use Rattle.cg_value.specs.Values.{Val}
+use Rattle.cg_driver.specs.Commands.{HoldsArgument, Judges, entry_at, script_of}
+use Rattle.cg_driver.specs.Entered.{argument_type, is_entry}
+use Rattle.cg_driver.specs.Run.{Evaluates}
+use Rattle.cg_driver.specs.Found.{Argument, Found, certificate_limit, functions, heap_limit, source_limit}
 use Rattle.cg_driver.specs.Instanced.{HasInstances, certified_text, emitted}
 
 -- the source spells a program within the depth whose names are in order, and in which all that is written is within its limits
@@ -77,6 +82,23 @@ pub record IsBuildable (source : List ℕ) : Type 0 where
   pub accepted : IsAcceptedSource source kernel
   pub instances : HasInstances kernel copies
   pub brief : length (certified_text kernel) ≤ certificate_limit
+
+-- a source has an entry that may be run, its heap file holds an argument of it, and evaluation ends within the steps with this value at this cost
+pub record IsRunnable (source entry heap : List ℕ) (steps : ℕ) : Type 0 where
+  pub kernel : List Function
+  pub copies : List Copy
+  pub at : ℕ
+  pub argument : Argument
+  pub value : Val
+  pub cost : ℕ
+  pub accepted : IsAcceptedSource source kernel
+  pub instances : HasInstances kernel copies
+  pub named : entry_at entry kernel ≡ Some at
+  pub allowed : is_entry (slice_get kernel at) ≡ true
+  pub concrete : ReachesAbstract kernel at → ⊥
+  pub short : length heap ≤ heap_limit
+  pub holds : HoldsArgument heap (argument_type kernel at) argument
+  pub ends : Evaluates no_foreign kernel at argument.value steps value cost
 
 -- ---- what `build` writes
 

@@ -1,6 +1,6 @@
 -- The judgements of the commands' steps, what each comes to, and the commands as lists of steps (docs/LANGUAGE.md, "Commands"): a new command
 -- is a line of `script_of`, with the judgements of its own steps.
-use Rattle.std.specs.Prelude.{◌≡◌, ◌⊎◌, ℕ, ◌<◌, ◌≤◌, ◌^◌, ◌++◌, true, false, List, [], ◌∷◌, length, position, slice_get, Option, Some, None, Err, String, codes, bytes_eq}
+use Rattle.std.specs.Prelude.{◌≡◌, ◌⊎◌, ℕ, ◌<◌, ◌≤◌, ◌++◌, true, false, List, [], ◌∷◌, length, position, slice_get, Option, Some, None, Err, String, codes, bytes_eq}
 use Rattle.std.specs.declared.alloc.Global.{Global}
 use Rattle.cg_base.specs.declared.limit.Limit.{Limit}
 use Rattle.cg_base.specs.declared.limit.Limit.TheVariants.{Source, Nesting, Functions, Fields, Ty, Depth, Heap, Certificate}
@@ -22,7 +22,9 @@ use Rattle.cg_resolve_def.specs.Takes.{missing_fields}
 use Rattle.cg_driver_entry.specs.Entries.{ReachesAbstract}
 use Rattle.cg_faults.specs.declared.rule.Rule.{Rule}
 use Rattle.cg_faults.specs.Rule.{rule, type_limit}
-use Rattle.cg_heaptext.specs.HeapText.{HeapText}
+use Rattle.cg_heaptext.specs.Answers.{IsFault}
+use Rattle.cg_heaptext.specs.declared.fault.HeapFault.{HeapFault}
+use Rattle.cg_heaptext_def.specs.HeapText.{HeapText}
 use Rattle.cg_core_def.specs.Lawful.{IsLawfulKernel}
 use Rattle.cg_resolve_names.specs.Says.{IsFirst}
 use Rattle.cg_parser_def.specs.Grammar.{Spells}
@@ -37,9 +39,12 @@ use Rattle.cg_surface.specs.Programs.{Entry}
 use Rattle.cg_resolve_takes.specs.Says as takes
 use Rattle.cg_typing.specs.Accepted.{IsAcceptedKernel}
 use Rattle.cg_driver_words.specs.Words.{Command, check, build, recheck, run, texts, command_of}
-use Rattle.cg_driver.specs.Found.{Found, nothing, with_source, with_program, with_copies, with_certificate, with_cert, with_entry, with_place, with_heap, with_argument, with_value, functions, source_limit, certificate_limit, heap_limit, bound, quantity}
-use Rattle.cg_driver.specs.Lines.{usage_text, ok_line, built_line as written_line, fault_line, name_rule, rule_line, rechecked_line as accepted_text, byte_line, node_line, not_built_line, no_entry_line, entry_type_line, abstract_line, no_heap_text_line, out_of_range_line, limit_name, limit_line, step_limit_line}
-use Rattle.cg_driver.specs.Entered.{IsOnWords, NeedsMore, is_entry}
+use Rattle.cg_value.specs.NoForeign.{no_foreign}
+use Rattle.cg_value.specs.Values.{Val}
+use Rattle.cg_base.specs.Types.{Tau}
+use Rattle.cg_driver.specs.Found.{Argument, Found, nothing, with_source, with_program, with_copies, with_certificate, with_cert, with_entry, with_heap, with_argument, with_value, functions, source_limit, certificate_limit, heap_limit, bound, quantity}
+use Rattle.cg_driver.specs.Lines.{usage_text, ok_line, built_line as written_line, fault_line, name_rule, rule_line, rechecked_line as accepted_text, byte_line, node_line, no_entry_line, entry_type_line, abstract_line, heap_line, limit_name, limit_line, step_limit_line}
+use Rattle.cg_driver.specs.Entered.{argument_type, is_entry, result_type}
 use Rattle.cg_driver.specs.Instanced.{HasInstances, PassesInstances, IsCompiled, emitted, certified_text}
 use Rattle.cg_driver.specs.Run.{Evaluates, RunsOut, IsReport}
 
@@ -50,8 +55,8 @@ use Rattle.cg_driver.specs.Run.{Evaluates, RunsOut, IsReport}
 -- certificate file holds the text of a certificate (C1), and that spells a derivation of the kernel, and no type of a node passes the
 -- limit: else the first condition that fails in the order of nodes is told, which is C2 or C3 with its node, or that limit (`type`); the
 -- instances are within all their limits, else the first that they pass is told; the certificate that would be written is within its own; the
--- source has the entry (E1), whose type is allowed (E2), and which reaches no abstract function (M1); the entry is one of those that can be run
--- (F1); the heap file holds a number (H1), which is a word (H5); evaluation ends within the steps.
+-- source has the entry (E1), whose type is allowed (E2), and which reaches no abstract function (M1); the heap file holds an argument of the
+-- entry's type (H1 to H7); evaluation ends within the steps.
 pub data Judgement : Type 0 where
   no_command : Judgement
   within : Limit → Judgement
@@ -67,9 +72,7 @@ pub data Judgement : Type 0 where
   has_entry : List ℕ → List ℕ → Judgement
   allowed : List ℕ → Judgement
   concrete : List ℕ → Judgement
-  on_words : List ℕ → Judgement
-  heap_spelled : List ℕ → Judgement
-  in_range : List ℕ → Judgement
+  has_argument : List ℕ → Judgement
   evaluated : ℕ → Judgement
 
 -- The line of a fault of syntax: the bytes spell no program, and this is the first place where they go on with none, by its rule.
@@ -126,6 +129,16 @@ pub data RefusesNode (file : List ℕ) (fs : List Function) (cert : Cert) (statu
   too_large : first_failing (cert_events fs cert) ≡ Some (Beyond Ty) → status ≡ TooLarge → text ≡ limit_line (codes "type")
       → RefusesNode file fs cert status text
 
+-- the line of the first fault of a heap file, read at a type
+pub record RefusesHeap (heap bytes : List ℕ) (t : Tau) (text : List ℕ) : Type 0 where
+  pub fault : HeapFault
+  pub first : IsFault bytes t fault
+  pub line : text ≡ heap_line heap fault
+
+-- what a heap file holds at the type of the entry's argument
+abbrev pub HoldsArgument : List ℕ → Tau → Argument → Type 0
+HoldsArgument bytes t a = HeapText bytes t a.cells a.scalars a.value
+
 -- the position of the first function of a name
 abbrev pub entry_at : List ℕ → List Function → Option ℕ
 entry_at name functions = position (λ f. bytes_eq f.at.name name) functions
@@ -162,14 +175,11 @@ Judges (allowed file) found (refuses status text) = (status ≡ Refused) × (tex
 Judges (allowed file) found (goes next) = (next ≡ found) × (is_entry (slice_get (functions found) found.at) ≡ true)
 Judges (concrete file) found (refuses status text) = (status ≡ Refused) × (text ≡ abstract_line file) × ReachesAbstract (functions found) found.at
 Judges (concrete file) found (goes next) = (next ≡ found) × (ReachesAbstract (functions found) found.at → ⊥)
-Judges (on_words file) found (refuses status text) = (status ≡ Refused) × (text ≡ not_built_line file) × NeedsMore (functions found) found.copies found.at
-Judges (on_words file) found (goes next) = (place : ℕ) × (next ≡ with_place place found) × IsOnWords (functions found) found.copies found.at place
-Judges (heap_spelled heap) found (refuses status text) = (status ≡ HeapRefused) × (text ≡ no_heap_text_line heap) × ((n : ℕ) → HeapText found.heap n → ⊥)
-Judges (heap_spelled heap) found (goes next) = (n : ℕ) × (next ≡ with_argument n found) × HeapText found.heap n
-Judges (in_range heap) found (refuses status text) = (status ≡ HeapRefused) × (text ≡ out_of_range_line heap) × (2 ^ 32 ≤ found.argument)
-Judges (in_range heap) found (goes next) = (next ≡ found) × (found.argument < 2 ^ 32)
-Judges (evaluated steps) found (refuses status text) = (status ≡ StepLimit) × (text ≡ step_limit_line steps) × RunsOut (functions found) found.at found.argument steps
-Judges (evaluated steps) found (goes next) = (value : ℕ) × (cost : ℕ) × (next ≡ with_value value cost found) × Evaluates (functions found) found.at found.argument steps value cost
+Judges (has_argument heap) found (refuses status text) = (status ≡ HeapRefused) × RefusesHeap heap found.heap (argument_type (functions found) found.at) text
+Judges (has_argument heap) found (goes next) = (a : Argument) × (next ≡ with_argument a found) × HoldsArgument found.heap (argument_type (functions found) found.at) a
+Judges (evaluated steps) found (refuses status text) = (status ≡ StepLimit) × (text ≡ step_limit_line steps) × RunsOut no_foreign (functions found) found.at found.argument.value steps
+Judges (evaluated steps) found (goes next) =
+    (value : Val) × (cost : ℕ) × (next ≡ with_value value cost found) × Evaluates no_foreign (functions found) found.at found.argument.value steps value cost
 
 -- ---- the lists
 
@@ -197,18 +207,15 @@ text_rules certificate = within Certificate ∷ written certificate ∷ []
 abbrev pub certificate_rules : List ℕ → List Judgement
 certificate_rules certificate = text_rules certificate ++ certified certificate ∷ []
 
--- those of `run` before the heap file is read, by the functions alone and by the instances, and then
+-- those of `run` before the instances are listed, by the functions alone, and those behind the read of the heap file
 abbrev pub type_rules : List ℕ → List Judgement
 type_rules file = allowed file ∷ concrete file ∷ []
 
 abbrev pub entry_rules : List ℕ → List ℕ → List Judgement
 entry_rules file entry = has_entry file entry ∷ type_rules file
 
-abbrev pub place_rules : List ℕ → List Judgement
-place_rules file = instanced ∷ on_words file ∷ []
-
 abbrev pub heap_rules : List ℕ → List Judgement
-heap_rules heap = within Heap ∷ heap_spelled heap ∷ in_range heap ∷ []
+heap_rules heap = within Heap ∷ has_argument heap ∷ []
 
 abbrev pub run_rules : List ℕ → ℕ → List Judgement
 run_rules heap steps = heap_rules heap ++ evaluated steps ∷ []
@@ -235,7 +242,7 @@ abbrev pub rechecked_line : Found → List ℕ → Type 0
 rechecked_line found text = text ≡ accepted_text
 
 abbrev pub ran_lines : Found → List ℕ → Type 0
-ran_lines found text = IsReport found.copies found.place found.argument found.value found.cost text
+ran_lines found text = IsReport found.copies found.at (result_type (functions found) found.at) found.argument found.value found.cost text
 
 -- the writes of `build`: the C text, and then the certificate
 abbrev pub writes_certificate : List ℕ → List (Step Judgement Found)
@@ -260,7 +267,7 @@ abbrev pub heap_steps : List ℕ → ℕ → List (Step Judgement Found)
 heap_steps heap steps = reads_heap heap ∷ judged_first (run_rules heap steps) []
 
 abbrev pub run_steps : List ℕ → List ℕ → List ℕ → ℕ → List (Step Judgement Found)
-run_steps file entry heap steps = judged_first (source_rules file ++ entry_rules file entry ++ place_rules file) (heap_steps heap steps)
+run_steps file entry heap steps = judged_first (source_rules file ++ entry_rules file entry ++ instanced ∷ []) (heap_steps heap steps)
 
 -- the commands; other words are refused
 abbrev pub script_of : Option Command → Script Judgement Found

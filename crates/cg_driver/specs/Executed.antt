@@ -1,6 +1,7 @@
 -- What the two runs of a function give, as the code has them.
-use Rattle.std.specs.Prelude.{◌≡◌, ℕ, ◌+◌, List, [], map, Option, Some}
+use Rattle.std.specs.Prelude.{◌≡◌, ℕ, IsTrue, List, [], map, Option, Some}
 use Rattle.cg_base.specs.declared.fun.Fun.TheVariants.{User}
+use Rattle.cg_base.specs.Types.{Tau}
 use Rattle.cg_lower.specs.Collected.{Copy}
 use Rattle.cg_core.specs.Kernels.{Function}
 use Rattle.cg_core.specs.Terms.{Note, Tree}
@@ -9,48 +10,92 @@ use Rattle.cg_ctree.specs.Spells.{CSpells}
 use Rattle.cg_ctree.specs.Trees.{Program, program_of}
 use Rattle.cg_cgen_def.specs.Names.{function_name}
 use Rattle.cg_lower.specs.Promises.{IsSimulated}
+use Rattle.cg_driver_laws.specs.Laws.{GivesRefined, linked_over}
 use Rattle.cg_eval_def.specs.Evaluation.{evaluation}
 use Rattle.cg_eval_def.specs.Foreigns.{table_of}
-use Rattle.cg_cmachine_def.specs.WordRuns.{RunsTo}
+use Rattle.cg_heap.specs.NoForeignHeap.{no_foreign_heap}
+use Rattle.cg_base.specs.declared.kind.Sigil.TheVariants.{W}
+use Rattle.cg_cmachine.specs.declared.answer.Ran.{Ran}
+use Rattle.cg_heap.specs.Calls.{heap_of}
+use Rattle.cg_heap.specs.FirstOrder.{is_first_order}
+use Rattle.cg_heap.specs.Reps.{HeapWorld, Holds, Represents, foot}
+use Rattle.cg_heap.specs.Steps.{count}
+use Rattle.cg_heaptext_contents.specs.declared.placing.Placed.{Placed}
+use Rattle.cg_heaptext_contents.specs.Placings.{pair_of}
+use Rattle.cg_heaptext_def.specs.Footprints.{held_in}
+use Rattle.cg_heaptext_def.specs.Placed.{CanBePlaced}
+use Rattle.cg_typing.specs.Instances.{Instance}
+use Rattle.cg_driver.specs.Built.{CanRun}
+use Rattle.cg_heap.specs.declared.cell.Scalar.{Scalar}
+use Rattle.cg_heap.specs.Stored.{Stored}
 use Rattle.cg_typing.specs.declared.checked.Checked.{Checked}
 use Rattle.cg_typing.specs.Holds.{cores_in}
 use Rattle.cg_typing.specs.Kept.{maybe_core}
 use Rattle.cg_value.specs.NoForeign.{no_foreign}
-use Rattle.cg_value.specs.Values.{Val, number, function}
+use Rattle.cg_value.specs.Values.{Val, function, value_of}
 use Rattle.cg_driver_steps.specs.declared.status.Status.{Status}
 use Rattle.cg_driver_steps.specs.declared.status.Status.TheVariants.{Done, StepLimit}
+use Rattle.cg_driver.specs.declared.machine.Machined.{Machined}
+use Rattle.cg_driver.specs.Found.{Argument}
 use Rattle.cg_driver.specs.Instanced.{emitted}
 use Rattle.cg_driver.specs.Lines.{step_limit_line}
-use Rattle.cg_driver.specs.Run.{budget, Evaluates, RunsOut, IsReport}
+use Rattle.cg_driver.specs.Run.{budget, Evaluates, RunsOut, RunsTo, IsReport}
 
 -- the cores of a checked source
 abbrev pub cores_of : Checked → List (Option (Tree Note))
 cores_of checked = map maybe_core (cores_in checked)
 
 -- evaluation gives this value at this cost, within the steps
-abbrev pub Gives : Checked → ℕ → ℕ → ℕ → Val → ℕ → Type 0
-Gives checked at arg steps value cost = evaluation (table_of no_foreign checked) steps (function (User at) []) (number arg) ≡ Some (value, cost)
+abbrev pub Gives : Checked → ℕ → Val → ℕ → Val → ℕ → Type 0
+Gives checked at arg steps value cost = evaluation (table_of no_foreign checked) steps (function (User at) []) arg ≡ Some (value, cost)
 
 -- the program is the one that the C text of the instances spells, and simulates the update semantics
 pub record Emits (copies : List Copy) (program : CProgram) : Type 0 where
   pub spelled : CSpells (emitted copies) (program_of program)
   pub simulates : IsSimulated copies (program_of program)
 
--- a run within a budget ends with this number, after so many steps
-pub record Ends (program : Program) (name : List ℕ) (arg most result taken : ℕ) : Type 0 where
-  pub left : ℕ
-  pub ends : RunsTo program name arg most result left
-  pub counted : taken + left ≡ most
+-- a program without abstract functions gives what represents this value, where evaluation gives it at this cost
+pub record GivesAlike (program : Program) (name : List ℕ) (us : List Scalar) (m : Stored) (t : Tau) (value : Val) (cost : ℕ) : Type 0 where
+  pub world : HeapWorld
+  pub writes : ℕ → ℕ
+  pub reads : ℕ → ℕ
+  pub gives : GivesRefined world (linked_over program [] no_foreign_heap) name us m writes reads t value cost
 
--- the run of the C text ends within its budget with this number, which is what evaluation gave
-pub record Machines (copies : List Copy) (place arg : ℕ) (value : Val) (cost result taken : ℕ) : Type 0 where
+-- what was read out of a store is what the scalars of a run represent there, and these are the cells that may be written through them
+pub record ReadsBack (m : Stored) (t : Tau) (ran : Ran) (r : Machined) : Type 0 where
+  pub steps : r.steps ≡ ran.steps
+  pub made : r.made ≡ ran.made
+  pub freed : r.freed ≡ ran.freed
+  pub is : (world : HeapWorld) (v : Val) → Holds world (heap_of m) t ran.value v → IsTrue (is_first_order t) → value_of r.value ≡ v
+  pub are_kept : (q : ℕ) → count q r.kept ≡ foot (heap_of m) W t ran.value q
+
+-- what a run gave, within a budget
+abbrev pub Runs : Program → List ℕ → List Scalar → Stored → ℕ → Tau → Val → Machined → Type 0
+Runs program name us m most t value r =
+    RunsTo (linked_over program [] no_foreign_heap) name us m most t (value_of r.value) r.steps r.made r.freed r.kept × (value_of r.value ≡ value)
+
+-- the run of the C text ends within its budget with what evaluation gave
+pub record Machines (copies : List Copy) (place : ℕ) (t : Tau) (us : List Scalar) (m : Stored) (value : Val) (cost : ℕ) (r : Machined) : Type 0 where
   pub program : Program
   pub spelled : CSpells (emitted copies) program
-  pub run : Ends program (function_name place) arg (budget cost) result taken
-  pub equal : value ≡ number result
+  pub runs : Runs program (function_name place) us m (budget cost) t value r
+
+-- an entry can be run on what a heap file holds: the cells and scalars represent the value at its type, whatever functions and abstract types there
+-- are, and can be placed
+pub record IsReady (checked : Checked) (list : List Instance) (at place : ℕ) (argument result : Tau) (a : Argument) : Type 0 where
+  pub can : CanRun checked list at place argument result
+  pub writes : ℕ → ℕ
+  pub reads : ℕ → ℕ
+  pub represents : (world : HeapWorld) → Represents world (held_in a.cells) argument a.scalars a.value writes reads
+  pub placeable : CanBePlaced a.cells
+
+-- cells, scalars and a value as what a heap file holds
+abbrev pub the_argument : List Placed → List Scalar → Val → Argument
+the_argument cells us v = record { cells = map pair_of cells; scalars = us; value = v }
 
 -- what both runs say
-abbrev pub Executes : List Function → List Copy → ℕ → ℕ → ℕ → ℕ → Status → List ℕ → Type 0
-Executes functions copies at place arg steps Done text = (value : ℕ) × (cost : ℕ) × Evaluates functions at arg steps value cost × IsReport copies place arg value cost text
-Executes functions copies at place arg steps StepLimit text = RunsOut functions at arg steps × (text ≡ step_limit_line steps)
-Executes functions copies at place arg steps _ text = ⊥
+abbrev pub Executes : List Function → List Copy → ℕ → Tau → Argument → ℕ → Status → List ℕ → Type 0
+Executes functions copies at t a steps Done text =
+    (value : Val) × (cost : ℕ) × Evaluates no_foreign functions at a.value steps value cost × IsReport copies at t a value cost text
+Executes functions copies at t a steps StepLimit text = RunsOut no_foreign functions at a.value steps × (text ≡ step_limit_line steps)
+Executes functions copies at t a steps _ text = ⊥

@@ -3,16 +3,28 @@ use Rattle.std.specs.Prelude.{ℕ, List, [], length}
 use Rattle.cg_base.specs.declared.limit.Limit.{Limit}
 use Rattle.cg_base.specs.declared.limit.Limit.TheVariants.{Source, Nesting, Functions, Fields, Ty, Depth, Instances, Core, Heap, Certificate}
 use Rattle.cg_cert.specs.declared.cert.Cert.{Cert}
+use Rattle.cg_heap.specs.declared.cell.Cell.{Cell}
+use Rattle.cg_heap.specs.declared.cell.Scalar.{Scalar}
 use Rattle.cg_lower.specs.Collected.{Copy}
 use Rattle.cg_core.specs.Kernels.{Function}
 use Rattle.cg_resolve_def.specs.Desugar.{functions_of, functions_limit, parts_limit, type_limit, term_limit, deepest_body}
 use Rattle.cg_resolve_def.specs.Takes.{widest_part, largest_type}
 use Rattle.cg_parser_def.specs.Bounded.{depth_limit}
 use Rattle.cg_surface.specs.Programs.{Entry, program_depth}
+use Rattle.cg_value.specs.Values.{Val, gone}
+
+-- what a heap file holds: its cells with their addresses, the scalars of the argument, and the value that they stand for
+pub record Argument : Type 0 where
+  pub cells : List (ℕ × Cell)
+  pub scalars : List Scalar
+  pub value : Val
+
+abbrev pub no_argument : Argument
+no_argument = record { cells = []; scalars = []; value = gone }
 
 -- the bytes of the source, the program that they spell, its instances with their types and bodies, the bytes of the certificate file, the
--- certificate whose text they are, the position of the entry among the program's functions, the place of its instance among the instances, the
--- bytes of the heap file, the argument that they hold, and the value and the cost that evaluation gives
+-- certificate whose text they are, the position of the entry among the program's functions, the bytes of the heap file, the argument that they
+-- hold, and the value and the cost that evaluation gives
 pub record Found : Type 0 where
   pub source : List ℕ
   pub program : List Entry
@@ -20,15 +32,14 @@ pub record Found : Type 0 where
   pub certificate : List ℕ
   pub cert : Cert
   pub at : ℕ
-  pub place : ℕ
   pub heap : List ℕ
-  pub argument : ℕ
-  pub value : ℕ
+  pub argument : Argument
+  pub value : Val
   pub cost : ℕ
 
 -- before the first step
 abbrev pub nothing : Found
-nothing = record { source = []; program = []; copies = []; certificate = []; cert = record { funs = [] }; at = 0; place = 0; heap = []; argument = 0; value = 0; cost = 0 }
+nothing = record { source = []; program = []; copies = []; certificate = []; cert = record { funs = [] }; at = 0; heap = []; argument = no_argument; value = gone; cost = 0 }
 
 abbrev pub with_source : List ℕ → Found → Found
 with_source bytes f = record f { source = bytes }
@@ -48,16 +59,13 @@ with_cert cert f = record f { cert = cert }
 abbrev pub with_entry : ℕ → Found → Found
 with_entry at f = record f { at = at }
 
-abbrev pub with_place : ℕ → Found → Found
-with_place place f = record f { place = place }
-
 abbrev pub with_heap : List ℕ → Found → Found
 with_heap bytes f = record f { heap = bytes }
 
-abbrev pub with_argument : ℕ → Found → Found
-with_argument n f = record f { argument = n }
+abbrev pub with_argument : Argument → Found → Found
+with_argument a f = record f { argument = a }
 
-abbrev pub with_value : ℕ → ℕ → Found → Found
+abbrev pub with_value : Val → ℕ → Found → Found
 with_value value cost f = record f { value = value; cost = cost }
 
 -- the kernel of the program

@@ -1,5 +1,5 @@
 -- What the checker's answer and the parts of a run say, as the code has them.
-use Rattle.std.specs.Prelude.{◌≡◌, ℕ, ◌<◌, ◌≤◌, ◌^◌, true, List, [], ◌∷◌, length, map, slice_get, Some}
+use Rattle.std.specs.Prelude.{◌≡◌, ℕ, ◌≤◌, true, List, [], ◌∷◌, length, map, slice_get, Some, ⊤}
 use Rattle.cg_cert.specs.declared.cert.Cert.{Cert}
 use Rattle.cg_cert.specs.Laws.{AreNamed}
 use Rattle.cg_cert.specs.Texts.{CertText}
@@ -12,8 +12,13 @@ use Rattle.cg_resolve_def.specs.Faults.{program_faults}
 use Rattle.cg_resolve_def.specs.Order.{AreOrdered, AreGrowing}
 use Rattle.cg_resolve_def.specs.Takes.{missing_fields}
 use Rattle.cg_driver_entry.specs.Entries.{ReachesAbstract}
-use Rattle.cg_heaptext.specs.HeapText.{HeapText}
+use Rattle.cg_base.specs.Types.{Tau}
 use Rattle.cg_core_def.specs.Lawful.{IsLawfulKernel}
+use Rattle.cg_driver_entry.specs.Typed.{HasEntryType}
+use Rattle.cg_heaptext.specs.Answers.{IsHeld}
+use Rattle.cg_heaptext.specs.declared.start.Start.{Start}
+use Rattle.cg_heaptext_contents.specs.Placings.{pair_of}
+use Rattle.cg_value.specs.Values.{value_of}
 use Rattle.cg_driver_steps.specs.declared.status.Status.{Status}
 use Rattle.cg_driver_steps.specs.Steps.{refuses, Settles}
 use Rattle.cg_surface.specs.Programs.{Entry}
@@ -23,9 +28,11 @@ use Rattle.cg_typing.specs.Holds.{kernel_in, cores_in, trees_in}
 use Rattle.cg_typing.specs.Kept.{AreKept, maybe_core, maybe_tree}
 use Rattle.cg_driver.specs.Accepted.{HasKernel, IsAcceptedSource}
 use Rattle.cg_driver.specs.Commands.{Judges, certified, kernel_rules, resolving_rules, reading_rules, source_rules, text_rules, type_rules, entry_rules, heap_rules, entry_at}
-use Rattle.cg_driver.specs.Entered.{is_entry}
-use Rattle.cg_driver.specs.Found.{Found, functions, source_limit, certificate_limit, heap_limit}
+use Rattle.cg_driver.specs.Entered.{argument_type, is_entry, result_type}
+use Rattle.cg_driver.specs.Found.{Argument, Found, functions, source_limit, certificate_limit, heap_limit}
 use Rattle.cg_driver.specs.Instanced.{AreCores}
+use Rattle.cg_heaptext.specs.declared.fault.HeapFault.{HeapFault}
+use Rattle.cg_heaptext.specs.declared.fault.HeapFault.TheVariants.{Memory}
 
 -- the functions of a checked source
 abbrev pub functions_in : Checked → List Function
@@ -115,8 +122,9 @@ RefusesEntry file entry fs status text = (found : Found) → functions found ≡
 abbrev pub RefusesFunction : List ℕ → List Function → ℕ → Status → List ℕ → Type 0
 RefusesFunction file fs at status text = (found : Found) → functions found ≡ fs → found.at ≡ at → Settles Judges (type_rules file) found (refuses status text)
 
-abbrev pub RefusesBytes : List ℕ → List ℕ → Status → List ℕ → Type 0
-RefusesBytes heap bytes status text = (found : Found) → found.heap ≡ bytes → Settles Judges (heap_rules heap) found (refuses status text)
+abbrev pub RefusesBytes : List ℕ → List ℕ → Tau → Status → List ℕ → Type 0
+RefusesBytes heap bytes t status text =
+    (found : Found) → found.heap ≡ bytes → argument_type (functions found) found.at ≡ t → Settles Judges (heap_rules heap) found (refuses status text)
 
 -- a certificate file within its limit holds the text of this certificate
 pub record IsCertificate (bytes : List ℕ) (cert : Cert) : Type 0 where
@@ -136,8 +144,27 @@ pub record IsEntry (entry : List ℕ) (functions : List Function) (at : ℕ) : T
   pub named : entry_at entry functions ≡ Some at
   pub allowed : IsAllowed functions at
 
--- a heap file within its limit has this argument
-pub record IsArgument (bytes : List ℕ) (n : ℕ) : Type 0 where
+-- what the function at a position takes and gives, as an entry
+pub record IsEntryOf (functions : List Function) (at : ℕ) (argument result : Tau) : Type 0 where
+  pub function : Function
+  pub there : slice_get functions at ≡ Some function
+  pub vars : function.vars ≡ []
+  pub typed : HasEntryType function argument result
+
+-- so it is of all functions whose types are allowed
+abbrev pub HaveEntryTypes : List Function → Type 0
+HaveEntryTypes functions = (at : ℕ) → is_entry (slice_get functions at) ≡ true → IsEntryOf functions at (argument_type functions at) (result_type functions at)
+
+-- a heap file within its limit holds this at a type
+pub record IsStartOf (bytes : List ℕ) (t : Tau) (start : Start) : Type 0 where
   pub short : length bytes ≤ heap_limit
-  pub spelled : HeapText bytes n
-  pub word : n < 2 ^ 32
+  pub held : IsHeld bytes t start
+
+-- what a heap file holds, of the answer of the reader
+abbrev pub argument_of : Start → Argument
+argument_of start = record { cells = map pair_of start.cells; scalars = start.arg; value = value_of start.value }
+
+-- a fault of a heap file, and not want of memory
+abbrev pub IsFaultOfFile : HeapFault → Type 0
+IsFaultOfFile Memory = ⊥
+IsFaultOfFile fault = ⊤

@@ -1,15 +1,16 @@
 -- The lines that are printed (docs/LANGUAGE.md, "Commands").
-use Rattle.std.specs.Prelude.{ℕ, List, ◌++◌, codes, count_by, decimal, is_some, length}
-use Rattle.cg_base.specs.declared.kind.Word.TheVariants.{U32}
+use Rattle.std.specs.Prelude.{ℕ, List, [], ◌++◌, codes, count_by, decimal, is_some, length}
 use Rattle.cg_base.specs.declared.limit.Limit.{Limit}
 use Rattle.cg_base.specs.declared.limit.Limit.TheVariants.{Source, Nesting, Functions, Fields, Ty, Depth, Instances, Core, Heap, Certificate}
 use Rattle.cg_base.specs.declared.place.Place.{Place}
-use Rattle.cg_base.specs.Types.{word}
+use Rattle.cg_base.specs.Types.{Tau}
 use Rattle.cg_core.specs.Kernels.{Function}
 use Rattle.cg_resolve_def.specs.Faults.{NameFault, unknown, twice, arguments}
 use Rattle.cg_faults.specs.declared.rule.Rule.{Rule}
 use Rattle.cg_faults.specs.declared.rule.Rule.TheVariants.{K1, K2, K3, K4, K5, K6, K7, T1, T2, T3, T4, T5, T6, T7, T8, T9, T10, T11, T12, T13, T14}
 use Rattle.cg_faults.specs.Rule.{text_of}
+use Rattle.cg_heaptext.specs.declared.fault.HeapFault.{HeapFault}
+use Rattle.cg_heaptext.specs.declared.fault.HeapFault.TheVariants.{H1, H2, H3, H4, H5, H6, H7, Memory}
 use Rattle.cg_value.specs.Printed.{printed}
 use Rattle.cg_value.specs.Values.{Val}
 
@@ -74,9 +75,6 @@ abbrev pub node_line : List ℕ → List ℕ → ℕ → List ℕ
 node_line certificate rule node = certificate ++ codes ": " ++ rule ++ codes " at node " ++ decimal node ++ codes "\n"
 
 -- the refusals, with the name of the file
-abbrev pub not_built_line : List ℕ → List ℕ
-not_built_line file = file ++ codes ": F1 form not built\n"
-
 abbrev pub no_entry_line : List ℕ → List ℕ
 no_entry_line file = file ++ codes ": E1 no such function\n"
 
@@ -86,11 +84,19 @@ entry_type_line file = file ++ codes ": E2 entry type not allowed\n"
 abbrev pub abstract_line : List ℕ → List ℕ
 abstract_line file = file ++ codes ": M1 abstract function reached\n"
 
-abbrev pub no_heap_text_line : List ℕ → List ℕ
-no_heap_text_line heap = heap ++ codes ": H1 not in the heap grammar\n"
+-- the refusal of a heap file on a line, by a rule with its text (docs/LANGUAGE.md, "Heap files"); want of memory has no line
+abbrev pub heap_rule : List ℕ → ℕ → List ℕ → List ℕ
+heap_rule heap line rule = heap ++ codes ":" ++ decimal line ++ codes ": " ++ rule ++ codes "\n"
 
-abbrev pub out_of_range_line : List ℕ → List ℕ
-out_of_range_line heap = heap ++ codes ": H5 number out of range\n"
+abbrev pub heap_line : List ℕ → HeapFault → List ℕ
+heap_line heap (H1 line) = heap_rule heap line (codes "H1 not in the heap grammar")
+heap_line heap (H2 line) = heap_rule heap line (codes "H2 address defined twice")
+heap_line heap (H3 line) = heap_rule heap line (codes "H3 address is absent")
+heap_line heap (H4 line) = heap_rule heap line (codes "H4 value does not fit its type")
+heap_line heap (H5 line) = heap_rule heap line (codes "H5 number out of range")
+heap_line heap (H6 line) = heap_rule heap line (codes "H6 writable cell reached twice")
+heap_line heap (H7 line) = heap_rule heap line (codes "H7 too many cells or elements")
+heap_line heap Memory = []
 
 -- a limit, and the step limit
 abbrev pub limit_line : List ℕ → List ℕ
@@ -112,8 +118,14 @@ limit_name Certificate = codes "certificate"
 abbrev pub step_limit_line : ℕ → List ℕ
 step_limit_line steps = codes "step limit " ++ decimal steps ++ codes " reached\n"
 
--- The seven lines of a run on words: what evaluation gives and what the C gives, what each costs, and how many cells were made, freed
--- and kept.
-abbrev pub report : Val → Val → ℕ → ℕ → List ℕ → List ℕ → List ℕ → List ℕ
-report value result cost steps made freed kept =
-    codes "value: " ++ printed value (word U32) ++ codes "\nc: " ++ printed result (word U32) ++ codes "\ncost: " ++ decimal cost ++ codes "\nsteps: " ++ decimal steps ++ codes "\nnew: " ++ decimal (length made) ++ codes "\nfreed: " ++ decimal (length freed) ++ codes "\nkept: " ++ decimal (length kept) ++ codes "\n"
+-- The seven lines of a run whose results have this type: what evaluation gives and what the C gives, what each costs, and how many cells were
+-- made, freed and kept.
+abbrev pub count_lines : ℕ → ℕ → ℕ → ℕ → ℕ → List ℕ
+count_lines cost steps made freed kept =
+    codes "\ncost: " ++ decimal cost ++ codes "\nsteps: " ++ decimal steps ++ codes "\nnew: " ++ decimal made ++ codes "\nfreed: " ++ decimal freed ++ codes "\nkept: " ++ decimal kept ++ codes "\n"
+
+abbrev pub run_lines : Tau → Val → Val → ℕ → ℕ → ℕ → ℕ → ℕ → List ℕ
+run_lines t value result cost steps made freed kept = codes "value: " ++ printed value t ++ codes "\nc: " ++ printed result t ++ count_lines cost steps made freed kept
+
+abbrev pub report : Tau → Val → Val → ℕ → ℕ → List ℕ → List ℕ → List ℕ → List ℕ
+report t value result cost steps made freed kept = run_lines t value result cost steps (length made) (length freed) (length kept)

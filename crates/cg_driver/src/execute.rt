@@ -1,25 +1,28 @@
-// Running an entry on a word twice: by evaluation, and by the steps of the C of its instance.
-ghost use Rattle.std.specs.Prelude.{◌≡◌, ◌∷◌, ◌≤◌, ◌<◌, ◌^◌, ℕ, [], IfOk};
-ghost use Rattle.cg_ctree.specs.Trees.{program_of};
-ghost use Rattle.cg_heap.specs.declared.cell.Scalar.TheVariants.{Word};
+// Running an entry on what a heap file holds twice: by evaluation, and by the steps of the C of its instance.
+ghost use Rattle.std.specs.Prelude.{◌≤◌, ◌^◌, ℕ, IfOk, map};
+ghost use Rattle.cg_base.specs.Types.{Tau, type_of};
 ghost use Rattle.cg_driver_laws.specs.Laws.{copies_in};
-ghost use Rattle.cg_cmachine_def.specs.WordRuns.{RunsTo};
-ghost use Rattle.cg_value.specs.Values.{number, value_of};
-ghost use Rattle.cg_driver.specs.Built.{CanRun, IsListed};
-ghost use Rattle.cg_driver.specs.Executed.{Emits, Ends, Gives, Machines, Executes};
-ghost use Rattle.cg_driver.specs.Judged.{functions_in, CanBeBuilt, HoldsCores};
+ghost use Rattle.cg_cmachine_def.specs.WordRuns.{no_cells};
+ghost use Rattle.cg_heaptext_contents.specs.Placings.{pair_of};
+ghost use Rattle.cg_driver.specs.Run.{filled};
+ghost use Rattle.cg_value.specs.Values.{Val, value_of};
+ghost use Rattle.cg_driver.specs.Built.{IsListed};
+ghost use Rattle.cg_driver.specs.Executed.{Emits, Gives, IsReady, Machines, Executes, the_argument};
+ghost use Rattle.cg_driver.specs.Judged.{functions_in, argument_of, CanBeBuilt, HoldsCores};
 ghost use Rattle.cg_driver_steps.specs.Parts.{Reports};
 
 use crate::build::emit_text;
 use crate::lines::{ran, step_limit};
-use cg_base::{Items, Memory, Name};
-use cg_cmachine::{RunFault, run_c};
+use crate::machine::{Machined, run_on};
+use cg_base::{Items, Memory, Ty};
 use cg_cread::{CFault, read_c};
 use cg_ctree::CProgram;
-use cg_driver_laws::{entries_are_sound, entries_run};
+use cg_driver_laws::{entries_are_sound, entries_run, none_are_linked};
 use cg_driver_steps::Report;
 use cg_eval::{EvalFault, eval, more_budget};
-use cg_heap::{MapStore, Scalar};
+use cg_heap::Scalar;
+use cg_heap_laws::represented_fits;
+use cg_heaptext::Start;
 use cg_inst::Instances;
 use cg_lower::function_name;
 use cg_typing::Checked;
@@ -47,70 +50,32 @@ fn emit(alloc: Global, checked: &Checked, list: &Instances) -> Result<CProgram, 
     }
 }
 
-/// The number that the scalars of a word are.
-fn word_of(scalars: &Items<Scalar>) -> u64
-    ensures { (n : ℕ) → scalars.now ≡ Word n ∷ [] → result ≡ n }
-{
-    match scalars.get(0) {
-        Some(scalar) => scalar.number(),
-        None => 0,
-    }
-}
-
-/// What a C function gives on a word, and the steps that it takes, where its run from a store without cells ends with a word.
-fn run_on_word(
-    alloc: Global,
-    program: &CProgram,
-    function: &Name,
-    arg: u64,
-    most: u64,
-) -> Result<(u64, u64), Memory>
-    requires few { most ≤ 2 ^ 46 }
-    requires ends { (result : ℕ) × (left : ℕ) × RunsTo (program_of program.now) function.now arg most result left }
-    ensures { IfOk result (λ r. Ends (program_of program.now) function.now arg most r.0 r.1) }
-{
-    let mut scalars = Items::new(alloc);
-    scalars.push(Scalar::Word(arg))?;
-    let mut store = MapStore::new(alloc);
-    match run_c(alloc, program, function, &scalars, &mut store, most) {
-        Ok(ran) => Ok((word_of(&ran.value), ran.steps)),
-        Err(RunFault::Memory) => Err(Memory),
-        Err(RunFault::Stuck(_)) => unreachable!(),
-        Err(RunFault::Budget) => unreachable!(),
-    }
-}
-
-/// What the C of an entry gives on a word on which evaluation gives a value at this cost, and the steps that it takes.
+/// What the C of an entry gives on what a heap file holds, on which evaluation gives a value at this cost.
 fn machine(
     alloc: Global,
     checked: &Checked,
     list: &Instances,
     chosen: Entry,
-    arg: u64,
-    value: &Value,
+    arg: &Items<Scalar>,
+    cells: Start,
+    ty: &Ty,
     cost: u64,
-) -> Result<(u64, u64), Memory>
+) -> Result<Machined, Memory>
     requires ready { CanBeBuilt checked.now }
-    requires runs { CanRun checked.now list.now chosen.at chosen.place }
-    requires word { arg < 2 ^ 32 }
-    requires gives { (steps : ℕ) × (steps ≤ 2 ^ 40) × Gives checked.now chosen.at arg steps (value_of value.now) cost }
-    ensures { IfOk result (λ r. Machines (copies_in checked.now list.now) chosen.place arg (value_of value.now) cost r.0 r.1) }
+    requires gives { (argument : Tau) × (v : Val) × (w : Val) × (steps : ℕ) × (steps ≤ 2 ^ 40)
+        × IsReady checked.now list.now chosen.at chosen.place argument (type_of ty.now) (the_argument cells.cells arg.now v)
+        × Gives checked.now chosen.at v steps w cost }
+    ensures { (argument : Tau) (v w : Val) (steps : ℕ) → steps ≤ 2 ^ 40
+        → IsReady checked.now list.now chosen.at chosen.place argument (type_of ty.now) (the_argument cells.cells arg.now v)
+        → Gives checked.now chosen.at v steps w cost
+        → IfOk result (Machines (copies_in checked.now list.now) chosen.place (type_of ty.now) arg.now (filled (map pair_of cells.cells) no_cells) w cost) }
 {
     let function = function_name(alloc, chosen.place)?;
     let program = emit(alloc, checked, list)?;
     more_budget();
     entries_run();
-    run_on_word(alloc, &program, &function, arg, 32 * cost + 32)
-}
-
-/// The number that a value is, where it is a word.
-fn word_in(value: &Value) -> u64
-    ensures { (n : ℕ) → value_of value.now ≡ number n → result ≡ n }
-{
-    match value {
-        Value::Num(number) => *number,
-        _ => 0,
-    }
+    none_are_linked();
+    run_on(alloc, &program, &function, arg, cells, ty, cost)
 }
 
 /// What is said where evaluation gives a value at this cost.
@@ -119,41 +84,62 @@ fn run_both(
     checked: &Checked,
     list: &Instances,
     chosen: Entry,
-    arg: u64,
-    value: Value,
+    arg: &Items<Scalar>,
+    cells: Start,
+    ty: &Ty,
+    value: &Value,
     cost: u64,
 ) -> Result<Report, Memory>
     requires ready { CanBeBuilt checked.now }
-    requires runs { CanRun checked.now list.now chosen.at chosen.place }
-    requires word { arg < 2 ^ 32 }
     requires cores { HoldsCores checked.now }
-    requires gives { (steps : ℕ) × (steps ≤ 2 ^ 40) × Gives checked.now chosen.at arg steps (value_of value) cost }
-    ensures { IfOk result (λ r. (steps : ℕ) → Gives checked.now chosen.at arg steps (value_of value) cost
-        → Reports (Executes (functions_in checked.now) (copies_in checked.now list.now) chosen.at chosen.place arg steps) r) }
+    requires gives { (argument : Tau) × (v : Val) × (steps : ℕ) × (steps ≤ 2 ^ 40)
+        × IsReady checked.now list.now chosen.at chosen.place argument (type_of ty.now) (the_argument cells.cells arg.now v)
+        × Gives checked.now chosen.at v steps (value_of value.now) cost }
+    ensures { (argument : Tau) (v : Val) (steps : ℕ) → steps ≤ 2 ^ 40
+        → IsReady checked.now list.now chosen.at chosen.place argument (type_of ty.now) (the_argument cells.cells arg.now v)
+        → Gives checked.now chosen.at v steps (value_of value.now) cost
+        → IfOk result (Reports (Executes (functions_in checked.now) (copies_in checked.now list.now) chosen.at (type_of ty.now) (the_argument cells.cells arg.now v) steps)) }
 {
-    let (returned, taken) = machine(alloc, checked, list, chosen, arg, &value, cost)?;
-    ran(alloc, word_in(&value), returned, cost, taken)
+    let run = machine(alloc, checked, list, chosen, arg, cells, ty, cost)?;
+    ran(alloc, ty, value, cost, &run)
 }
 
-/// Runs an entry on a word, by evaluation and then by the steps of its C, up to what is printed.
+/// Runs an entry on what a heap file holds, by evaluation and then by the steps of its C, up to what is printed.
 pub(crate) fn execute(
     alloc: Global,
     checked: &Checked,
     list: &Instances,
     chosen: Entry,
-    arg: u64,
+    start: Start,
+    ty: &Ty,
     steps: u64,
 ) -> Result<Report, Memory>
     requires ready { CanBeBuilt checked.now }
-    requires runs { CanRun checked.now list.now chosen.at chosen.place }
-    requires word { arg < 2 ^ 32 }
+    requires runs { (argument : Tau) × IsReady checked.now list.now chosen.at chosen.place argument (type_of ty.now) (argument_of start) }
     requires few { steps ≤ 2 ^ 40 }
     requires cores { HoldsCores checked.now }
-    ensures { IfOk result (Reports (Executes (functions_in checked.now) (copies_in checked.now list.now) chosen.at chosen.place arg steps)) }
+    ensures { IfOk result (Reports (Executes (functions_in checked.now) (copies_in checked.now list.now) chosen.at (type_of ty.now) (argument_of start) steps)) }
 {
+    let Start {
+        cells,
+        arg,
+        value,
+        reads,
+        writes,
+    } = start;
+    let rest = Start {
+        cells,
+        arg: Items::new(alloc),
+        value: Value::Gone,
+        reads,
+        writes,
+    };
     entries_are_sound();
-    match eval(alloc, checked, chosen.at, Value::Num(arg), steps) {
-        Ok((value, cost)) => run_both(alloc, checked, list, chosen, arg, value, cost),
+    represented_fits();
+    match eval(alloc, checked, chosen.at, value, steps) {
+        Ok((value, cost)) => {
+            run_both(alloc, checked, list, chosen, &arg, rest, ty, &value, cost)
+        }
         Err(EvalFault::StepLimit) => step_limit(alloc, steps),
         Err(EvalFault::Memory) => Err(Memory),
     }

@@ -8,8 +8,8 @@ ghost use Rattle.cg_outside.specs.Memory.{honest_held, honest_taken};
 ghost use Rattle.cg_driver_steps.specs.World.{world};
 ghost use Rattle.cg_driver_steps.specs.Steps.{Outcome, WritesNone};
 ghost use Rattle.cg_driver_steps.specs.Scripts.{Answers, ComesTo, Decides};
-ghost use Rattle.cg_driver_words.specs.Words.{Command, build, check, recheck};
-ghost use Rattle.cg_driver.specs.Accepted.{BuildWrites, IsAcceptedSource, IsBuildable, IsCertifiedSource, PrintedIsCertified, WritesItsOwn};
+ghost use Rattle.cg_driver_words.specs.Words.{Command, build, check, recheck, run};
+ghost use Rattle.cg_driver.specs.Accepted.{BuildWrites, IsAcceptedSource, IsBuildable, IsCertifiedSource, IsRunnable, PrintedIsCertified, WritesItsOwn};
 ghost use Rattle.cg_driver.specs.Commands.{Judgement, certified, typed, Judges, script_of, asked};
 ghost use Rattle.cg_driver.specs.Found.{Found, functions as functions_found};
 
@@ -93,6 +93,13 @@ pub fn status_0_is_a_derivation()
 pub fn status_0_of_build()
     ensures { (held : Held) (file text certificate : List ℕ) → ComesTo Judges (script_of (Some (build file text certificate))) held Status.Done
         ↔ IsBuildable (bytes_at held file) }
+{}
+
+/// The steps of `run` come to status 0 over exactly the files whose source is accepted and has the entry, which may be run, whose heap file holds
+/// an argument of it, and on which evaluation ends within the steps.
+pub fn status_0_of_run()
+    ensures { (held : Held) (file entry heap : List ℕ) (steps : ℕ) → ComesTo Judges (script_of (Some (run file entry heap steps))) held Status.Done
+        ↔ IsRunnable (bytes_at held file) entry (bytes_at held heap) steps }
 {}
 
 /// A source whose certificate is in order is accepted: where the steps of `recheck` come to status 0, those of `check` do over the same files.

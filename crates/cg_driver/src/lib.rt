@@ -3,7 +3,7 @@
 //! Promises: `cogent`, `honest_cogent`; laws: `one_outcome`, `one_text`, `typing_decides`, `status_0_is_acceptance`.
 //! May cite: anything of its stage and of those below; no crate above.
 //! Promises also: `certificates_decide`, `only_build_writes`, `build_writes_both`, `status_0_of_build`, `status_0_is_a_derivation`.
-//! Promises also: `rechecked_is_accepted` and `printed_is_certified`.
+//! Promises also: `status_0_of_run`, `rechecked_is_accepted` and `printed_is_certified`.
 //! docs/LANGUAGE.md says what the commands do and print; `specs/Commands.antt` has each command as a list of steps.
 #![tactic(auto)]
 
@@ -15,6 +15,7 @@ mod execute;
 mod judge;
 mod law;
 mod lines;
+mod machine;
 mod plan;
 mod recheck;
 mod run;
@@ -24,5 +25,5 @@ pub use cg_driver_steps::Status;
 pub use law::{
     build_writes_both, certificates_decide, honest_cogent, one_outcome, one_text,
     only_build_writes, printed_is_certified, rechecked_is_accepted, status_0_is_a_derivation,
-    status_0_is_acceptance, status_0_of_build, typing_decides,
+    status_0_is_acceptance, status_0_of_build, status_0_of_run, typing_decides,
 };

@@ -1,23 +1,28 @@
 // The command `run`.
 ghost use Rattle.std.specs.Prelude.{◌≡◌, ◌≤◌, ◌^◌, ◌++◌, [], ◌∷◌, IfOk, length};
+ghost use Rattle.cg_base.specs.Types.{type_of};
+ghost use Rattle.cg_typing.specs.Parts.{nodes, type_size};
 ghost use Rattle.cg_driver_steps.specs.World.{world};
 ghost use Rattle.cg_driver_steps.specs.Steps.{judged_first};
 ghost use Rattle.cg_driver_steps.specs.Parts.{Concludes, Rules, Steps};
-ghost use Rattle.cg_driver.specs.Built.{CanRun, IsListed, KeepsCopies};
-ghost use Rattle.cg_driver.specs.Commands.{Judges, entry_rules, on_words, place_rules, run_rules, reads_source, heap_steps, run_steps, ran_lines};
+ghost use Rattle.cg_driver.specs.Built.{CanRun, KeepsCopies};
+ghost use Rattle.cg_driver.specs.Entered.{argument_type, result_type};
+ghost use Rattle.cg_driver.specs.Commands.{Judges, entry_rules, instanced, run_rules, reads_source, heap_steps, run_steps, ran_lines};
 ghost use Rattle.cg_driver.specs.Found.{Found, nothing, functions as functions_found};
-ghost use Rattle.cg_driver.specs.Judged.{functions_in, CanBeBuilt, HoldsCores, IsAllowed, IsArgument, RefusesBytes};
+ghost use Rattle.cg_driver.specs.Judged.{functions_in, CanBeBuilt, HaveEntryTypes, HoldsCores, IsAllowed, IsStartOf, RefusesBytes};
 
 use crate::build::listed;
-use crate::entry::{entry_of, place_of};
+use crate::entry::{entry_of, entry_types, instance_place};
 use crate::execute::{Entry, execute};
 use crate::judge::{SOURCE_LIMIT, judge};
-use crate::lines::{beyond, no_heap_text, out_of_range};
-use cg_base::Memory;
+use crate::lines::{beyond, heap_refused};
+use cg_base::{Memory, Ty};
+use cg_driver_entry_laws::entries_have_types;
 use cg_driver_steps::{Report, Step, read_file};
-use cg_heaptext::{HeapFault, read_argument};
+use cg_heaptext::{Start, read_heap};
 use cg_inst::Instances;
 use cg_outside::Files;
+use cg_parser_laws::law::spelled_is_shaped;
 use cg_typing::Checked;
 use std::alloc::Global;
 
@@ -33,40 +38,44 @@ pub(crate) struct Asked<'a> {
     pub steps: u64,
 }
 
-/// The argument that a heap file holds.
-fn argument(alloc: Global, heap: &str, bytes: &[u8]) -> Result<Step<u64>, Memory>
-    ensures { IfOk result (Steps (IsArgument bytes.now) (RefusesBytes heap.now bytes.now)) }
+/// What a heap file holds at the type of the entry's argument.
+fn start_of(alloc: Global, heap: &str, bytes: &[u8], ty: &Ty) -> Result<Step<Start>, Memory>
+    requires small { nodes (type_of ty.now) ≤ type_size }
+    ensures { IfOk result (Steps (IsStartOf bytes.now (type_of ty.now)) (RefusesBytes heap.now bytes.now (type_of ty.now))) }
 {
     if bytes.len() > HEAP_LIMIT {
         return Ok(Step::Ends(beyond(alloc, "heap")?));
     }
-    match read_argument(bytes) {
-        Ok(number) => Ok(Step::Goes(number)),
-        Err(HeapFault::H1) => Ok(Step::Ends(no_heap_text(alloc, heap)?)),
-        Err(HeapFault::H5) => Ok(Step::Ends(out_of_range(alloc, heap)?)),
+    match read_heap(alloc, bytes, ty) {
+        Ok(start) => Ok(Step::Goes(start)),
+        Err(fault) => Ok(Step::Ends(heap_refused(alloc, heap, fault)?)),
     }
 }
 
-/// What is said of a run that is ready, once its heap file is read.
+/// What is said of a run that is ready, once its heap file is read, with what its entry takes and gives.
 fn run_bytes(
     alloc: Global,
     asked: &Asked<'_>,
     checked: &Checked,
     list: &Instances,
     chosen: Entry,
+    takes: &Ty,
+    gives: &Ty,
     bytes: &[u8],
 ) -> Result<Report, Memory>
     requires ready { CanBeBuilt checked.now }
-    requires runs { CanRun checked.now list.now chosen.at chosen.place }
+    requires runs { CanRun checked.now list.now chosen.at chosen.place (type_of takes.now) (type_of gives.now) }
     requires few { asked.now.steps ≤ 2 ^ 40 }
     requires cores { HoldsCores checked.now }
-    ensures { (found : Found) → KeepsCopies checked.now list.now found → found.at ≡ chosen.at → found.place ≡ chosen.place → found.heap ≡ bytes.now
+    ensures { (found : Found) → KeepsCopies checked.now list.now found → found.at ≡ chosen.at → found.heap ≡ bytes.now
         → Rules Judges ran_lines (run_rules asked.now.heap.now asked.now.steps) found result }
 {
-    match argument(alloc, asked.heap, bytes) {
+    match start_of(alloc, asked.heap, bytes, takes) {
         Err(_) => Err(Memory),
         Ok(Step::Ends(report)) => Ok(report),
-        Ok(Step::Goes(arg)) => execute(alloc, checked, list, chosen, arg, asked.steps),
+        Ok(Step::Goes(start)) => {
+            execute(alloc, checked, list, chosen, start, gives, asked.steps)
+        }
     }
 }
 
@@ -80,46 +89,22 @@ fn run_ready<F: Files>(
     files: &mut F,
 ) -> Result<Report, Memory>
     requires ready { CanBeBuilt checked.now }
-    requires runs { CanRun checked.now list.now chosen.at chosen.place }
+    requires runs { CanRun checked.now list.now chosen.at chosen.place (argument_type (functions_in checked.now) chosen.at) (result_type (functions_in checked.now) chosen.at) }
     requires few { asked.now.steps ≤ 2 ^ 40 }
     requires cores { HoldsCores checked.now }
-    ensures { (found : Found) → KeepsCopies checked.now list.now found → found.at ≡ chosen.at → found.place ≡ chosen.place
+    ensures { (found : Found) → KeepsCopies checked.now list.now found → found.at ≡ chosen.at
         → Concludes Judges ran_lines (heap_steps asked.now.heap.now asked.now.steps) found
         (world (F.held files.old) (F.failed_reads files.old) (F.failed_writes files.old))
         (world (F.held files.new) (F.failed_reads files.new) (F.failed_writes files.new)) result }
 {
+    let Some((takes, gives)) = entry_types(checked.kernel().funs.as_slice(), chosen.at) else {
+        unreachable!()
+    };
     match read_file(alloc, asked.heap, HEAP_LIMIT, files) {
         Err(_) => Err(Memory),
         Ok(Step::Ends(report)) => Ok(report),
-        Ok(Step::Goes(bytes)) => run_bytes(alloc, asked, checked, list, chosen, &bytes),
-    }
-}
-
-/// Finds the instance of an entry among the instances of its source, and runs it.
-fn run_placed<F: Files>(
-    alloc: Global,
-    asked: &Asked<'_>,
-    checked: &Checked,
-    list: &Instances,
-    at: u32,
-    files: &mut F,
-) -> Result<Report, Memory>
-    requires list { IsListed checked.now list.now }
-    requires ready { CanBeBuilt checked.now }
-    requires there { IsAllowed (functions_in checked.now) at }
-    requires few { asked.now.steps ≤ 2 ^ 40 }
-    requires cores { HoldsCores checked.now }
-    ensures { (found : Found) → KeepsCopies checked.now list.now found → found.at ≡ at
-        → Concludes Judges ran_lines (judged_first (on_words asked.now.file.now ∷ []) (heap_steps asked.now.heap.now asked.now.steps)) found
-        (world (F.held files.old) (F.failed_reads files.old) (F.failed_writes files.old))
-        (world (F.held files.new) (F.failed_reads files.new) (F.failed_writes files.new)) result }
-{
-    match place_of(alloc, asked.file, checked, list, at) {
-        Err(_) => Err(Memory),
-        Ok(Step::Ends(report)) => Ok(report),
-        Ok(Step::Goes(place)) => {
-            let chosen = Entry { at, place };
-            run_ready(alloc, asked, checked, list, chosen, files)
+        Ok(Step::Goes(bytes)) => {
+            run_bytes(alloc, asked, checked, list, chosen, takes, gives, &bytes)
         }
     }
 }
@@ -134,17 +119,21 @@ fn run_listed<F: Files>(
 ) -> Result<Report, Memory>
     requires ready { CanBeBuilt checked.now }
     requires there { IsAllowed (functions_in checked.now) at }
+    requires typed { HaveEntryTypes (functions_in checked.now) }
     requires few { asked.now.steps ≤ 2 ^ 40 }
     requires cores { HoldsCores checked.now }
     ensures { (found : Found) → functions_found found ≡ functions_in checked.now → found.at ≡ at
-        → Concludes Judges ran_lines (judged_first (place_rules asked.now.file.now) (heap_steps asked.now.heap.now asked.now.steps)) found
+        → Concludes Judges ran_lines (judged_first (instanced ∷ []) (heap_steps asked.now.heap.now asked.now.steps)) found
         (world (F.held files.old) (F.failed_reads files.old) (F.failed_writes files.old))
         (world (F.held files.new) (F.failed_reads files.new) (F.failed_writes files.new)) result }
 {
     match listed(alloc, checked) {
         Err(_) => Err(Memory),
         Ok(Step::Ends(report)) => Ok(report),
-        Ok(Step::Goes(list)) => run_placed(alloc, asked, checked, &list, at, files),
+        Ok(Step::Goes(list)) => {
+            let place = instance_place(alloc, checked, &list, at);
+            run_ready(alloc, asked, checked, &list, Entry { at, place }, files)
+        }
     }
 }
 
@@ -159,8 +148,9 @@ fn run_checked<F: Files>(
     requires short { length (functions_in checked.now) ≤ 4096 }
     requires cores { HoldsCores checked.now }
     requires ready { CanBeBuilt checked.now }
+    requires typed { HaveEntryTypes (functions_in checked.now) }
     ensures { (found : Found) → functions_found found ≡ functions_in checked.now
-        → Concludes Judges ran_lines (judged_first (entry_rules asked.now.file.now asked.now.entry.now ++ place_rules asked.now.file.now) (heap_steps asked.now.heap.now asked.now.steps)) found
+        → Concludes Judges ran_lines (judged_first (entry_rules asked.now.file.now asked.now.entry.now ++ instanced ∷ []) (heap_steps asked.now.heap.now asked.now.steps)) found
         (world (F.held files.old) (F.failed_reads files.old) (F.failed_writes files.old))
         (world (F.held files.new) (F.failed_reads files.new) (F.failed_writes files.new)) result }
 {
@@ -187,7 +177,11 @@ fn run_source<F: Files>(
     match judge(alloc, asked.file, source) {
         Err(_) => Err(Memory),
         Ok(Step::Ends(report)) => Ok(report),
-        Ok(Step::Goes(checked)) => run_checked(alloc, asked, &checked, files),
+        Ok(Step::Goes(checked)) => {
+            entries_have_types();
+            spelled_is_shaped();
+            run_checked(alloc, asked, &checked, files)
+        }
     }
 }
 

@@ -5,7 +5,7 @@ use Rattle.cg_base.proofs.Views.{piece_of}
 use Rattle.cg_base.specs.declared.ty.Part.{Part}
 use Rattle.cg_base.specs.declared.ty.Ty.{Ty}
 use Rattle.cg_base.specs.Types.{to_taus, to_parts, type_of, part_of}
-use Rattle.cg_driver_entry.specs.Types.{holds_closed, have_closed, parts_hold_closed, needs_cells, parts_need_cells}
+use Rattle.cg_driver_entry.specs.Types.{holds_closed, have_closed, parts_hold_closed}
 
 -- what holds of some item, where a definition asks it of one after the other
 module _ {X : Type 0} (some : List X → Bool) (one : X → Bool) (none : some [] ≡ false) (more : (x : X) (xs : List X) → some (x ∷ xs) ≡ (one x || some xs)) where
@@ -62,27 +62,3 @@ pub part_closed_past : (ps : List Part) (i : ℕ) → length ps ≤ i → parts_
 part_closed_past ps i h = some_past any_part_closed (λ p. holds_closed (type_of p.ty)) part_closed-none part_closed-more ps i h
 
 pub ruleset part_closed_steps = (part_closed_later, part_closed_here, part_closed_past)
-
--- cells in the types of parts
-abbrev any_part_cells : List Part → Bool
-any_part_cells ps = parts_need_cells (to_parts (map part_of ps))
-
-part_cells-none : any_part_cells [] ≡ false
-unfolding to_parts
-part_cells-none = refl
-
-part_cells-more : (p : Part) (ps : List Part) → any_part_cells (p ∷ ps) ≡ (needs_cells (type_of p.ty) || any_part_cells ps)
-unfolding to_parts
-part_cells-more p ps = ap (λ q. needs_cells q.ty || any_part_cells ps) (piece_of p)
-
-pub part_cells_later : (ps : List Part) (i : ℕ) (d : Part) → i < length ps → needs_cells (type_of (get_or ps i d).ty) ≡ false
-    → parts_need_cells (to_parts (map part_of (drop i ps))) ≡ parts_need_cells (to_parts (map part_of (drop (i + 1) ps)))
-part_cells_later ps i d h e = some_step any_part_cells (λ p. needs_cells (type_of p.ty)) part_cells-none part_cells-more ps i d false h e
-
-pub part_cells_here : (ps : List Part) (i : ℕ) (d : Part) → i < length ps → needs_cells (type_of (get_or ps i d).ty) ≡ true → parts_need_cells (to_parts (map part_of (drop i ps))) ≡ true
-part_cells_here ps i d h e = some_step any_part_cells (λ p. needs_cells (type_of p.ty)) part_cells-none part_cells-more ps i d true h e
-
-pub part_cells_past : (ps : List Part) (i : ℕ) → length ps ≤ i → parts_need_cells (to_parts (map part_of (drop i ps))) ≡ false
-part_cells_past ps i h = some_past any_part_cells (λ p. needs_cells (type_of p.ty)) part_cells-none part_cells-more ps i h
-
-pub ruleset part_cells_steps = (part_cells_later, part_cells_here, part_cells_past)

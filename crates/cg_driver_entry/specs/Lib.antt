@@ -1,3 +1,4 @@
+pub mod Typed
 pub mod Types
 pub mod Entries
 pub mod Laws

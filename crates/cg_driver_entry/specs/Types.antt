@@ -1,8 +1,6 @@
--- What the types of an entry and of its instances may hold (docs/LANGUAGE.md, "Entries").
+-- What the types of an entry may hold (docs/LANGUAGE.md, "Entries").
 use Rattle.std.specs.Prelude.{ℕ, Bool, true, false, ◌&&◌, ◌||◌, not, List, codes}
 use Rattle.std.specs.Str.{bytes_eq}
-use Rattle.cg_base.specs.declared.kind.Sigil.{Sigil}
-use Rattle.cg_base.specs.declared.kind.Sigil.TheVariants.{U}
 use Rattle.cg_base.specs.Types.{Tau, arrow, abs, variant, fields, Taus, none, more, Parts, end, part}
 
 -- an abstract type is a user's where it isn't one of those that are declared beforehand
@@ -30,21 +28,3 @@ abbrev mutual
 abbrev pub is_first_order : Tau → Bool
 is_first_order (arrow a b) = not (holds_closed a) && not (holds_closed b)
 is_first_order t = false
-
--- a record that is held behind a pointer
-abbrev pub is_boxed : Sigil → Bool
-is_boxed U = false
-is_boxed s = true
-
-abbrev mutual
-  -- a boxed record or an abstract type is in a type, also in what function types take and give
-  pub needs_cells : Tau → Bool
-  needs_cells (arrow a b) = needs_cells a || needs_cells b
-  needs_cells (abs name ts sigil) = true
-  needs_cells (variant ps) = parts_need_cells ps
-  needs_cells (fields ps sigil) = is_boxed sigil || parts_need_cells ps
-  needs_cells t = false
-
-  pub parts_need_cells : Parts → Bool
-  parts_need_cells end = false
-  parts_need_cells (part name t taken ps) = needs_cells t || parts_need_cells ps

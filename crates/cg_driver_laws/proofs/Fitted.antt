@@ -11,7 +11,7 @@ use Rattle.cg_base.specs.Words.{bits}
 use Rattle.cg_core_def.specs.Lawful.{AreApart, part_names}
 use Rattle.cg_driver_laws.proofs.Instances.{IsFine, IsProperEntry, entry_proper, list_fine}
 use Rattle.cg_driver_laws.proofs.Proper.{AreProperParts, IsProper}
-use Rattle.cg_driver_laws.proofs.Unboxed.{none_named}
+use Rattle.cg_driver_laws.proofs.Apart.{none_named}
 use Rattle.cg_driver_laws.proofs.Whole.{instances}
 use Rattle.cg_driver_laws.specs.Laws.{program_over}
 use Rattle.cg_eval_def.specs.Evaluation.{cost_of, evaluation}

@@ -6,13 +6,12 @@ pub mod Structs
 pub mod Depths
 pub mod Programs
 pub mod Printed
-pub mod Stable
-pub mod Unboxed
-pub mod Without
+pub mod Apart
+pub mod Places
 pub mod Whole
 pub mod Sound
 pub mod Reached
-pub mod Entries
 pub mod Fitted
 pub mod Refined
+pub mod Entries
 pub mod Linking

@@ -10,8 +10,10 @@ use Rattle.cg_cgen_def.specs.Names.{function_name}
 use Rattle.cg_cmachine_def.specs.Runs.{linked_to}
 use Rattle.cg_core.specs.Derivations.{Derivation}
 use Rattle.cg_core.specs.Terms.{Note, Tree}
+use Rattle.cg_ctree.specs.Trees.{Program as CText}
 use Rattle.cg_heap.specs.declared.foreign.Link.{Link}
 use Rattle.cg_heap.specs.ForeignHeaps.{ForeignHeap}
+use Rattle.cg_heap.specs.NoForeignHeap.{no_foreign_heap}
 use Rattle.cg_lower.specs.Collected.{entries_of, list_of}
 use Rattle.cg_core.specs.Kernels.{Body, Function}
 use Rattle.cg_inst.specs.Lists.{Cores, core_of}
@@ -24,7 +26,7 @@ use Rattle.cg_typing.specs.Kept.{IsKeptMaybe}
 use Rattle.cg_typing.specs.Subst.{subst_core}
 use Rattle.cg_value.specs.Foreign.{Foreign}
 use Rattle.cg_value.specs.NoForeign.{no_foreign}
-use Rattle.cg_driver_laws.specs.Laws.{AreLinked, copies_over, program_over}
+use Rattle.cg_driver_laws.specs.Laws.{AreLinked, NoneAreLinked, copies_over, linked_over, program_over}
 use Rattle.cg_base.proofs.Counts.{no_steps as never}
 
 -- what knows no function knows none of the source
@@ -32,18 +34,22 @@ none_known : (f : Function) → is_known no_foreign f ≡ true → ⊥
 none_known f h = never (and_parts (is_empty f.vars) _ h).1
 
 -- so none has to be linked
-pub none_linked : (functions : List Function) (list : List Instance) → AreLinked no_foreign functions list []
-none_linked functions list k i types f here there abstract known = absurd (none_known f known)
+pub none_are_linked : NoneAreLinked
+none_are_linked functions list k i types f here there abstract known = absurd (none_known f known)
+
+-- and a program that is linked to no table is the program alone: of it nothing is asked
+pub alone : (program : CText) → linked_over program [] no_foreign_heap ≡ record { program = program; links = []; asked = λ name us m. None }
+alone program = refl
 
 -- a function whose core isn't there has no body
-abstract_is : (functions : List Function) (vars : List Kinds) (a b : Tau) (body : Option Body) (core : Option (Tree Note)) (tree : Option Derivation)
+pub abstract_is : (functions : List Function) (vars : List Kinds) (a b : Tau) (body : Option Body) (core : Option (Tree Note)) (tree : Option Derivation)
     → IsKeptMaybe functions vars a b body core tree → core ≡ None → body ≡ None
 abstract_is functions vars a b None core tree k e = refl
 abstract_is functions vars a b (Some body) None tree k e = absurd k
 abstract_is functions vars a b (Some body) (Some c) tree k e = absurd (cc)
 
 -- nor has one whose instance has none
-core_missing : (types : List Tau) (core : Option (Tree Note)) → option_map (subst_core types) core ≡ None → core ≡ None
+pub core_missing : (types : List Tau) (core : Option (Tree Note)) → option_map (subst_core types) core ≡ None → core ≡ None
 core_missing types None e = refl
 core_missing types (Some c) e = absurd (cc)
 

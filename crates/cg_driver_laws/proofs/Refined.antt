@@ -15,7 +15,7 @@ use Rattle.cg_driver_laws.proofs.Fitted.{derived, entered, is_proper, over_copie
 use Rattle.cg_driver_laws.proofs.Instances.{HaveProperNodes}
 use Rattle.cg_driver_laws.proofs.Proper.{IsProper}
 use Rattle.cg_driver_laws.proofs.ProperNodes.{HasProper}
-use Rattle.cg_driver_laws.proofs.Unboxed.{apart_is}
+use Rattle.cg_driver_laws.proofs.Apart.{apart_is}
 use Rattle.cg_driver_laws.proofs.Whole.{program_is}
 use Rattle.cg_driver_laws.specs.Laws.{AreLinked, GivesRefined, ReachKnown, SourcesAreRefined, copies_in, linked_over, program_over, reaches_known_by}
 use Rattle.cg_eval_def.specs.Evaluation.{evaluation}

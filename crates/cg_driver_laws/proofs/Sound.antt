@@ -17,7 +17,7 @@ use Rattle.cg_value.specs.Values.{function}
 use Rattle.cg_driver_laws.specs.Laws.{EntriesAreSound, ReachesUnknown}
 
 -- the functions that are reached from one, where the table knows the abstract ones
-closed_over : (x : Foreign) (functions : List Function) (at : ℕ) (r : AreFrom functions at) → (ReachesUnknown x functions at → ⊥) → IsClosed x functions r.among
+pub closed_over : (x : Foreign) (functions : List Function) (at : ℕ) (r : AreFrom functions at) → (ReachesUnknown x functions at → ⊥) → IsClosed x functions r.among
 closed_over x functions at r not = record {
   mentions = r.mentions;
   known = λ i f e among none. by_cases (λ b. IsTrue b) (is_known x f) (λ q. refl)

@@ -1,13 +1,11 @@
--- The C of the instances of a source (docs/LANGUAGE.md, "The C of instances"): it can be printed, and without cells it runs to what represents what
--- evaluation gives, from any store. And what is known of an entry (docs/LANGUAGE.md, "Entries").
+-- The C of the instances of a source (docs/LANGUAGE.md, "The C of instances"): it can be printed, and runs to what represents what evaluation
+-- gives, from any heap that represents the argument. And what is known of an entry (docs/LANGUAGE.md, "Entries").
 use Rattle.std.specs.Prelude.{◌≡◌, ◌⊎◌, ◌↔◌, ℕ, ◌+◌, ◌*◌, ◌^◌, ◌<◌, ◌≤◌, Bool, true, false, IsTrue, List, [], length, map, slice_get, Option, Some, None}
 use Rattle.std.specs.List.{list_all}
 use Rattle.cg_base.specs.declared.fun.Fun.{Fun}
 use Rattle.cg_base.specs.declared.fun.Fun.TheVariants.{User, Lib as OfLib}
-use Rattle.cg_base.specs.declared.kind.Word.TheVariants.{U32}
-use Rattle.cg_base.specs.Types.{Tau, arrow, word}
-use Rattle.cg_driver_cells.specs.Cells.{ReachesCells}
-use Rattle.cg_lower.specs.Collected.{Copy, list_of}
+use Rattle.cg_base.specs.Types.{Tau, arrow}
+use Rattle.cg_lower.specs.Collected.{Copy}
 use Rattle.cg_core.specs.Kernels.{Function}
 use Rattle.cg_core.specs.Terms.{Note, Tree}
 use Rattle.cg_ctree.specs.Spells.{IsPrintable}
@@ -18,7 +16,6 @@ use Rattle.cg_heap.specs.Calls.{heap_of}
 use Rattle.cg_heap.specs.declared.cell.Scalar.{Scalar}
 use Rattle.cg_heap.specs.declared.foreign.Link.{Link}
 use Rattle.cg_heap.specs.ForeignHeaps.{ForeignHeap, IsLawfulOnHeaps}
-use Rattle.cg_heap.specs.NoForeignHeap.{no_foreign_heap}
 use Rattle.cg_heap.specs.Frames.{Frame}
 use Rattle.cg_heap.specs.Reps.{HeapWorld, Represents}
 use Rattle.cg_heap.specs.Steps.{count}
@@ -42,11 +39,9 @@ use Rattle.cg_update_laws.specs.Laws.{world_among}
 use Rattle.cg_value.specs.Fits.{fits}
 use Rattle.cg_value.specs.Foreign.{Foreign, IsLawful, first_order}
 use Rattle.cg_value.specs.NoForeign.{no_foreign}
-use Rattle.cg_value.specs.Values.{Val, function, number}
-use Rattle.cg_driver_cells.specs.WithoutCells.{IsWithoutCells}
+use Rattle.cg_value.specs.Values.{Val, function}
 use Rattle.cg_cmachine_def.specs.Outcomes.{State, done}
 use Rattle.cg_cmachine_def.specs.Runs.{Linked, crun, linked_to}
-use Rattle.cg_cmachine_def.specs.WordRuns.{RunsTo}
 
 -- the copies of a list of instances
 abbrev pub copies_over : List Function → Cores → List Instance → List Copy
@@ -59,10 +54,6 @@ copies_in checked list = copies_over (functions_in checked) (core_in checked) li
 abbrev pub program_over : Foreign → ForeignHeap → List Function → Cores → List Instance → Program
 program_over x y functions cores list = record { functions = functions; list = list; entries = map (entry_of functions cores) list; foreign = x; on_heaps = y }
 
--- and over none
-abbrev pub program_alone : List Function → Cores → List Instance → Program
-program_alone = program_over no_foreign no_foreign_heap
-
 -- a C program with what a table answers to calls of the functions that these links name
 abbrev pub linked_over : CText → List Link → ForeignHeap → Linked
 linked_over program links y = record { program = program; links = links; asked = y.asked }
@@ -73,14 +64,13 @@ AreLinked x functions list links =
     (k i : ℕ) (types : List Tau) (f : Function) → slice_get list k ≡ Some (record { fun = User i; types = types }) → slice_get functions i ≡ Some f → f.body ≡ None → is_known x f ≡ true
     → linked_to (function_name k) links ≡ Some f.at.name
 
+-- None has to be linked, where the table knows no function.
+abbrev pub NoneAreLinked : Type 0
+NoneAreLinked = (functions : List Function) (list : List Instance) → AreLinked no_foreign functions list []
+
 -- There are such links of any list that isn't longer than 2^64, whatever a table knows.
 abbrev pub LinksExist : Type 0
 LinksExist = (x : Foreign) (functions : List Function) (list : List Instance) → length list ≤ 2 ^ 64 → (links : List Link) × AreLinked x functions list links
-
--- What a C function gives on a word, where evaluation gives this value at this cost: the same word within 32k + 32 steps, and no cell is
--- made or freed.
-abbrev pub RunsAlike : CText → List ℕ → ℕ → Val → ℕ → Type 0
-RunsAlike program name arg value cost = (r : ℕ) × (value ≡ number r) × (r < 2 ^ 32) × (left : ℕ) × RunsTo program name arg (32 * cost + 32) r left
 
 -- What a C function gives on scalars that represent a value, from a heap in which these addresses may be written and read, where evaluation gives
 -- this value at this cost: within 32k + 32 steps scalars that represent it, in a heap that is as it was but for what was written or made; what is
@@ -148,21 +138,6 @@ SourcesArePrograms =
     → AreLinked x (functions_in checked) list links
     → ∥ IsProgramOf (program_over x y (functions_in checked) (core_in checked) list) links (copies_in checked list) ∥₁
 
--- Where evaluation of a function from words to words gives a value on a word, and its instance stands among bodies without cells, the C function
--- of this instance gives the same.
-abbrev pub UnboxedRun : Type 0
-UnboxedRun =
-    (checked : Checked) (list : List Instance) (program : CText) → IsList (functions_in checked) (core_in checked) list → IsSimulated (copies_in checked list) program
-    → (among : ℕ → Bool) → IsWithoutCells list among (copies_in checked list)
-    → (at i n k x : ℕ) (v : Val) → slice_get list at ≡ Some (record { fun = User i; types = [] }) → among at ≡ true
-    → (entry_of (functions_in checked) (core_in checked) (record { fun = User i; types = [] })).ty ≡ arrow (word U32) (word U32) → x < 2 ^ 32
-    → evaluation (table_of no_foreign checked) n (function (User i) []) (number x) ≡ Some (v, k)
-    → RunsAlike program (function_name at) x v k
-
--- an instance whose body needs cells is the one at a place, or is reached from it by mentions in bodies
-abbrev pub CopiesReachCells : List Copy → ℕ → Type 0
-CopiesReachCells copies at = ReachesCells (list_of copies) (map (λ (c : Copy). c.1.body) copies) at
-
 -- an abstract function that a table doesn't know is this one, or is reached from it by mentions in bodies
 pub record ReachesUnknown (x : Foreign) (functions : List Function) (at : ℕ) : Type 0 where
   pub abstract : ReachesAbstract functions at
@@ -176,12 +151,18 @@ EntriesAreSound =
     → (ReachesUnknown x (functions_in checked) i → ⊥) → IsTrue (fits (first_order x) a v)
     → outcome (table_of x checked) n (function (User i) []) v ≡ stuck → ⊥
 
--- Where evaluation of a function from words to words that reaches no abstract function gives a value on a word, and its instance reaches no
--- body that needs cells, the C function of this instance gives the same.
+-- Over any lawful table: where evaluation of a function without type variables that has a body and reaches only such abstract functions as the
+-- table knows gives a value at cost k, the C function of its instance gives what represents it, within 32k + 32 steps, from any heap that
+-- represents the argument over whatever functions and abstract types, and has no cell above its highest address.
 abbrev pub EntriesRun : Type 0
 EntriesRun =
-    (checked : Checked) (list : List Instance) (program : CText) → IsList (functions_in checked) (core_in checked) list → IsSimulated (copies_in checked list) program
-    → (at i n k x : ℕ) (f : Function) (v : Val) → slice_get list at ≡ Some (record { fun = User i; types = [] }) → slice_get (functions_in checked) i ≡ Some f
-    → f.ty.ty ≡ arrow (word U32) (word U32) → (ReachesAbstract (functions_in checked) i → ⊥) → (CopiesReachCells (copies_in checked list) at → ⊥)
-    → x < 2 ^ 32 → evaluation (table_of no_foreign checked) n (function (User i) []) (number x) ≡ Some (v, k)
-    → RunsAlike program (function_name at) x v k
+    (x : Foreign) (y : ForeignHeap) → IsLawful x → IsLawfulOnHeaps x y → (checked : Checked) (list : List Instance) (program : CText)
+    → AreKept (functions_in checked) (functions_in checked) (map maybe_core (cores_in checked)) (map maybe_tree (trees_in checked))
+    → IsList (functions_in checked) (core_in checked) list → IsSimulated (copies_in checked list) program
+    → (links : List Link) → AreLinked x (functions_in checked) list links
+    → (at i n k : ℕ) (f : Function) (a b : Tau) (us : List Scalar) (m : Stored) (v w : Val) (writes reads : ℕ → ℕ)
+    → slice_get list at ≡ Some (record { fun = User i; types = [] }) → slice_get (functions_in checked) i ≡ Some f → (f.body ≡ None → ⊥) → f.ty.ty ≡ arrow a b
+    → (ReachesUnknown x (functions_in checked) i → ⊥)
+    → ((world : HeapWorld) → Represents world (heap_of m) a us v writes reads) → ((q : ℕ) → m.top < q → heap_of m q ≡ None)
+    → evaluation (table_of x checked) n (function (User i) []) v ≡ Some (w, k)
+    → (world : HeapWorld) × GivesRefined world (linked_over program links y) (function_name at) us m writes reads b w k

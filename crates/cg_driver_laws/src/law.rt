@@ -1,5 +1,5 @@
 // The laws of the C of sources, and of their entries.
-ghost use Rattle.cg_driver_laws.specs.Laws.{EntriesAreSound, EntriesRun, FunctionsStand, LinksExist, SourcesArePrograms, SourcesAreRefined, SourcesPrint, UnboxedRun};
+ghost use Rattle.cg_driver_laws.specs.Laws.{EntriesAreSound, EntriesRun, FunctionsStand, LinksExist, NoneAreLinked, SourcesArePrograms, SourcesAreRefined, SourcesPrint};
 
 /// A function without type variables has an instance in the list of a source.
 pub fn functions_stand()
@@ -21,10 +21,9 @@ pub fn links_exist()
     ensures { LinksExist }
 {}
 
-/// Where evaluation of a function from words to words gives a value on a word at cost k, and its instance stands among bodies without cells,
-/// the C function of this instance gives the same word within 32k + 32 steps, and makes and frees no cell.
-pub fn unboxed_run()
-    ensures { UnboxedRun }
+/// No abstract function has to be linked, where the table knows none.
+pub fn none_are_linked()
+    ensures { NoneAreLinked }
 {}
 
 /// Over any lawful table, evaluation of a function without type variables that reaches only such abstract functions as the table knows is never
@@ -33,8 +32,11 @@ pub fn entries_are_sound()
     ensures { EntriesAreSound }
 {}
 
-/// Where evaluation of a function from words to words that reaches no abstract function gives a value on a word at cost k, and its instance
-/// reaches no body that needs cells, the C function of this instance gives the same word within 32k + 32 steps, and makes and frees no cell.
+/// Over any lawful table: where evaluation of a function without type variables that has a body and reaches only such abstract functions as the
+/// table knows gives a value at cost k, the C function of its instance, with those abstract functions linked by its names, ends within 32k + 32
+/// steps with scalars that represent that value, from any heap that represents the argument over whatever functions and abstract types and has no
+/// cell above its highest address: each cell that could be written is written by what it gives or freed, once, none is leaked, and all others are
+/// as they were.
 pub fn entries_run()
     ensures { EntriesRun }
 {}

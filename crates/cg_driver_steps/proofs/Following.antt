@@ -1,6 +1,6 @@
 -- From what the functions for some steps did to what a function for more of them did.
 use Rattle.std.proofs.Common.{◌≡◌, inl, inr, ℕ, List, [], ◌∷◌, ◌++◌, Result, Ok, Err, refl, subst}
-use Rattle.std.specs.Prelude.{string_bytes, Vec}
+use Rattle.std.specs.Prelude.{Vec}
 use Rattle.std.specs.declared.alloc.Global.{Global}
 use Rattle.cg_base.specs.declared.memory.Memory.{Memory}
 use Rattle.cg_driver_steps.specs.declared.report.Report.{Report}
@@ -52,7 +52,7 @@ module _ {J S : Type 0} (Judges : J → S → Outcome S → Type 0) where
   pub ended : {T : Type 0} (Keeps : T → S → Type 0) (line : S → List ℕ → Type 0) (first rest : List (Step J S)) (s : S) (old new : World) (given : Result (Taken T) Memory) (r : Report)
       → given ≡ Ok (Ends r) → Leads Judges Keeps first s old new given → Concludes Judges line (first ++ rest) s old new (Ok r)
   ended Keeps line first rest s old new given r is a =
-      let o : Outcome S = refuses r.status (string_bytes r.text) in
+      let o : Outcome S = refuses r.status r.text.items in
       (o, ends_runs Judges first rest s old new o tt (subst (λ g. Leads Judges Keeps first s old new g) is a), (refl, refl))
 
   -- steps in which memory ran out
@@ -74,7 +74,7 @@ module _ {J S : Type 0} (Judges : J → S → Outcome S → Type 0) where
   pub judged_ended : {T : Type 0} (Keeps : T → S → Type 0) (line : S → List ℕ → Type 0) (js : List J) (rest : List (Step J S)) (s : S) (old : World) (given : Result (Taken T) Memory) (r : Report)
       → given ≡ Ok (Ends r) → Judged Judges Keeps js s given → Concludes Judges line (judged_first js rest) s old old (Ok r)
   judged_ended Keeps line js rest s old given r is a =
-      let o : Outcome S = refuses r.status (string_bytes r.text) in
+      let o : Outcome S = refuses r.status r.text.items in
       (o, judged_ends Judges js rest s old o tt (subst (λ g. Judged Judges Keeps js s g) is a), (refl, refl))
 
   pub judged_halted : (line : S → List ℕ → Type 0) (steps : List (Step J S)) (s : S) (old : World) (e : Memory) → Concludes Judges line steps s old old (Err e)
@@ -99,7 +99,7 @@ module _ {J S : Type 0} (Judges : J → S → Outcome S → Type 0) where
   pub rules_ended : {T : Type 0} (Keeps : T → S → Type 0) (line : S → List ℕ → Type 0) (first rest : List J) (s : S) (given : Result (Taken T) Memory) (r : Report)
       → given ≡ Ok (Ends r) → Judged Judges Keeps first s given → Rules Judges line (first ++ rest) s (Ok r)
   rules_ended Keeps line first rest s given r is a =
-      let o : Outcome S = refuses r.status (string_bytes r.text) in
+      let o : Outcome S = refuses r.status r.text.items in
       (o, ends_settles Judges first rest s o tt (subst (λ g. Judged Judges Keeps first s g) is a), (refl, refl))
 
   -- the same for functions that go on
@@ -109,10 +109,10 @@ module _ {J S : Type 0} (Judges : J → S → Outcome S → Type 0) where
     where
       go : (r : Result (Taken _) Memory) → Judged Judges Keeps first s (Ok (Goes x)) → ((next : S) → Keeps x next → Judged Judges Keeps' rest next r) → Judged Judges Keeps' (first ++ rest) s r
       go (Ok (Goes y)) a b = let c = b a.0 a.2 in (c.0, then_settles Judges first rest s a.0 (goes c.0) a.1 c.1, c.2)
-      go (Ok (Ends r)) a b = then_settles Judges first rest s a.0 (refuses r.status (string_bytes r.text)) a.1 (b a.0 a.2)
+      go (Ok (Ends r)) a b = then_settles Judges first rest s a.0 (refuses r.status r.text.items) a.1 (b a.0 a.2)
       go (Err e) a b = tt
 
   pub judged_out : {T U : Type 0} (Keeps : T → S → Type 0) (Keeps' : U → S → Type 0) (first rest : List J) (s : S) (given : Result (Taken T) Memory) (r : Report)
       → given ≡ Ok (Ends r) → Judged Judges Keeps first s given → Judged Judges Keeps' (first ++ rest) s (Ok (Ends r))
   judged_out Keeps Keeps' first rest s given r is a =
-      ends_settles Judges first rest s (refuses r.status (string_bytes r.text)) tt (subst (λ g. Judged Judges Keeps first s g) is a)
+      ends_settles Judges first rest s (refuses r.status r.text.items) tt (subst (λ g. Judged Judges Keeps first s g) is a)

@@ -1,5 +1,5 @@
 -- What the functions for single steps, and for some of a command's steps, say, as the code has them.
-use Rattle.std.specs.Prelude.{◌≡◌, ℕ, List, take, Option, Ok, Err, Vec, ◌⊎◌, string_bytes}
+use Rattle.std.specs.Prelude.{◌≡◌, ℕ, List, take, Option, Ok, Err, Vec, ◌⊎◌}
 use Rattle.std.specs.Io.KnownBytes.{append_known}
 use Rattle.std.specs.declared.alloc.Global.{Global}
 use Rattle.std.specs.declared.result.Result.{Result}
@@ -17,11 +17,11 @@ use Rattle.cg_driver_steps.specs.Scripts.{IsSaid}
 
 -- a report has this status and this text
 abbrev pub IsLine : Status → List ℕ → Report → Type 0
-IsLine status line r = (r.status ≡ status) × (string_bytes r.text ≡ line)
+IsLine status line r = (r.status ≡ status) × (r.text.items ≡ line)
 
 -- what is said of a report
 abbrev pub Reports : (Status → List ℕ → Type 0) → Report → Type 0
-Reports Says r = Says r.status (string_bytes r.text)
+Reports Says r = Says r.status r.text.items
 
 -- a step goes on with something of which this holds, or ends with a report that says so much
 abbrev pub Steps : {T : Type 0} → (T → Type 0) → (Status → List ℕ → Type 0) → Taken T → Type 0
@@ -50,21 +50,21 @@ HasPrinted status text taken taken' before now result = ((result ≡ status) × 
 -- what a function for some steps did, where Keeps tells which states its value stands for
 abbrev pub Leads : {J S T : Type 0} → (J → S → Outcome S → Type 0) → (T → S → Type 0) → List (Step J S) → S → World → World → Result (Taken T) Memory → Type 0
 Leads {S = S} Judges Keeps steps from old new (Ok (Goes x)) = (next : S) × Runs Judges steps from old (goes next) new × Keeps x next
-Leads Judges Keeps steps from old new (Ok (Ends r)) = Runs Judges steps from old (refuses r.status (string_bytes r.text)) new
+Leads Judges Keeps steps from old new (Ok (Ends r)) = Runs Judges steps from old (refuses r.status r.text.items) new
 Leads Judges Keeps steps from old new (Err e) = Stops Judges steps from old new
 
 -- the same of judgements, which see no world
 abbrev pub Judged : {J S T : Type 0} → (J → S → Outcome S → Type 0) → (T → S → Type 0) → List J → S → Result (Taken T) Memory → Type 0
 Judged {S = S} Judges Keeps js from (Ok (Goes x)) = (next : S) × Settles Judges js from (goes next) × Keeps x next
-Judged Judges Keeps js from (Ok (Ends r)) = Settles Judges js from (refuses r.status (string_bytes r.text))
+Judged Judges Keeps js from (Ok (Ends r)) = Settles Judges js from (refuses r.status r.text.items)
 Judged Judges Keeps js from (Err e) = Unit {0}
 
 -- what a function for the last steps of a command says
 abbrev pub Concludes : {J S : Type 0} → (J → S → Outcome S → Type 0) → (S → List ℕ → Type 0) → List (Step J S) → S → World → World → Result Report Memory → Type 0
-Concludes {S = S} Judges line steps from old new (Ok r) = (outcome : Outcome S) × Runs Judges steps from old outcome new × IsSaid line outcome r.status (string_bytes r.text)
+Concludes {S = S} Judges line steps from old new (Ok r) = (outcome : Outcome S) × Runs Judges steps from old outcome new × IsSaid line outcome r.status r.text.items
 Concludes Judges line steps from old new (Err e) = Stops Judges steps from old new
 
 -- the same of judgements, which see no world
 abbrev pub Rules : {J S : Type 0} → (J → S → Outcome S → Type 0) → (S → List ℕ → Type 0) → List J → S → Result Report Memory → Type 0
-Rules {S = S} Judges line js from (Ok r) = (outcome : Outcome S) × Settles Judges js from outcome × IsSaid line outcome r.status (string_bytes r.text)
+Rules {S = S} Judges line js from (Ok r) = (outcome : Outcome S) × Settles Judges js from outcome × IsSaid line outcome r.status r.text.items
 Rules Judges line js from (Err e) = Unit {0}

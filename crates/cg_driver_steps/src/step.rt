@@ -1,5 +1,5 @@
 // The steps that touch the outside.
-ghost use Rattle.std.specs.Prelude.{◌≡◌, ◌<◌, ◌^◌, IfOk, string_bytes};
+ghost use Rattle.std.specs.Prelude.{◌≡◌, ◌<◌, ◌^◌, IfOk};
 ghost use Rattle.cg_driver_steps.specs.World.{world};
 ghost use Rattle.cg_driver_steps.specs.Steps.{unread_line, unwritten_line};
 ghost use Rattle.cg_driver_steps.specs.Parts.{IsLine, HasRead, HasWritten, HasPrinted};
@@ -13,20 +13,20 @@ use std::alloc::Global;
 fn unread(alloc: Global, name: &str) -> Result<Report, Memory>
     ensures { IfOk result (λ r. IsLine Status.ReadFault (unread_line name.now) r) }
 {
-    Ok(Report {
-        status: Status::ReadFault,
-        text: format!(in alloc; "{name}: cannot be read\n")?,
-    })
+    Ok(Report::of_text(
+        Status::ReadFault,
+        format!(in alloc; "{name}: cannot be read\n")?,
+    ))
 }
 
 /// The line of a file that can't be written.
 fn unwritten(alloc: Global, name: &str) -> Result<Report, Memory>
     ensures { IfOk result (λ r. IsLine Status.WriteFault (unwritten_line name.now) r) }
 {
-    Ok(Report {
-        status: Status::WriteFault,
-        text: format!(in alloc; "{name}: cannot be written\n")?,
-    })
+    Ok(Report::of_text(
+        Status::WriteFault,
+        format!(in alloc; "{name}: cannot be written\n")?,
+    ))
 }
 
 /// Reads a file, up to one byte past the limit, by one call. A read that fails ends the command. docs/LANGUAGE.md,
@@ -70,9 +70,9 @@ pub fn write_file<F: Files>(
 /// Prints a report, by one write, and gives the status at the end: the report's, or that of the write where it fails.
 /// docs/LANGUAGE.md, "Statuses".
 pub fn print_report<O: Sink>(out: &mut O, report: Report) -> Status
-    ensures { HasPrinted report.status (string_bytes report.text) (O.taken out.old) (O.taken out.new) (O.faults out.old) (O.faults out.new) result }
+    ensures { HasPrinted report.status report.text.items (O.taken out.old) (O.taken out.new) (O.faults out.old) (O.faults out.new) result }
 {
-    match out.write(report.text.as_bytes()) {
+    match out.write(report.text.as_slice()) {
         Ok(()) => report.status,
         Err(FileFault::Failed) => Status::WriteFault,
         Err(FileFault::Memory) => Status::Memory,

@@ -1,20 +1,41 @@
-use Rattle.std.proofs.Common.{subst, sym}
+use Rattle.std.proofs.Common.{map, subst, sym, arith}
+use Rattle.cg_base.specs.Types.{type_of}
+use Rattle.cg_cmachine_def.specs.WordRuns.{no_cells}
 use Rattle.cg_ctree.specs.Trees.{program_of}
-use Rattle.cg_cmachine_def.specs.WordRuns.{RunsTo}
-use Rattle.cg_value.specs.Values.{value_of}
-use Rattle.cg_driver.specs.Run.{budget}
-use Rattle.cg_driver.proofs.Executing.{machined, runs_alike}
+use Rattle.cg_driver_laws.specs.Laws.{copies_in}
+use Rattle.cg_heaptext_contents.specs.Placings.{pair_of}
+use Rattle.cg_driver.specs.Executed.{GivesAlike, the_argument}
+use Rattle.cg_driver.specs.Run.{filled}
+use Rattle.cg_driver.proofs.Executing.{gives_alike, machined}
 use Rattle.cg_driver.proofs.execute.machine.Goals as goal
 
-pub run_on_word-requires-clause-ends : goal.run_on_word-requires-clause-ends
-run_on_word-requires-clause-ends c =
-    let said = runs_alike c.entries_run.ensures c.args.checked.now c.args.list.now c.in_ok-program.program c.args.chosen.at c.args.chosen.place c.requires.runs c.in_ok-program.ensures
-    c.args.arg c.requires.gives.0 c.args.cost (value_of c.args.value.now) c.requires.word c.requires.gives.2 in
-    (said.0, said.2, subst (λ n. RunsTo (program_of c.in_ok-program.program) n c.args.arg (budget c.args.cost) said.0 said.2) (sym c.in_ok-function.ensures) said.3)
+pub run_on-requires-clause-few : goal.run_on-requires-clause-few
+run_on-requires-clause-few c =
+    let g = c.requires.gives in
+    let least = (c.more_budget.ensures _ g.3 0 c.args.cost _ _ _ g.6).0 in
+    let most = g.4 in
+    omega (arith, least, most)
+
+pub run_on-requires-clause-placeable : goal.run_on-requires-clause-placeable
+run_on-requires-clause-placeable c = c.requires.gives.5.placeable
+
+pub run_on-requires-clause-plain : goal.run_on-requires-clause-plain
+run_on-requires-clause-plain c = c.requires.gives.5.can.ty.typed.plain_result
+
+pub run_on-requires-clause-ends : goal.run_on-requires-clause-ends
+run_on-requires-clause-ends c =
+    let g = c.requires.gives in (
+      g.2,
+      subst (λ n. GivesAlike (program_of c.in_ok-program.program) n c.args.arg.now (filled (map pair_of c.args.cells.cells) no_cells) (type_of c.args.ty.now) g.2 c.args.cost) (sym c.in_ok-function.ensures)
+          (gives_alike c.entries_run.ensures c.none_are_linked.ensures c.args.checked.now c.args.list.now c.in_ok-program.program c.requires.ready c.in_ok-program.ensures
+          c.args.chosen.at c.args.chosen.place g.3 c.args.cost g.0 (type_of c.args.ty.now) (the_argument c.args.cells.cells c.args.arg.now g.1) g.2 g.5 g.6),
+    )
 
 pub returns : goal.returns
-returns c =
-    machined c.args.checked.now c.args.list.now c.in_ok-program.program c.in_ok-program.ensures c.args.chosen.place c.args.arg c.args.cost (value_of c.args.value.now)
-    (runs_alike c.entries_run.ensures c.args.checked.now c.args.list.now c.in_ok-program.program c.args.chosen.at c.args.chosen.place c.requires.runs c.in_ok-program.ensures
-    c.args.arg c.requires.gives.0 c.args.cost (value_of c.args.value.now) c.requires.word c.requires.gives.2)
-    _ c.in_ok-function.ensures _ c.run_on_word.ensures
+returns c argument v w steps few ready gives =
+    machined (copies_in c.args.checked.now c.args.list.now) c.in_ok-program.program c.in_ok-function.function c.args.chosen.place (type_of c.args.ty.now) c.args.arg.now
+    (filled (map pair_of c.args.cells.cells) no_cells) w c.args.cost c.in_ok-program.ensures c.in_ok-function.ensures c.run_on.result
+    (c.run_on.ensures w
+    (subst (λ n. GivesAlike (program_of c.in_ok-program.program) n c.args.arg.now (filled (map pair_of c.args.cells.cells) no_cells) (type_of c.args.ty.now) w c.args.cost) (sym c.in_ok-function.ensures)
+    (gives_alike c.entries_run.ensures c.none_are_linked.ensures c.args.checked.now c.args.list.now c.in_ok-program.program c.requires.ready c.in_ok-program.ensures
+    c.args.chosen.at c.args.chosen.place steps c.args.cost argument (type_of c.args.ty.now) (the_argument c.args.cells.cells c.args.arg.now v) w ready gives)))

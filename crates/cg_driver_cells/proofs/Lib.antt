@@ -1,2 +1,0 @@
-mod ReachSteps
-mod Reached

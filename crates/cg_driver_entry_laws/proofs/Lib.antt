@@ -1,0 +1,5 @@
+pub mod Plain
+pub mod Sizes
+pub mod Ordered
+pub mod Shapeless
+pub mod Entries
