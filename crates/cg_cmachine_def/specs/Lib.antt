@@ -6,4 +6,3 @@ pub mod Outcomes
 pub mod Parts
 pub mod Runs
 pub mod Targets
-pub mod WordRuns

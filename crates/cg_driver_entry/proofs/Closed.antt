@@ -6,7 +6,6 @@ use Rattle.std.specs.Prelude.{slice_get}
 use Rattle.cg_graphs.specs.Circles.{Mentions, mentioned, onward}
 use Rattle.cg_graphs.proofs.Places.{place}
 use Rattle.cg_core.specs.Kernels.{Function}
-use Rattle.cg_driver_entry.specs.Laws.{EntriesAreClosed}
 use Rattle.cg_core_def.specs.Lawful.{body_mentions, kernel_mentions}
 use Rattle.cg_graphs.specs.Reach.{AreReached, IsReached}
 use Rattle.cg_graphs.proofs.Marked.{marks_are_there}
@@ -66,13 +65,4 @@ functions_from functions at =
       here = among_of functions at d.0 d.1 at (inl refl);
       mentions = mentioned_among functions at d.0 d.1;
       reached = reached_of functions at d.0 d.1;
-    }
-
-pub entries_are_closed : EntriesAreClosed
-entries_are_closed functions at not =
-    let r = functions_from functions at in record {
-      among = r.among;
-      here = r.here;
-      mentions = r.mentions;
-      bodies = λ i f e h absent. not (record { place = i; function = f; stands = e; abstract = absent; reached = r.reached i f e h });
     }

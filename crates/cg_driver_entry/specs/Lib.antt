@@ -1,4 +1,3 @@
 pub mod Typed
 pub mod Types
 pub mod Entries
-pub mod Laws

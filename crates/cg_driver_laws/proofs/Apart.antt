@@ -8,7 +8,7 @@ use Rattle.cg_base.specs.Types.{Parts, end, part}
 use Rattle.cg_check_laws.proofs.Basics.{or_false as neither}
 use Rattle.cg_core_def.specs.Lawful.{AreApart, part_names}
 use Rattle.cg_typing.specs.Parts.{is_there, part_named}
-use Rattle.cg_update.specs.Unboxed.{are_apart}
+use Rattle.cg_update.specs.Among.{are_apart}
 
 -- a name that is none of theirs is not there
 pub none_named : (n : List ℕ) (ps : Parts) → list_any (bytes_eq n) (part_names ps) ≡ false → is_there (part_named n ps) ≡ false

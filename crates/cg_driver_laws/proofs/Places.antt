@@ -18,7 +18,7 @@ use Rattle.cg_inst_laws.specs.Laws.{place_in}
 use Rattle.cg_typing.specs.Functions.{arg_types}
 use Rattle.cg_typing.specs.Instances.{Instance, is_closed, mentioned_at, nodes_of}
 use Rattle.cg_typing.specs.Subst.{subst_core}
-use Rattle.cg_update.specs.Unboxed.{is_mention_among, is_place_among}
+use Rattle.cg_update.specs.Among.{is_mention_among, is_place_among}
 use Rattle.cg_update.specs.Updates.{place_of}
 use Rattle.cg_update_laws.proofs.Places.{all_stay as types_stay}
 

@@ -33,7 +33,7 @@ use Rattle.cg_refine_laws.specs.Laws.{knows_at}
 use Rattle.cg_typing.specs.Instances.{Entry, Instance, IsGood, IsIn, is_closed, mentioned_at, mentioned_in, nodes_of}
 use Rattle.cg_typing.specs.Subst.{subst_core}
 use Rattle.cg_update.specs.Calls.{Program}
-use Rattle.cg_update.specs.Unboxed.{is_mention_among}
+use Rattle.cg_update.specs.Among.{is_mention_among}
 use Rattle.cg_value.specs.Foreign.{Foreign}
 
 -- ---- lists

@@ -49,7 +49,7 @@ use Rattle.cg_typing.specs.Parts.{given_by, taken_by}
 use Rattle.cg_typing.specs.Rules.{type_at}
 use Rattle.cg_update.specs.Calls.{Program}
 use Rattle.cg_update.specs.Turns.{alternatives_in}
-use Rattle.cg_update.specs.Unboxed.{are_apart, is_mention_among}
+use Rattle.cg_update.specs.Among.{are_apart, is_mention_among}
 use Rattle.cg_update_laws.specs.Laws.{world_among}
 use Rattle.cg_value.specs.Foreign.{Foreign, IsLawful}
 use Rattle.cg_value.specs.Values.{Val, function}

@@ -34,7 +34,7 @@ use Rattle.cg_typing.specs.Instances.{Entry, Instance, IsIn, nodes_of}
 use Rattle.cg_typing.specs.Kept.{AreKept, maybe_core, maybe_tree}
 use Rattle.cg_typing.specs.Parts.{given_by, taken_by}
 use Rattle.cg_update.specs.Calls.{Program}
-use Rattle.cg_update.specs.Unboxed.{is_mention_among}
+use Rattle.cg_update.specs.Among.{is_mention_among}
 use Rattle.cg_update_laws.specs.Laws.{world_among}
 use Rattle.cg_value.specs.Fits.{fits}
 use Rattle.cg_value.specs.Foreign.{Foreign, IsLawful, first_order}

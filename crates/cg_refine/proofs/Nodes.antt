@@ -45,7 +45,7 @@ use Rattle.cg_update.specs.Calls.{Program, types_of}
 use Rattle.cg_update.specs.Machines.{is_machine, part_at, type_of_part}
 use Rattle.cg_update.specs.Outcomes.{State, Outcome, gives, on, where_true}
 use Rattle.cg_update.specs.Turns.{alternatives_in, chosen_in, fields_in, place_in}
-use Rattle.cg_update.specs.Unboxed.{are_apart, is_place_among}
+use Rattle.cg_update.specs.Among.{are_apart, is_place_among}
 use Rattle.cg_update.specs.Updates as updates
 use Rattle.cg_update.specs.Updates.{Calls, place_of, read, row_of, sigil_of, update, update_fields, update_shape, write}
 use Rattle.cg_update_laws.proofs.Forms.{cast_held, con_held, last_is, literal_held, name_held, nothing_held, operated_both_held, operated_held, others_are_held, scalar_given, truth_held, truth_is}

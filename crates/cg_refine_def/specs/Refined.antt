@@ -14,7 +14,7 @@ use Rattle.cg_typing.specs.Instances.{Instance}
 use Rattle.cg_typing.specs.Rules.{type_at}
 use Rattle.cg_update.specs.Outcomes.{State, Outcome, gives}
 use Rattle.cg_update.specs.Turns.{alternatives_in}
-use Rattle.cg_update.specs.Unboxed.{are_apart, is_mention_among}
+use Rattle.cg_update.specs.Among.{are_apart, is_mention_among}
 use Rattle.cg_value.specs.Values.{Val}
 
 -- a state, with what may be written and read

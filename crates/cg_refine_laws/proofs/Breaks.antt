@@ -26,7 +26,7 @@ use Rattle.cg_update.specs.Machines.{type_of_part}
 use Rattle.cg_update.specs.Outcomes.{State, gives}
 use Rattle.cg_update.specs.Turns as on_scalars
 use Rattle.cg_update.specs.Turns.{Argument, field_in, field_of}
-use Rattle.cg_update.specs.Unboxed.{are_apart}
+use Rattle.cg_update.specs.Among.{are_apart}
 use Rattle.cg_update_laws.proofs.Forms.{con_held, name_held, nothing_held, place_of_held}
 use Rattle.cg_update_laws.proofs.Named.{is_untaken}
 use Rattle.cg_value.specs.Forms as forms

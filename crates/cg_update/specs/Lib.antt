@@ -4,4 +4,4 @@ pub mod Machines
 pub mod Outcomes
 pub mod Turns
 pub mod Updates
-pub mod Unboxed
+pub mod Among

@@ -1,101 +1,36 @@
 -- What each form makes of scalars that represent values: numbers, records and variants.
 use Rattle.std.proofs.Common.{◌≡◌, ℕ, zero, suc, Bool, true, false, not, nat_eq, IsTrue, Option, Some, None, List, [], ◌∷◌, unwrap_or, refl, sym, ap, ◌∙◌, arith, lt-ltb, ltb-true, eqb-true, eq-eqb, subst as at}
-use Rattle.std.proofs.lemmas.Bool.{and_from, and_parts, leb-true}
+use Rattle.std.proofs.lemmas.Bool.{leb-true}
 use Rattle.std.proofs.Math.Pow.{pow_mono}
-use Rattle.std.specs.Prelude.{if◌then◌else◌}
 use Rattle.std.specs.Str.{bytes_eq}
-use Rattle.cg_base.specs.declared.kind.Sigil.TheVariants.{R, W, U}
+use Rattle.cg_base.specs.declared.kind.Sigil.TheVariants.{U}
 use Rattle.cg_base.specs.Types as types
-use Rattle.cg_base.specs.Types.{Tau, word, bool, variant, fields, Parts, end, part}
+use Rattle.cg_base.specs.Types.{Tau, word, bool, variant, fields, Parts}
 use Rattle.cg_core.specs.declared.op.Op.{Op}
 use Rattle.cg_eval_laws.proofs.FitOperators.{operated_fits, operated_both_fit}
 use Rattle.cg_heap.specs.declared.cell.Scalar.{Scalar}
 use Rattle.cg_heap.specs.declared.cell.Scalar.TheVariants.{Word}
 use Rattle.cg_heap.specs.Reps.{first_number, Heap, HeapWorld, Holds, HoldsAt, tail}
-use Rattle.cg_inst.proofs.Names.{by_cases, either_way}
+use Rattle.cg_inst.proofs.Names.{by_cases}
 use Rattle.cg_kinds.specs.Kinds.{is_word, subst}
 use Rattle.cg_eval_operations.specs.Operators.{literal, on_one, on_two, operated, operated_both, truth, width}
-use Rattle.cg_eval_operations.specs.Positions.{position, position_among}
+use Rattle.cg_eval_operations.specs.Positions.{position_among}
 use Rattle.cg_typing.specs.Operators.{Sort, arithmetic, equality, order, logic, gives as type_given, sort_of, takes}
-use Rattle.cg_typing.specs.Parts.{alternative_in, field_in, held, is_bool, is_last, is_left, is_there, part_named, parts_with, widens, with_part}
+use Rattle.cg_typing.specs.Parts.{alternative_in, held, is_bool, is_last, is_left, part_named, widens, with_part}
 use Rattle.cg_typing.specs.Rules.{InRange}
-use Rattle.cg_update.specs.Machines.{part_at, type_of_part, with_part_at}
-use Rattle.cg_update.specs.Turns.{alternatives_in, chosen_in, field_of, fields_in, place_in}
+use Rattle.cg_update.specs.Machines.{part_at, type_of_part}
+use Rattle.cg_update.specs.Turns.{alternatives_in, chosen_in, field_of, place_in}
 use Rattle.cg_update.specs.Updates as updates
 use Rattle.cg_value.specs.Fits.{World, fits}
-use Rattle.cg_value.specs.Forms.{field, has_name, is_true, payload_in, with_field, without}
+use Rattle.cg_value.specs.Forms.{field, has_name, is_true, payload_in}
 use Rattle.cg_value.specs.Values.{Val, chosen, nothing, number}
-use Rattle.cg_update.specs.Unboxed.{are_apart, are_unboxed, is_unboxed}
-use Rattle.cg_update_laws.proofs.Named.{IsRead, is_untaken, place_held, alternative_made, at_place, field_held, field_put, field_taken, last_name, others_held, payload_held, place_name, slots_with}
+use Rattle.cg_update.specs.Among.{are_apart}
+use Rattle.cg_update_laws.proofs.Named.{IsRead, is_untaken, place_held, alternative_made, at_place, last_name, others_held, payload_held, place_name, slots_with}
 use Rattle.cg_typing_laws.proofs.Named.{left_is_there as left_there}
 use Rattle.cg_base.proofs.Sequences.{itself as name_same, is_name as name_is}
 use Rattle.cg_base.proofs.Counts.{no_steps as never}
 use Rattle.cg_base.proofs.Truths.{first_holds}
 use Rattle.cg_typing.proofs.Lists.{scalar_taken}
-
--- ---- types without cells
-
--- their parts are such
-unboxed_named : (n : List ℕ) (ps : Parts) → IsTrue (are_unboxed ps) → IsTrue (is_unboxed (held (part_named n ps)))
-unfolding is_unboxed
-unboxed_named n end u = refl
-unboxed_named n (part x t taken ps) u =
-    let b = and_parts (is_unboxed t) _ u in
-    either_way (λ b. IsTrue (is_unboxed (held (if b then Some (record { name = x; ty = t; taken = taken }) else part_named n ps)))) (bytes_eq n x) b.0 (unboxed_named n ps b.1)
-
-unboxed_parts_with : (n : List ℕ) (now : Bool) (ps : Parts) → IsTrue (are_unboxed ps) → IsTrue (are_unboxed (parts_with n now ps))
-unfolding is_unboxed
-unboxed_parts_with n now end u = refl
-unboxed_parts_with n now (part x t taken ps) u =
-    let b = and_parts (is_unboxed t) _ u in
-    either_way (λ b. IsTrue (are_unboxed (if b then part x t now ps else part x t taken (parts_with n now ps)))) (bytes_eq n x)
-    (and_from (is_unboxed t) _ b.0 b.1) (and_from (is_unboxed t) _ b.0 (unboxed_parts_with n now ps b.1))
-
--- the same names are there
-there_with : (y n : List ℕ) (now : Bool) (ps : Parts) → is_there (part_named y (parts_with n now ps)) ≡ is_there (part_named y ps)
-there_with y n now end = refl
-there_with y n now (part x t taken ps) =
-    either_way (λ b. is_there (part_named y (if b then part x t now ps else part x t taken (parts_with n now ps))) ≡ is_there (part_named y (part x t taken ps))) (bytes_eq n x)
-    (either_way (λ b. is_there (if b then Some (record { name = x; ty = t; taken = now }) else part_named y ps) ≡ is_there (if b then Some (record { name = x; ty = t; taken = taken }) else part_named y ps))
-    (bytes_eq y x) refl refl)
-    (either_way (λ b. is_there (if b then Some (record { name = x; ty = t; taken = taken }) else part_named y (parts_with n now ps)) ≡ is_there (if b then Some (record { name = x; ty = t; taken = taken }) else part_named y ps))
-    (bytes_eq y x) refl (there_with y n now ps))
-
-apart_with : (n : List ℕ) (now : Bool) (ps : Parts) → IsTrue (are_apart ps) → IsTrue (are_apart (parts_with n now ps))
-unfolding are_apart
-apart_with n now end a = refl
-apart_with n now (part x t taken ps) a =
-    let b = and_parts (not (is_there (part_named x ps))) _ a in
-    either_way (λ b. IsTrue (are_apart (if b then part x t now ps else part x t taken (parts_with n now ps)))) (bytes_eq n x)
-    (and_from (not (is_there (part_named x ps))) _ b.0 b.1)
-    (and_from (not (is_there (part_named x (parts_with n now ps)))) _ (ap not (there_with x n now ps) ∙ b.0) (apart_with n now ps b.1))
-
-pub unboxed_with : (n : List ℕ) (now : Bool) (t : Tau) → IsTrue (is_unboxed t) → IsTrue (is_unboxed (with_part n now t))
-unfolding is_unboxed
-unboxed_with n now (variant ps) u =
-    let b = and_parts (are_apart ps) _ u in and_from (are_apart (parts_with n now ps)) _ (apart_with n now ps b.0) (unboxed_parts_with n now ps b.1)
-unboxed_with n now (fields ps U) u = unboxed_parts_with n now ps u
-unboxed_with n now (fields ps R) u = never u
-unboxed_with n now (fields ps W) u = never u
-unboxed_with n now t u = u
-
-pub unboxed_field : (n : List ℕ) (t : Tau) → IsTrue (is_unboxed t) → IsTrue (is_unboxed (held (field_in n t)))
-unfolding is_unboxed
-unboxed_field n (fields ps U) u = unboxed_named n ps u
-unboxed_field n (fields ps R) u = never u
-unboxed_field n (fields ps W) u = never u
-unboxed_field n t u = refl
-
-pub unboxed_alternative : (n : List ℕ) (t : Tau) → IsTrue (is_unboxed t) → IsTrue (is_unboxed (held (alternative_in n t)))
-unfolding is_unboxed
-unboxed_alternative n (variant ps) u = unboxed_named n ps (and_parts (are_apart ps) _ u).1
-unboxed_alternative n t u = refl
-
--- no two alternatives of theirs have one name
-pub unboxed_apart : (t : Tau) → IsTrue (is_unboxed t) → IsTrue (are_apart (alternatives_in t))
-unfolding is_unboxed are_apart
-unboxed_apart (variant ps) u = (and_parts (are_apart ps) _ u).0
-unboxed_apart t u = refl
 
 -- ---- numbers
 
@@ -176,46 +111,10 @@ module _ (world : HeapWorld) (h : Heap) where
       by_number zero = refl
       by_number (suc n) = by_cases (λ b. true ≡ not b) (nat_eq (suc n) 0) (λ e. absurd (let q = eqb-true (suc n) 0 e in omega (arith, q))) (λ e. refl)
 
-  -- ---- records
-
-  pub member_held : (n : List ℕ) (t : Tau) (us : List Scalar) (v : Val) → IsTrue (is_unboxed t) → H t us v → IsTrue (is_left (field_in n t))
-      → IsRead world h (position n t) (fields_in t) us (held (field_in n t)) (field v (position n t))
-  unfolding Holds is_unboxed position field
-  member_held n (fields ps U) us v u k l =
-      at (λ z. IsRead world h (position_among n ps) ps us (held (part_named n ps)) (field z (position_among n ps))) (sym k.3) (field_held world h n ps us k.0 k.2 l)
-  member_held n (fields ps R) us v u k l = never u
-  member_held n (fields ps W) us v u k l = never u
-  member_held n _ us v u k l = never l
-
-  pub rest_held : (n : List ℕ) (t : Tau) (us : List Scalar) (v : Val) → IsTrue (is_unboxed t) → H t us v → IsTrue (is_there (field_in n t)) → H (with_part n true t) us (without v (position n t))
-  unfolding Holds is_unboxed position without
-  rest_held n (fields ps U) us v u k l =
-      at (λ z. H (fields (parts_with n true ps) U) us (without z (position_among n ps))) (sym k.3) (_, tt {0}, field_taken world h n ps us k.0 k.2 l, refl)
-  rest_held n (fields ps R) us v u k l = never u
-  rest_held n (fields ps W) us v u k l = never u
-  rest_held n _ us v u k l = never l
-
   -- a field by its place
   pub place_of_held : (i : ℕ) (ps : Parts) (us : List Scalar) (v : Val) → H (fields ps U) us v → IsTrue (is_untaken i ps) → H (type_of_part i ps) (field_of (fields ps U) us i) (field v i)
   unfolding Holds field
   place_of_held i ps us v k l = at (λ z. H (type_of_part i ps) (unwrap_or (part_at i ps us) []) (field z i)) (sym k.3) (place_held world h i ps us k.0 k.2 l)
-
-  -- a record in which another value is put for a field
-  pub record IsMade (i : ℕ) (ps : Parts) (ws us : List Scalar) (t : Tau) (v : Val) : Type 0 where
-    pub row : List Scalar
-    pub there : with_part_at i ps ws us ≡ Some row
-    pub holds : H t row v
-
-  pub put_held : (n : List ℕ) (t : Tau) (us ws : List Scalar) (v w : Val) → IsTrue (is_unboxed t) → H t us v → IsTrue (is_there (field_in n t)) → H (held (field_in n t)) ws w
-      → IsMade (position n t) (fields_in t) ws us (with_part n false t) (with_field v (position n t) w)
-  unfolding Holds is_unboxed position with_field
-  put_held n (fields ps U) us ws v w u k l g =
-      let r = field_put world h n ps us ws k.0 w k.2 l g in
-      at (λ z. IsMade (position_among n ps) ps ws us (fields (parts_with n false ps) U) (with_field z (position_among n ps) w)) (sym k.3)
-      (record { row = r.row; there = r.there; holds = (_, tt {0}, r.holds, refl) })
-  put_held n (fields ps R) us ws v w u k l g = never u
-  put_held n (fields ps W) us ws v w u k l g = never u
-  put_held n _ us ws v w u k l g = never l
 
   -- ---- variants
 

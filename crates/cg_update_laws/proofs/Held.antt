@@ -1,6 +1,6 @@
--- Scalars that represent a value: how many they are, that they are a machine value, and that to observe a type without cells changes nothing.
-use Rattle.std.proofs.Common.{◌≡◌, ℕ, zero, suc, ◌+◌, ◌-◌, ◌^◌, ◌≤◌, true, false, not, nat_eq, nat_le, IsTrue, Option, Some, List, length, take, drop, refl, ap, ◌∙◌, arith, lt-ltb}
-use Rattle.std.proofs.lemmas.Bool.{and_from, and_parts, eq-eqb, le-leb}
+-- Scalars that represent a value: how many they are, and that they are a machine value.
+use Rattle.std.proofs.Common.{◌≡◌, ℕ, zero, suc, ◌+◌, ◌-◌, ◌^◌, ◌≤◌, true, false, not, nat_eq, nat_le, Option, Some, List, length, take, drop, ap, ◌∙◌, arith, lt-ltb}
+use Rattle.std.proofs.lemmas.Bool.{and_from, eq-eqb, le-leb}
 use Rattle.std.proofs.lemmas.List.{length-drop}
 use Rattle.cg_base.specs.declared.kind.Sigil.TheVariants.{R, W, U}
 use Rattle.cg_base.specs.Types.{Tau, var, seen, unit, word, bool, arrow, abs, variant, fields, Parts, end, part}
@@ -8,36 +8,9 @@ use Rattle.cg_base.specs.Words.{bits}
 use Rattle.cg_heap.specs.declared.cell.Scalar.{Scalar}
 use Rattle.cg_heap.specs.Reps.{first_number, Heap, HeapWorld, Holds, HoldsAll, HoldsAt, slots, slots_of_parts, tail}
 use Rattle.cg_inst.proofs.SameType.{same_self}
-use Rattle.cg_kinds.specs.Kinds.{bang, bang_parts}
 use Rattle.cg_update.specs.Machines.{are_machine, is_address, is_alternative, is_machine, is_number_below, is_place_of, is_tagged, is_type}
 use Rattle.cg_value.specs.Values as values
 use Rattle.cg_value.specs.Values.{Val, Vals}
-use Rattle.cg_update.specs.Unboxed.{are_apart, are_unboxed, is_unboxed}
-use Rattle.cg_base.proofs.Counts.{no_steps as never}
-
--- ---- types without cells
-
--- to observe them changes nothing
-mutual
-  unfolding is_unboxed bang
-
-  pub unboxed_bang : (t : Tau) → IsTrue (is_unboxed t) → bang t ≡ t
-  unboxed_bang (var n) h = never h
-  unboxed_bang (seen n) h = never h
-  unboxed_bang unit h = refl
-  unboxed_bang (word w) h = refl
-  unboxed_bang bool h = refl
-  unboxed_bang (arrow a b) h = refl
-  unboxed_bang (abs name ts s) h = never h
-  unboxed_bang (variant ps) h = ap variant (unboxed_bangs ps (and_parts (are_apart ps) _ h).1)
-  unboxed_bang (fields ps U) h = ap (λ qs. fields qs U) (unboxed_bangs ps h)
-  unboxed_bang (fields ps R) h = never h
-  unboxed_bang (fields ps W) h = never h
-
-  unboxed_bangs : (ps : Parts) → IsTrue (are_unboxed ps) → bang_parts ps ≡ ps
-  unboxed_bangs end h = refl
-  unboxed_bangs (part x t taken ps) h =
-      let b = and_parts (is_unboxed t) _ h in let p = unboxed_bang t b.0 in let q = unboxed_bangs ps b.1 in cc
 
 -- ---- lengths
 

@@ -1,10 +1,6 @@
-pub mod Agreeing
-pub mod Contexts
 pub mod Forms
 pub mod Held
 pub mod Named
 pub mod Nodes
 pub mod Places
-pub mod Turns
-pub mod Whole
 pub mod Sources
