@@ -29,6 +29,7 @@ use Rattle.cg_driver_steps.proofs.Topping.{came_done}
 use Rattle.cg_driver_words.specs.Words.{Command, check, build, recheck, run}
 use Rattle.cg_driver.specs.Accepted.{BuildWrites, HasKernel, IsAcceptedSource, IsBuiltSource, IsCertifiedSource, WritesItsOwn}
 use Rattle.cg_driver.specs.Commands.{Judgement, spelled, within, acyclic, with_fields, written, certified, instanced, certifiable, Judges, kernel_rules, resolving_rules, reading_rules, source_rules, built_rules, certificate_rules, reads_source, build_steps, writes_both, certificate_steps, recheck_steps, script_of}
+use Rattle.cg_driver.specs.Externs.{Extern}
 use Rattle.cg_driver.specs.Found.{Found, nothing, with_source, with_program, with_copies, with_certificate, with_cert, functions, source_limit, certificate_limit}
 use Rattle.cg_driver.specs.Instanced.{HasInstances, certified_text, emitted}
 use Rattle.cg_driver.proofs.Judging.{ruling}
@@ -36,17 +37,17 @@ use Rattle.cg_driver.proofs.Saying.{accepted_settles, reading_settles}
 use Rattle.cg_driver.proofs.Sources.{accepted_source}
 
 -- `build` alone writes, and its own files
-pub own_writes : (c : Option Command) → WritesItsOwn c
-own_writes None = tt
-own_writes (Some (check file)) = tt
-own_writes (Some (build file text certificate)) = one_of
+pub own_writes : (table : Extern) (c : Option Command) → WritesItsOwn table c
+own_writes table None = tt
+own_writes table (Some (check file)) = tt
+own_writes table (Some (build file text certificate)) = one_of
   where
     one_of : (name : List ℕ) → (name ≡ text) ⊎ ((name ≡ certificate) ⊎ ⊥) → (name ≡ text) ⊎ (name ≡ certificate)
     one_of name (inl e) = inl e
     one_of name (inr (inl e)) = inr e
     one_of name (inr (inr e)) = absurd e
-own_writes (Some (recheck file certificate)) = tt
-own_writes (Some (run file entry heap steps)) = tt
+own_writes table (Some (recheck file certificate)) = tt
+own_writes table (Some (run file entry heap steps)) = tt
 
 -- bytes within the limit were read whole
 pub whole : (most : ℕ) (bytes read : List ℕ) → read ≡ take (most + 1) bytes → length read ≤ most → read ≡ bytes
@@ -140,11 +141,11 @@ read_whole held file found after (inr r) =
     let is : r.0.source ≡ take (source_limit + 1) (bytes_at held file) = ap (λ f. f.source) r.2.2 ∙ r.2.1 in
     subst (λ x. IsAcceptedSource x (functions found)) (whole source_limit (bytes_at held file) r.0.source is accepted.limits.short) accepted
 
-pub only_accepted : (held : Held) (file : List ℕ) → ComesTo Judges (script_of (Some (check file))) held Done → (fs : List Function) × IsAcceptedSource (bytes_at held file) fs
-only_accepted held file k = let d = came_done Judges ruling (script_of (Some (check file))) held k in (functions d.0, read_whole held file d.0 d.1 d.2)
+pub only_accepted : (table : Extern) (held : Held) (file : List ℕ) → ComesTo Judges (script_of table (Some (check file))) held Done → (fs : List Function) × IsAcceptedSource (bytes_at held file) fs
+only_accepted table held file k = let d = came_done Judges ruling (script_of table (Some (check file))) held k in (functions d.0, read_whole held file d.0 d.1 d.2)
 
-pub all_accepted : (held : Held) (file : List ℕ) → (fs : List Function) × IsAcceptedSource (bytes_at held file) fs → ComesTo Judges (script_of (Some (check file))) held Done
-all_accepted held file a =
+pub all_accepted : (table : Extern) (held : Held) (file : List ℕ) → (fs : List Function) × IsAcceptedSource (bytes_at held file) fs → ComesTo Judges (script_of table (Some (check file))) held Done
+all_accepted table held file a =
     let bytes = take (source_limit + 1) (bytes_at held file) in
     let f = with_source bytes nothing in
     let next = with_program a.1.accepted.program f in
@@ -201,9 +202,9 @@ built_of held file text certificate f n old new told source r =
           ∙ ap (λ x. Some (insert (insert held text (emitted x.copies)) certificate (certified_text (functions x)))) (sym written.same);
     }
 
-pub built_source : BuildWrites
-built_source held file text certificate found old new told (inl r) = absurd r.0
-built_source held file text certificate found old new told (inr r) =
+pub built_source : (table : Extern) → BuildWrites table
+built_source table held file text certificate found old new told (inl r) = absurd r.0
+built_source table held file text certificate found old new told (inr r) =
     let is : r.0.source ≡ take (source_limit + 1) (bytes_at held file) = ap (λ f. f.source) r.2.2 ∙ read_is held old.held file r.2.0 told r.2.1 in
     built_of held file text certificate r.0 found old new told (whole source_limit (bytes_at held file) r.0.source is) (subst (λ w. Runs Judges (build_steps file text certificate) r.0 w (goes found) new) r.2.3 r.3)
   where
@@ -263,11 +264,11 @@ certified_whole held file name found after (inr r) =
       within = judged.narrow;
     }
 
-pub only_certified : (held : Held) (file name : List ℕ) → ComesTo Judges (script_of (Some (recheck file name))) held Done → IsCertifiedSource (bytes_at held file) (bytes_at held name)
-only_certified held file name k = let d = came_done Judges ruling (script_of (Some (recheck file name))) held k in certified_whole held file name d.0 d.1 d.2
+pub only_certified : (table : Extern) (held : Held) (file name : List ℕ) → ComesTo Judges (script_of table (Some (recheck file name))) held Done → IsCertifiedSource (bytes_at held file) (bytes_at held name)
+only_certified table held file name k = let d = came_done Judges ruling (script_of table (Some (recheck file name))) held k in certified_whole held file name d.0 d.1 d.2
 
-pub all_certified : (held : Held) (file name : List ℕ) → IsCertifiedSource (bytes_at held file) (bytes_at held name) → ComesTo Judges (script_of (Some (recheck file name))) held Done
-all_certified held file name a =
+pub all_certified : (table : Extern) (held : Held) (file name : List ℕ) → IsCertifiedSource (bytes_at held file) (bytes_at held name) → ComesTo Judges (script_of table (Some (recheck file name))) held Done
+all_certified table held file name a =
     let bytes = take (source_limit + 1) (bytes_at held file) in
     let f = with_source bytes nothing in
     let next = with_program a.program f in

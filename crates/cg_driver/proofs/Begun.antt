@@ -7,13 +7,12 @@ use Rattle.std.specs.FinMap.{get-insert, get-empty, same_map, nat_cmp-IsAntisymm
 use Rattle.std.specs.Ordering.{nat_cmp, eq_by_cmp}
 use Rattle.std.specs.Prelude.{max, nat_eq}
 use Rattle.cg_base.proofs.Truths.{either_bool}
-use Rattle.cg_cmachine_def.specs.WordRuns.{no_cells}
 use Rattle.cg_heap.specs.Calls.{heap_of}
 use Rattle.cg_heap.specs.declared.cell.Cell.{Cell}
 use Rattle.cg_heap.specs.Stored.{Stored, cell_at}
 use Rattle.cg_heaptext_def.specs.Footprints.{held_in}
 use Rattle.cg_heaptext.specs.Filled.{IsFilled, greatest}
-use Rattle.cg_driver.specs.Run.{filled}
+use Rattle.cg_driver.specs.Run.{filled, no_cells}
 use Rattle.cg_inst.proofs.Names.{by_cases}
 
 -- a key is found where it is the same number

@@ -51,7 +51,7 @@ use Rattle.cg_driver.specs.declared.build.Built.{Built}
 use Rattle.cg_driver.specs.Found.{Found, certificate_limit, functions, with_copies}
 use Rattle.cg_driver.specs.Instanced.{HasInstances, IsCompiled, IsMeant, IsProved, PassesInstances, RefinesOver, RefinesWith, bodies_in, certified_text, emitted, too_large, too_many, too_wide}
 use Rattle.cg_driver.specs.Judged.{CanBeBuilt, HoldsCores, HoldsMarks, functions_in}
-use Rattle.cg_driver.specs.Lines.{built_line as written_line, limit_line, limit_name}
+use Rattle.cg_driver_lines.specs.Lines.{built_line as written_line, limit_line, limit_name}
 use Rattle.cg_driver.specs.Executed.{cores_of}
 use Rattle.cg_driver.proofs.Cores.{one_list}
 use Rattle.cg_driver.proofs.Executing.{bodies_same}

@@ -13,6 +13,7 @@ use Rattle.cg_driver_steps.proofs.Topping.{came_done}
 use Rattle.cg_driver_words.specs.Words.{build, check, recheck}
 use Rattle.cg_driver.specs.Accepted.{IsAcceptedSource, IsBuildable, IsCertifiedSource}
 use Rattle.cg_driver.specs.Commands.{Judges, built_rules, certifiable, instanced, script_of, source_rules, writes_both}
+use Rattle.cg_driver.specs.Externs.{Extern}
 use Rattle.cg_driver.specs.Found.{certificate_limit, functions, nothing, source_limit, with_copies, with_program, with_source}
 use Rattle.cg_driver.specs.Instanced.{HasInstances, certified_text, emitted}
 use Rattle.cg_driver.proofs.Accepting.{all_accepted, built_source, only_certified, short_whole}
@@ -26,21 +27,21 @@ accepted_with : (source text : List ℕ) (a : IsCertifiedSource source text) →
 accepted_with source text a =
     accepted_source source a.program (functions_of a.program) a.short a.resolved (kept_accepted (functions_of a.program) a.spells.cores a.spells.trees a.spells.kept) a.within refl
 
-pub rechecked_accepted : (held : Held) (file certificate : List ℕ) → ComesTo Judges (script_of (Some (recheck file certificate))) held Done → ComesTo Judges (script_of (Some (check file))) held Done
-rechecked_accepted held file certificate k =
-    let a = only_certified held file certificate k in
-    all_accepted held file (functions_of a.program, accepted_with (bytes_at held file) (bytes_at held certificate) a)
+pub rechecked_accepted : (table : Extern) (held : Held) (file certificate : List ℕ) → ComesTo Judges (script_of table (Some (recheck file certificate))) held Done → ComesTo Judges (script_of table (Some (check file))) held Done
+rechecked_accepted table held file certificate k =
+    let a = only_certified table held file certificate k in
+    all_accepted table held file (functions_of a.program, accepted_with (bytes_at held file) (bytes_at held certificate) a)
 
 -- ---- what is built
 
-pub only_built : (held : Held) (file text certificate : List ℕ) → ComesTo Judges (script_of (Some (build file text certificate))) held Done → IsBuildable (bytes_at held file)
-only_built held file text certificate k =
-    let d = came_done Judges ruling (script_of (Some (build file text certificate))) held k in
-    let b = built_source held file text certificate d.0 (calm held) (calm d.1) refl d.2 in
+pub only_built : (table : Extern) (held : Held) (file text certificate : List ℕ) → ComesTo Judges (script_of table (Some (build file text certificate))) held Done → IsBuildable (bytes_at held file)
+only_built table held file text certificate k =
+    let d = came_done Judges ruling (script_of table (Some (build file text certificate))) held k in
+    let b = built_source table held file text certificate d.0 (calm held) (calm d.1) refl d.2 in
     record { kernel = functions d.0; copies = d.0.copies; accepted = b.accepted; instances = b.instances; brief = b.brief }
 
-pub all_built : (held : Held) (file text certificate : List ℕ) → IsBuildable (bytes_at held file) → ComesTo Judges (script_of (Some (build file text certificate))) held Done
-all_built held file text certificate b =
+pub all_built : (table : Extern) (held : Held) (file text certificate : List ℕ) → IsBuildable (bytes_at held file) → ComesTo Judges (script_of table (Some (build file text certificate))) held Done
+all_built table held file text certificate b =
     let bytes = take (source_limit + 1) (bytes_at held file) in
     let f = with_source bytes nothing in
     let next = with_program b.accepted.accepted.program f in

@@ -21,7 +21,7 @@ use Rattle.cg_driver_steps.specs.Scripts.{IsRuling}
 use Rattle.cg_driver_steps.specs.Steps.{Outcome, refuses, goes}
 use Rattle.cg_driver.specs.Commands.{certified, Judges, RefusesNode, broken_row, out_of_place, too_large}
 use Rattle.cg_driver.specs.Found.{Found, functions}
-use Rattle.cg_driver.specs.Lines.{limit_line, node_line}
+use Rattle.cg_driver_lines.specs.Lines.{limit_line, node_line}
 use Rattle.cg_certcheck.proofs.JudgeSteps.{all_hold}
 
 -- the status and the line of a certificate's fault

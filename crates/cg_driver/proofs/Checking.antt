@@ -14,7 +14,7 @@ use Rattle.cg_typing.specs.Holds.{kernel_in}
 use Rattle.cg_driver.specs.Commands.{Judges, checked_line}
 use Rattle.cg_driver.specs.Found.{Found, functions}
 use Rattle.cg_driver.specs.Judged.{Keeps}
-use Rattle.cg_driver.specs.Lines.{ok_line}
+use Rattle.cg_driver_lines.specs.Lines.{ok_line}
 
 pub ok_rules : (checked : Checked) (kernel : Kernel) (fs : List KFun) (f : Found) → Keeps checked f → kernel ≡ kernel_in checked → fs ≡ kernel.funs
     → (r : Result Report Memory) → IfOk r (IsLine Done (ok_line (map function_of fs))) → Rules Judges checked_line [] f r

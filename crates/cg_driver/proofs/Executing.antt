@@ -8,9 +8,9 @@ use Rattle.cg_base.specs.Types.{Tau, arrow}
 use Rattle.cg_cmachine.specs.Answers.{EndsAs}
 use Rattle.cg_cmachine.specs.declared.answer.Ran.{Ran}
 use Rattle.cg_cmachine_def.specs.Outcomes.{State, done, needs, stuck}
-use Rattle.cg_cmachine_def.specs.WordRuns.{no_cells}
-use Rattle.cg_cmachine_def.specs.Runs.{crun}
+use Rattle.cg_cmachine_def.specs.Runs.{Linked, crun}
 use Rattle.cg_lower.specs.Collected.{Copy}
+use Rattle.cg_core.specs.Kernels.{Function}
 use Rattle.cg_core.specs.declared.term.Term.{Term}
 use Rattle.cg_core.specs.declared.term.Typed.{Typed}
 use Rattle.cg_cread.specs.Answers.{Answers}
@@ -18,18 +18,17 @@ use Rattle.cg_cread.specs.declared.fault.CFault.TheVariants.{Text}
 use Rattle.cg_ctree.specs.declared.tree.CProgram.{CProgram}
 use Rattle.cg_ctree.specs.declared.why.Why.{Why}
 use Rattle.cg_ctree.specs.Spells.{CSpells}
-use Rattle.cg_ctree.specs.Trees.{Program, program_of}
+use Rattle.cg_ctree.specs.Trees.{program_of}
 use Rattle.cg_inst.specs.Judged.{core_in}
 use Rattle.cg_cgen_def.specs.Names.{function_name}
 use Rattle.cg_lower.specs.Promises.{IsSimulated}
 use Rattle.cg_eval_def.specs.Evaluation.{Table, evaluation, IsSpent}
 use Rattle.cg_eval_def.specs.Foreigns.{table_of, table_over}
-use Rattle.cg_driver_laws.specs.Laws.{EntriesRun, NoneAreLinked, copies_in, linked_over}
+use Rattle.cg_driver_laws.specs.Laws.{EntriesRun, copies_in}
 use Rattle.cg_heap.specs.Calls.{heap_of}
 use Rattle.cg_heap.specs.declared.cell.Cell.{Cell}
 use Rattle.cg_heap.specs.declared.cell.Scalar.{Scalar}
 use Rattle.cg_heap.specs.FirstOrder.{is_first_order}
-use Rattle.cg_heap.specs.NoForeignHeap.{no_foreign_heap, none_is_lawful_on_heaps}
 use Rattle.cg_heap.specs.Reps.{Represents}
 use Rattle.cg_heap.specs.Stored.{Stored}
 use Rattle.cg_heap.specs.Steps.{count}
@@ -40,7 +39,7 @@ use Rattle.cg_typing.specs.declared.checked.Checked.{Checked}
 use Rattle.cg_typing.specs.Holds.{cores_in, kept_at, trees_in}
 use Rattle.cg_typing.specs.Instances.{Instance}
 use Rattle.cg_typing.specs.Kept.{AreKept, maybe_core, maybe_tree}
-use Rattle.cg_value.specs.NoForeign.{no_foreign, none_is_lawful}
+use Rattle.cg_value.specs.Foreign.{Foreign}
 use Rattle.cg_value.specs.Values.{Val, value_of, function}
 use Rattle.cg_driver_steps.specs.declared.report.Report.{Report}
 use Rattle.cg_driver_steps.specs.declared.status.Status.{Status}
@@ -49,14 +48,15 @@ use Rattle.cg_driver_steps.specs.Steps.{refuses, goes}
 use Rattle.cg_driver_steps.specs.Parts.{IsLine, Reports, Rules}
 use Rattle.cg_driver.specs.Built.{CanRun, KeepsCopies}
 use Rattle.cg_driver.specs.Commands.{Judges, evaluated, ran_lines}
-use Rattle.cg_driver.specs.declared.machine.Machined.{Machined}
+use Rattle.cg_driver_lines.specs.declared.machined.Machined.{Machined}
 use Rattle.cg_driver.specs.Entered.{argument_type, entry_place, entry_type, result_type}
 use Rattle.cg_driver.specs.Executed.{cores_of, Emits, Gives, GivesAlike, IsReady, Machines, ReadsBack, Runs, Executes}
+use Rattle.cg_driver.specs.Externs.{Extern, IsLawfulExtern, linked_in}
 use Rattle.cg_driver.specs.Found.{Argument, Found, functions, with_value}
 use Rattle.cg_driver.specs.Instanced.{IsMeant, bodies_in, emitted}
 use Rattle.cg_driver.specs.Judged.{argument_of, functions_in, CanBeBuilt, HoldsCores, IsStartOf}
-use Rattle.cg_driver.specs.Lines.{report, step_limit_line}
-use Rattle.cg_driver.specs.Run.{begun, budget, filled, table_in}
+use Rattle.cg_driver_lines.specs.Lines.{report, step_limit_line}
+use Rattle.cg_driver.specs.Run.{begun, budget, filled, no_cells, table_in}
 use Rattle.cg_driver.proofs.Begun.{filled_is, filled_low, filled_represents}
 use Rattle.cg_driver.proofs.Ends.{end_same}
 use Rattle.cg_driver.proofs.Saying.{each, line_says}
@@ -71,8 +71,8 @@ body_same (c ∷ cores) (suc i) = body_same cores i
 pub bodies_same : (checked : Checked) → core_in checked ≡ bodies_in (cores_of checked)
 bodies_same checked = λ j i. body_same (cores_in checked) i j
 
-table_same : (checked : Checked) → table_of no_foreign checked ≡ table_in no_foreign (functions_in checked) (cores_of checked)
-table_same checked = ap (table_over no_foreign (functions_in checked)) (bodies_same checked)
+table_same : (x : Foreign) (checked : Checked) → table_of x checked ≡ table_in x (functions_in checked) (cores_of checked)
+table_same x checked = ap (table_over x (functions_in checked)) (bodies_same checked)
 
 -- ---- the text
 
@@ -108,13 +108,15 @@ ready_of checked list at place argument result bytes start can s =
 kept_trees : (checked : Checked) → CanBeBuilt checked → AreKept (functions_in checked) (functions_in checked) (map maybe_core (cores_in checked)) (map maybe_tree (trees_in checked))
 kept_trees checked ready = subst (AreKept (functions_in checked) (functions_in checked) (map maybe_core (cores_in checked))) (sym ready.marks.are) ready.marks.kept
 
--- the C of an entry's instance gives what represents what evaluation gives
-pub gives_alike : EntriesRun → NoneAreLinked → (checked : Checked) (list : List Instance) (program : CProgram) → CanBeBuilt checked → Emits (copies_in checked list) program
-    → (at place steps cost : ℕ) (argument result : Tau) (a : Argument) (value : Val) → IsReady checked list at place argument result a → Gives checked at a.value steps value cost
-    → GivesAlike (program_of program) (function_name place) a.scalars (begun a) result value cost
-gives_alike law unlinked checked list program built e at place steps cost argument result a value ready gives =
+-- the C of an entry's instance, linked to a lawful table, gives what represents what evaluation gives
+pub gives_alike : EntriesRun → (table : Extern) → IsLawfulExtern table → (checked : Checked) (list : List Instance) (program : CProgram) → CanBeBuilt checked → Emits (copies_in checked list) program
+    → (at place steps cost : ℕ) (argument result : Tau) (a : Argument) (value : Val) → IsReady checked list at place argument result a → Gives table checked at a.value steps value cost
+    → GivesAlike (linked_in table (functions_in checked) (copies_in checked list) (program_of program)) (function_name place) a.scalars (begun a) result value cost
+gives_alike law table lawful checked list program built e at place steps cost argument result a value ready gives =
     let ty = ready.can.ty in
-    let r = law no_foreign no_foreign_heap none_is_lawful none_is_lawful_on_heaps checked list (program_of program) (kept_trees checked built) ready.can.listed.is e.simulates [] (unlinked (functions_in checked) list)
+    let few = ready.can.listed.few in
+    let r = law table.values table.heap lawful.values lawful.heap checked list (program_of program) (kept_trees checked built) ready.can.listed.is e.simulates (table.links (functions_in checked) (copies_in checked list))
+    (lawful.links (functions_in checked) (core_in checked) list (omega (arith, few)))
     place at steps cost ty.function argument result a.scalars (begun a) a.value value ready.writes ready.reads ready.can.stands ty.there
     (λ none. ready.can.allowed.concrete (record { place = at; function = ty.function; stands = ty.there; abstract = none; reached = inl refl })) ty.typed.is
     (λ r. ready.can.allowed.concrete r.abstract)
@@ -123,11 +125,10 @@ gives_alike law unlinked checked list program built e at place steps cost argume
     record { world = r.0; writes = ready.writes; reads = ready.reads; gives = r.1 }
 
 -- what was seen of the run is what is said of it
-pub ran_so : (program : Program) (name : List ℕ) (us : List Scalar) (m after : Stored) (most : ℕ) (t : Tau) (value : Val) (cost : ℕ) → most ≡ budget cost → IsTrue (is_first_order t)
-    → GivesAlike program name us m t value cost → (ran : Ran) → EndsAs (crun (linked_over program [] no_foreign_heap) most name us m) most after ran
-    → (r : Machined) → ReadsBack after t ran r → Runs program name us m most t value r
-ran_so program name us m after most t value cost is plain g ran ended r back =
-    let linked = linked_over program [] no_foreign_heap in
+pub ran_so : (linked : Linked) (name : List ℕ) (us : List Scalar) (m after : Stored) (most : ℕ) (t : Tau) (value : Val) (cost : ℕ) → most ≡ budget cost → IsTrue (is_first_order t)
+    → GivesAlike linked name us m t value cost → (ran : Ran) → EndsAs (crun linked most name us m) most after ran
+    → (r : Machined) → ReadsBack after t ran r → Runs linked name us m most t value r
+ran_so linked name us m after most t value cost is plain g ran ended r back =
     let state : State = record { store = after; made = ran.made; freed = ran.freed } in
     let gives : crun linked most name us m ≡ done g.gives.given g.gives.state g.gives.left = subst (λ n. crun linked n name us m ≡ done g.gives.given g.gives.state g.gives.left) (sym is) g.gives.ends in
     let e = end_same ran.value g.gives.given state g.gives.state ended.left g.gives.left (crun linked most name us m) ended.ends gives in
@@ -156,52 +157,52 @@ ran_so program name us m after most t value cost is plain g ran ended r back =
 
 -- ---- the machine's answers, on cells that were put into a store
 
-module _ (program : Program) (name : List ℕ) (us : List Scalar) (cs : List (ℕ × Cell)) (t : Tau) (cost : ℕ) where
+module _ (linked : Linked) (name : List ℕ) (us : List Scalar) (cs : List (ℕ × Cell)) (t : Tau) (cost : ℕ) where
   -- the run from the store is that from the cells
   run_from : (s : Stored) → IsFilled cs s
-      → crun (linked_over program [] no_foreign_heap) (budget cost) name us s ≡ crun (linked_over program [] no_foreign_heap) (budget cost) name us (filled cs no_cells)
-  run_from s f = ap (crun (linked_over program [] no_foreign_heap) (budget cost) name us) (filled_is cs s f)
+      → crun linked (budget cost) name us s ≡ crun linked (budget cost) name us (filled cs no_cells)
+  run_from s f = ap (crun linked (budget cost) name us) (filled_is cs s f)
 
   -- so it is neither stuck nor short of steps
-  pub not_stuck : (s after : Stored) (why : Why) → IsFilled cs s → (value : Val) × GivesAlike program name us (filled cs no_cells) t value cost
-      → crun (linked_over program [] no_foreign_heap) (budget cost) name us s ≡ stuck why after → ⊥
+  pub not_stuck : (s after : Stored) (why : Why) → IsFilled cs s → (value : Val) × GivesAlike linked name us (filled cs no_cells) t value cost
+      → crun linked (budget cost) name us s ≡ stuck why after → ⊥
   not_stuck s after why f g e = let a = run_from s f in let b = g.1.gives.ends in absurd (cc)
 
-  pub not_short : (s after : Stored) → IsFilled cs s → (value : Val) × GivesAlike program name us (filled cs no_cells) t value cost
-      → crun (linked_over program [] no_foreign_heap) (budget cost) name us s ≡ needs after → ⊥
+  pub not_short : (s after : Stored) → IsFilled cs s → (value : Val) × GivesAlike linked name us (filled cs no_cells) t value cost
+      → crun linked (budget cost) name us s ≡ needs after → ⊥
   not_short s after f g e = let a = run_from s f in let b = g.1.gives.ends in absurd (cc)
 
   -- and what is read back is what it gives
   pub gives_so : (s after : Stored) → IsFilled cs s → IsTrue (is_first_order t) → (ran : Ran)
-      → EndsAs (crun (linked_over program [] no_foreign_heap) (budget cost) name us s) (budget cost) after ran
+      → EndsAs (crun linked (budget cost) name us s) (budget cost) after ran
       → (r : Result Machined Memory) → IfOk r (ReadsBack after t ran)
-      → (value : Val) → GivesAlike program name us (filled cs no_cells) t value cost
-      → IfOk r (Runs program name us (filled cs no_cells) (budget cost) t value)
+      → (value : Val) → GivesAlike linked name us (filled cs no_cells) t value cost
+      → IfOk r (Runs linked name us (filled cs no_cells) (budget cost) t value)
   gives_so s after f plain ran ended r back value g =
-      each (ReadsBack after t ran) (Runs program name us (filled cs no_cells) (budget cost) t value)
-      (ran_so program name us (filled cs no_cells) after (budget cost) t value cost refl plain g ran
+      each (ReadsBack after t ran) (Runs linked name us (filled cs no_cells) (budget cost) t value)
+      (ran_so linked name us (filled cs no_cells) after (budget cost) t value cost refl plain g ran
       (subst (λ o. EndsAs o (budget cost) after ran) (run_from s f) ended)) r back
 
 -- ---- what is said
 
 -- what the machine gave is what is said of the C of an entry
-pub machined : (copies : List Copy) (program : CProgram) (name : List ℕ) (place : ℕ) (t : Tau) (us : List Scalar) (m : Stored) (value : Val) (cost : ℕ) → Emits copies program → name ≡ function_name place
-    → (r : Result Machined Memory) → IfOk r (Runs (program_of program) name us m (budget cost) t value) → IfOk r (Machines copies place t us m value cost)
-machined copies program name place t us m value cost e is r h =
-    each (Runs (program_of program) name us m (budget cost) t value) (Machines copies place t us m value cost)
-    (λ x ran. record { program = program_of program; spelled = e.spelled; runs = subst (λ n. Runs (program_of program) n us m (budget cost) t value x) is ran }) r h
+pub machined : (table : Extern) (functions : List Function) (copies : List Copy) (program : CProgram) (name : List ℕ) (place : ℕ) (t : Tau) (us : List Scalar) (m : Stored) (value : Val) (cost : ℕ) → Emits copies program → name ≡ function_name place
+    → (r : Result Machined Memory) → IfOk r (Runs (linked_in table functions copies (program_of program)) name us m (budget cost) t value) → IfOk r (Machines table functions copies place t us m value cost)
+machined table functions copies program name place t us m value cost e is r h =
+    each (Runs (linked_in table functions copies (program_of program)) name us m (budget cost) t value) (Machines table functions copies place t us m value cost)
+    (λ x ran. record { program = program_of program; spelled = e.spelled; runs = subst (λ n. Runs (linked_in table functions copies (program_of program)) n us m (budget cost) t value x) is ran }) r h
 
-pub said_of : (checked : Checked) (list : List Instance) (at place : ℕ) (t : Tau) (a : Argument) (value : Val) (cost : ℕ) (r : Machined) → HoldsCores checked → entry_place (copies_in checked list) at ≡ Some place
-    → Machines (copies_in checked list) place t a.scalars (begun a) value cost r → (p : Report) → IsLine Done (report t value (value_of r.value) cost r.steps r.made r.freed r.kept) p
-    → (steps : ℕ) → Gives checked at a.value steps value cost → Reports (Executes (functions_in checked) (copies_in checked list) at t a steps) p
-said_of checked list at place t a value cost r cores stands m p line steps gives =
-    line_says (Executes (functions_in checked) (copies_in checked list) at t a steps) Done (report t value (value_of r.value) cost r.steps r.made r.freed r.kept) p line (
+pub said_of : (table : Extern) (checked : Checked) (list : List Instance) (at place : ℕ) (t : Tau) (a : Argument) (value : Val) (cost : ℕ) (r : Machined) → HoldsCores checked → entry_place (copies_in checked list) at ≡ Some place
+    → Machines table (functions_in checked) (copies_in checked list) place t a.scalars (begun a) value cost r → (p : Report) → IsLine Done (report t value (value_of r.value) cost r.steps r.made r.freed r.kept) p
+    → (steps : ℕ) → Gives table checked at a.value steps value cost → Reports (Executes table (functions_in checked) (copies_in checked list) at t a steps) p
+said_of table checked list at place t a value cost r cores stands m p line steps gives =
+    line_says (Executes table (functions_in checked) (copies_in checked list) at t a steps) Done (report t value (value_of r.value) cost r.steps r.made r.freed r.kept) p line (
       value,
       cost,
       record {
         cores = cores_of checked;
         derived = cores;
-        gives = ap (λ (x : Table). evaluation x steps (function (User at) []) a.value) (sym (table_same checked)) ∙ gives;
+        gives = ap (λ (x : Table). evaluation x steps (function (User at) []) a.value) (sym (table_same table.values checked)) ∙ gives;
       },
       record {
         place = place;
@@ -219,33 +220,33 @@ said_of checked list at place t a value cost r cores stands m p line steps gives
       },
     )
 
-pub runs_out : (checked : Checked) (copies : List Copy) (at : ℕ) (t : Tau) (a : Argument) (steps : ℕ) → HoldsCores checked → IsSpent (table_of no_foreign checked) steps (function (User at) []) a.value
-    → Executes (functions_in checked) copies at t a steps StepLimit (step_limit_line steps)
-runs_out checked copies at t a steps cores out = (
+pub runs_out : (table : Extern) (checked : Checked) (copies : List Copy) (at : ℕ) (t : Tau) (a : Argument) (steps : ℕ) → HoldsCores checked → IsSpent (table_of table.values checked) steps (function (User at) []) a.value
+    → Executes table (functions_in checked) copies at t a steps StepLimit (step_limit_line steps)
+runs_out table checked copies at t a steps cores out = (
   record {
     cores = cores_of checked;
     derived = cores;
-    spent = subst (λ (x : Table). IsSpent x steps (function (User at) []) a.value) (table_same checked) out;
+    spent = subst (λ (x : Table). IsSpent x steps (function (User at) []) a.value) (table_same table.values checked) out;
   },
   refl,
 )
 
 -- what both runs say is what the last judgement of `run` comes to
-pub executed : (checked : Checked) (list : List Instance) (at : ℕ) (t : Tau) (a : Argument) (steps : ℕ) (f : Found) → KeepsCopies checked list f → f.at ≡ at → result_type (functions f) f.at ≡ t → f.argument ≡ a
-    → (r : Result Report Memory) → IfOk r (Reports (Executes (functions_in checked) (copies_in checked list) at t a steps)) → Rules Judges ran_lines (evaluated steps ∷ []) f r
-executed checked list at t a steps f kept there typed given (Err e) h = tt
-executed checked list at t a steps f kept there typed given (Ok r) h = from r.status refl (moved h)
+pub executed : (table : Extern) (checked : Checked) (list : List Instance) (at : ℕ) (t : Tau) (a : Argument) (steps : ℕ) (f : Found) → KeepsCopies checked list f → f.at ≡ at → result_type (functions f) f.at ≡ t → f.argument ≡ a
+    → (r : Result Report Memory) → IfOk r (Reports (Executes table (functions_in checked) (copies_in checked list) at t a steps)) → Rules Judges (ran_lines table) (evaluated table.values steps ∷ []) f r
+executed table checked list at t a steps f kept there typed given (Err e) h = tt
+executed table checked list at t a steps f kept there typed given (Ok r) h = from r.status refl (moved h)
   where
-    moved : Executes (functions_in checked) (copies_in checked list) at t a steps r.status r.text.items
-        → Executes (functions f) f.copies f.at (result_type (functions f) f.at) f.argument steps r.status r.text.items
+    moved : Executes table (functions_in checked) (copies_in checked list) at t a steps r.status r.text.items
+        → Executes table (functions f) f.copies f.at (result_type (functions f) f.at) f.argument steps r.status r.text.items
     moved h =
-        subst (λ x. Executes x f.copies f.at (result_type (functions f) f.at) f.argument steps r.status r.text.items) (sym kept.same)
-        (subst (λ x. Executes (functions_in checked) x f.at (result_type (functions f) f.at) f.argument steps r.status r.text.items) (sym kept.copies)
-        (subst (λ x. Executes (functions_in checked) (copies_in checked list) x (result_type (functions f) f.at) f.argument steps r.status r.text.items) (sym there)
-        (subst (λ x. Executes (functions_in checked) (copies_in checked list) at x f.argument steps r.status r.text.items) (sym typed)
-        (subst (λ x. Executes (functions_in checked) (copies_in checked list) at t x steps r.status r.text.items) (sym given) h))))
+        subst (λ x. Executes table x f.copies f.at (result_type (functions f) f.at) f.argument steps r.status r.text.items) (sym kept.same)
+        (subst (λ x. Executes table (functions_in checked) x f.at (result_type (functions f) f.at) f.argument steps r.status r.text.items) (sym kept.copies)
+        (subst (λ x. Executes table (functions_in checked) (copies_in checked list) x (result_type (functions f) f.at) f.argument steps r.status r.text.items) (sym there)
+        (subst (λ x. Executes table (functions_in checked) (copies_in checked list) at x f.argument steps r.status r.text.items) (sym typed)
+        (subst (λ x. Executes table (functions_in checked) (copies_in checked list) at t x steps r.status r.text.items) (sym given) h))))
 
-    from : (s : Status) → r.status ≡ s → Executes (functions f) f.copies f.at (result_type (functions f) f.at) f.argument steps s r.text.items → Rules Judges ran_lines (evaluated steps ∷ []) f (Ok r)
+    from : (s : Status) → r.status ≡ s → Executes table (functions f) f.copies f.at (result_type (functions f) f.at) f.argument steps s r.text.items → Rules Judges (ran_lines table) (evaluated table.values steps ∷ []) f (Ok r)
     from Done is h = (goes (with_value h.0 h.1 f), inr (with_value h.0 h.1 f, (h.0, h.1, refl, h.2), refl), (is, h.3))
     from StepLimit is h = (refuses StepLimit r.text.items, inl (tt, (refl, h.1, h.0)), (is, refl))
     from Refused is h = absurd h

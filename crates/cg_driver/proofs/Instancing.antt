@@ -11,7 +11,7 @@ use Rattle.cg_inst_laws.proofs.Growth.{one_list, stays}
 use Rattle.cg_driver_laws.specs.Laws.{copies_over}
 use Rattle.cg_typing.specs.Instances.{Instance}
 use Rattle.cg_driver.specs.Instanced.{AreCores, HasInstances, PassesInstances, bodies_in, too_large, too_many, too_wide}
-use Rattle.cg_driver.specs.Lines.{limit_line, limit_name}
+use Rattle.cg_driver_lines.specs.Lines.{limit_line, limit_name}
 use Rattle.cg_driver.proofs.Cores.{one_list as one_cores}
 use Rattle.cg_inst.proofs.ListSteps.{not_shorter as longer_all}
 

@@ -22,7 +22,6 @@ use Rattle.cg_heap.specs.declared.cell.Scalar.{Scalar}
 use Rattle.cg_base.specs.declared.kind.Sigil.TheVariants.{W}
 use Rattle.cg_base.specs.Types.{Tau}
 use Rattle.cg_heap.specs.Calls.{heap_of}
-use Rattle.cg_heap.specs.NoForeignHeap.{no_foreign_heap}
 use Rattle.cg_heap.specs.Reps.{foot}
 use Rattle.cg_heap.specs.Stored.{Stored}
 use Rattle.cg_heaptext.specs.Answers.{IsFault}
@@ -41,7 +40,6 @@ use Rattle.cg_parser.proofs.One.{one_program}
 use Rattle.cg_parser.proofs.Same.{one_answer as one_reading}
 use Rattle.cg_resolve.specs.Answers.{IsCircleAt}
 use Rattle.cg_cmachine_def.specs.Runs.{Linked, crun}
-use Rattle.cg_driver_laws.specs.Laws.{linked_over}
 use Rattle.cg_driver_steps.specs.declared.status.Status.{Status}
 use Rattle.cg_driver_steps.specs.declared.status.Status.TheVariants.{Refused, Usage, StepLimit, HeapRefused, CertRefused, TooLarge}
 use Rattle.cg_driver_steps.specs.Steps.{Outcome, refuses, goes}
@@ -49,13 +47,14 @@ use Rattle.cg_driver_steps.specs.Scripts.{IsRuling}
 use Rattle.cg_surface.specs.declared.program.Program.{Program}
 use Rattle.cg_surface.specs.Programs.{Entry}
 use Rattle.cg_typing.specs.Accepted.{IsAcceptedKernel}
-use Rattle.cg_value.specs.NoForeign.{no_foreign}
+use Rattle.cg_value.specs.Foreign.{Foreign}
 use Rattle.cg_value.specs.Values.{Val, function}
 use Rattle.cg_driver_words.specs.Words.{Command, check, build, recheck, run}
 use Rattle.cg_driver.specs.Commands.{Judgement, no_command, within, spelled, named, acyclic, with_fields, typed, written, certified, instanced, certifiable, has_entry, allowed, concrete, has_argument, evaluated, HoldsArgument, RefusesHeap, RefusesSyntax, unknown_byte, open_comment, unexpected, wrong_bar, RefusesTyping, RefusesType, Judges, script_of}
 use Rattle.cg_driver.specs.Entered.{argument_type, result_type}
+use Rattle.cg_driver.specs.Externs.{Extern, linked_in}
 use Rattle.cg_driver.specs.Found.{Argument, Found, with_program, with_copies, with_cert, with_entry, with_argument, with_value, functions}
-use Rattle.cg_driver.specs.Lines.{fault_line, name_rule, rule_line, byte_line, heap_line, limit_line, report, run_lines}
+use Rattle.cg_driver_lines.specs.Lines.{fault_line, name_rule, rule_line, byte_line, heap_line, limit_line, report, run_lines}
 use Rattle.cg_driver.specs.Instanced.{emitted}
 use Rattle.cg_driver.specs.Run.{table_in, begun, budget, Evaluates, RunsOut, RunsTo, IsReport}
 use Rattle.cg_driver.proofs.Certifying.{one_node, none_misfits, node_ruling, node_not_usage}
@@ -163,17 +162,17 @@ given_same v w k l o a b =
     let e : (v, k) ≡ (w, l) = same_Some (v, k) (w, l) (sym a ∙ b) in
     record { value = ap (λ p. p.0) e; cost = ap (λ p. p.1) e }
 
-evaluates_once : (fs : List Function) (at : ℕ) (arg : Val) (steps : ℕ) (v : Val) (k : ℕ) (w : Val) (l : ℕ) → Evaluates no_foreign fs at arg steps v k → Evaluates no_foreign fs at arg steps w l → SameGiven v w k l
-evaluates_once fs at arg steps v k w l a b =
+evaluates_once : (x : Foreign) (fs : List Function) (at : ℕ) (arg : Val) (steps : ℕ) (v : Val) (k : ℕ) (w : Val) (l : ℕ) → Evaluates x fs at arg steps v k → Evaluates x fs at arg steps w l → SameGiven v w k l
+evaluates_once x fs at arg steps v k w l a b =
     let same : b.cores ≡ a.cores = one_list fs b.cores a.cores b.derived a.derived in
-    given_same v w k l (evaluation (table_in no_foreign fs a.cores) steps (function (User at) []) arg) a.gives
-    (subst (λ c. evaluation (table_in no_foreign fs c) steps (function (User at) []) arg ≡ Some (w, l)) same b.gives)
+    given_same v w k l (evaluation (table_in x fs a.cores) steps (function (User at) []) arg) a.gives
+    (subst (λ c. evaluation (table_in x fs c) steps (function (User at) []) arg ≡ Some (w, l)) same b.gives)
 
-not_both : (fs : List Function) (at : ℕ) (arg : Val) (steps : ℕ) (v : Val) (k : ℕ) → Evaluates no_foreign fs at arg steps v k → RunsOut no_foreign fs at arg steps → ⊥
-not_both fs at arg steps v k a b =
+not_both : (x : Foreign) (fs : List Function) (at : ℕ) (arg : Val) (steps : ℕ) (v : Val) (k : ℕ) → Evaluates x fs at arg steps v k → RunsOut x fs at arg steps → ⊥
+not_both x fs at arg steps v k a b =
     let same : b.cores ≡ a.cores = one_list fs b.cores a.cores b.derived a.derived in
-    let none : evaluation (table_in no_foreign fs a.cores) steps (function (User at) []) arg ≡ None = subst (λ c. evaluation (table_in no_foreign fs c) steps (function (User at) []) arg ≡ None) same b.spent.none in
-    let some : evaluation (table_in no_foreign fs a.cores) steps (function (User at) []) arg ≡ Some (v, k) = a.gives in
+    let none : evaluation (table_in x fs a.cores) steps (function (User at) []) arg ≡ None = subst (λ c. evaluation (table_in x fs c) steps (function (User at) []) arg ≡ None) same b.spent.none in
+    let some : evaluation (table_in x fs a.cores) steps (function (User at) []) arg ≡ Some (v, k) = a.gives in
     absurd (cc)
 
 -- ---- heap files
@@ -292,11 +291,11 @@ single (has_argument heap) f (goes n) (refuses s t) d d' =
     absurd (no_text_at f.heap (argument_type (functions f) f.at) d'.1.fault d.0 (kind f.heap (argument_type (functions f) f.at) d'.1.fault d'.1.first) d.2)
 single (has_argument heap) f (goes n) (goes n') d d' =
     ap goes (d.1 ∙ ap (λ a. with_argument a f) (one_argument f.heap (argument_type (functions f) f.at) d.0 d'.0 d.2 d'.2) ∙ sym d'.1)
-single (evaluated steps) f (refuses s t) (refuses s' t') d d' = refused_same s s' StepLimit t t' d.0 d'.0 (d.1 ∙ sym d'.1)
-single (evaluated steps) f (refuses s t) (goes n) d d' = absurd (not_both (functions f) f.at f.argument.value steps d'.0 d'.1 d'.3 d.2)
-single (evaluated steps) f (goes n) (refuses s t) d d' = absurd (not_both (functions f) f.at f.argument.value steps d.0 d.1 d.3 d'.2)
-single (evaluated steps) f (goes n) (goes n') d d' =
-    let e = evaluates_once (functions f) f.at f.argument.value steps d.0 d.1 d'.0 d'.1 d.3 d'.3 in
+single (evaluated x steps) f (refuses s t) (refuses s' t') d d' = refused_same s s' StepLimit t t' d.0 d'.0 (d.1 ∙ sym d'.1)
+single (evaluated x steps) f (refuses s t) (goes n) d d' = absurd (not_both x (functions f) f.at f.argument.value steps d'.0 d'.1 d'.3 d.2)
+single (evaluated x steps) f (goes n) (refuses s t) d d' = absurd (not_both x (functions f) f.at f.argument.value steps d.0 d.1 d.3 d'.2)
+single (evaluated x steps) f (goes n) (goes n') d d' =
+    let e = evaluates_once x (functions f) f.at f.argument.value steps d.0 d.1 d'.0 d'.1 d.3 d'.3 in
     ap goes (d.2 ∙ ap (λ v. with_value v d.1 f) e.value ∙ ap (λ k. with_value d'.0 k f) e.cost ∙ sym d'.2)
 
 -- of lawful functions the rules decide
@@ -331,7 +330,7 @@ ruling (has_entry file name) f s t d = subst IsRuling (sym d.0) tt
 ruling (allowed file) f s t d = subst IsRuling (sym d.0) tt
 ruling (concrete file) f s t d = subst IsRuling (sym d.0) tt
 ruling (has_argument heap) f s t d = subst IsRuling (sym d.0) tt
-ruling (evaluated steps) f s t d = subst IsRuling (sym d.0) tt
+ruling (evaluated x steps) f s t d = subst IsRuling (sym d.0) tt
 
 -- only words that are no command are answered with the usage text
 abbrev pub IsOfCommand : Judgement → Type 0
@@ -358,7 +357,7 @@ not_usage (has_entry file name) f s t of d = λ e. let x = d.0 in absurd (cc)
 not_usage (allowed file) f s t of d = λ e. let x = d.0 in absurd (cc)
 not_usage (concrete file) f s t of d = λ e. let x = d.0 in absurd (cc)
 not_usage (has_argument heap) f s t of d = λ e. let x = d.0 in absurd (cc)
-not_usage (evaluated steps) f s t of d = λ e. let x = d.0 in absurd (cc)
+not_usage (evaluated x steps) f s t of d = λ e. let x = d.0 in absurd (cc)
 
 -- ---- what is printed at status 0
 
@@ -389,21 +388,21 @@ lines_same : (t : Tau) (value v w : Val) (cost taken taken' : ℕ) (made made' f
 lines_same t value v w cost taken taken' made made' freed freed' kept kept' e r =
     λ i. run_lines t value (e i) cost (r.taken i) (length (r.made i)) (length (r.freed i)) (r.kept i)
 
-report_once : (copies : List Copy) (at : ℕ) (t : Tau) (arg : Argument) (value : Val) (cost : ℕ) (s s' : List ℕ) → IsReport copies at t arg value cost s → IsReport copies at t arg value cost s' → s ≡ s'
-report_once copies at t arg value cost s s' a b =
+report_once : (table : Extern) (fs : List Function) (copies : List Copy) (at : ℕ) (t : Tau) (arg : Argument) (value : Val) (cost : ℕ) (s s' : List ℕ) → IsReport table fs copies at t arg value cost s → IsReport table fs copies at t arg value cost s' → s ≡ s'
+report_once table fs copies at t arg value cost s s' a b =
     let program : b.program ≡ a.program = one_text (emitted copies) b.program a.program b.spelled a.spelled in
     let place : b.place ≡ a.place = same_Some b.place a.place (sym b.stands ∙ a.stands) in
-    let runs : RunsTo (linked_over a.program [] no_foreign_heap) (function_name a.place) arg.scalars (begun arg) (budget cost) t b.result b.taken b.made b.freed b.kept =
-    subst (λ p. RunsTo (linked_over p [] no_foreign_heap) (function_name a.place) arg.scalars (begun arg) (budget cost) t b.result b.taken b.made b.freed b.kept) program
-    (subst (λ k. RunsTo (linked_over b.program [] no_foreign_heap) (function_name k) arg.scalars (begun arg) (budget cost) t b.result b.taken b.made b.freed b.kept) place b.runs) in
+    let runs : RunsTo (linked_in table fs copies a.program) (function_name a.place) arg.scalars (begun arg) (budget cost) t b.result b.taken b.made b.freed b.kept =
+    subst (λ p. RunsTo (linked_in table fs copies p) (function_name a.place) arg.scalars (begun arg) (budget cost) t b.result b.taken b.made b.freed b.kept) program
+    (subst (λ k. RunsTo (linked_in table fs copies b.program) (function_name k) arg.scalars (begun arg) (budget cost) t b.result b.taken b.made b.freed b.kept) place b.runs) in
     a.lines
     ∙ lines_same t value a.result b.result cost a.taken b.taken a.made b.made a.freed b.freed a.kept b.kept (a.equal ∙ sym b.equal)
-    (run_same (linked_over a.program [] no_foreign_heap) (function_name a.place) arg.scalars (begun arg) (budget cost) t a.result b.result a.taken b.taken a.made a.freed a.kept b.made b.freed b.kept a.runs runs)
+    (run_same (linked_in table fs copies a.program) (function_name a.place) arg.scalars (begun arg) (budget cost) t a.result b.result a.taken b.taken a.made a.freed a.kept b.made b.freed b.kept a.runs runs)
     ∙ sym b.lines
 
-pub once : (c : Option Command) (f : Found) (t t' : List ℕ) → (script_of c).line f t → (script_of c).line f t' → t ≡ t'
-once None f t t' a b = absurd a
-once (Some (check file)) f t t' a b = a ∙ sym b
-once (Some (build file text certificate)) f t t' a b = a.0 ∙ sym b.0
-once (Some (recheck file certificate)) f t t' a b = a ∙ sym b
-once (Some (run file entry heap steps)) f t t' a b = report_once f.copies f.at (result_type (functions f) f.at) f.argument f.value f.cost t t' a b
+pub once : (table : Extern) (c : Option Command) (f : Found) (t t' : List ℕ) → (script_of table c).line f t → (script_of table c).line f t' → t ≡ t'
+once table None f t t' a b = absurd a
+once table (Some (check file)) f t t' a b = a ∙ sym b
+once table (Some (build file text certificate)) f t t' a b = a.0 ∙ sym b.0
+once table (Some (recheck file certificate)) f t t' a b = a ∙ sym b
+once table (Some (run file entry heap steps)) f t t' a b = report_once table (functions f) f.copies f.at (result_type (functions f) f.at) f.argument f.value f.cost t t' a b

@@ -33,8 +33,7 @@ use Rattle.cg_typing.specs.Instances.{Instance, IsIn}
 use Rattle.cg_typing.specs.Parts.{given_by, taken_by}
 use Rattle.cg_update.specs.Updates.{place_of}
 use Rattle.cg_value.specs.Fits.{fits}
-use Rattle.cg_value.specs.Foreign.{first_order}
-use Rattle.cg_value.specs.NoForeign.{no_foreign, none_is_lawful}
+use Rattle.cg_value.specs.Foreign.{Foreign, IsLawful, first_order}
 use Rattle.cg_value.specs.Values.{Val, function}
 use Rattle.cg_driver.specs.Built.{IsListed}
 use Rattle.cg_driver.specs.Accepted.{IsAcceptedSource}
@@ -79,16 +78,16 @@ abbrev no_world : HeapWorld
 no_world = record { instance_at = λ n. None; stands = λ name ns v. false }
 
 -- what is represented over any functions and abstract types fits
-pub plain_fits : RepresentedFits → (h : ℕ → Option Cell) (t : Tau) (us : List Scalar) (v : Val) → IsLawfulType 0 t → Holds no_world h t us v → IsTrue (fits (first_order no_foreign) t v)
-plain_fits law h t us v lawful holds = law no_world (first_order no_foreign) (λ n w a b e. absurd (cc)) (λ name ns w e. absurd (cc)) h 0 t us v lawful holds
+pub plain_fits : RepresentedFits → (x : Foreign) (h : ℕ → Option Cell) (t : Tau) (us : List Scalar) (v : Val) → IsLawfulType 0 t → Holds no_world h t us v → IsTrue (fits (first_order x) t v)
+plain_fits law x h t us v lawful holds = law no_world (first_order x) (λ n w a b e. absurd (cc)) (λ name ns w e. absurd (cc)) h 0 t us v lawful holds
 
 -- its evaluation on what a heap file holds is never stuck
-pub never_stuck : EntriesAreSound → RepresentedFits → (checked : Checked) (list : List Instance) (at place steps : ℕ) (argument result : Tau) (a : Argument)
-    → IsReady checked list at place argument result a → outcome (table_of no_foreign checked) steps (function (User at) []) a.value ≢ stuck
-never_stuck law fits_law checked list at place steps argument result a ready =
+pub never_stuck : EntriesAreSound → RepresentedFits → (x : Foreign) → IsLawful x → (checked : Checked) (list : List Instance) (at place steps : ℕ) (argument result : Tau) (a : Argument)
+    → IsReady checked list at place argument result a → outcome (table_of x checked) steps (function (User at) []) a.value ≢ stuck
+never_stuck law fits_law x lawful checked list at place steps argument result a ready =
     let ty = ready.can.ty in
-    law no_foreign none_is_lawful checked at steps ty.function argument result a.value ty.there ty.vars ty.typed.is (λ r. ready.can.allowed.concrete r.abstract)
-    (plain_fits fits_law (held_in a.cells) argument a.scalars a.value ty.typed.lawful (ready.represents no_world).holds)
+    law x lawful checked at steps ty.function argument result a.value ty.there ty.vars ty.typed.is (λ r. ready.can.allowed.concrete r.abstract)
+    (plain_fits fits_law x (held_in a.cells) argument a.scalars a.value ty.typed.lawful (ready.represents no_world).holds)
 
 -- ---- places
 

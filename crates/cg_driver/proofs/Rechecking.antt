@@ -23,7 +23,7 @@ use Rattle.cg_typing.specs.Kept.{maybe_core, maybe_tree}
 use Rattle.cg_driver.specs.Commands.{Judges, certified, text_rules, reading_rules, RefusesNode, broken_row, out_of_place, rechecked_line}
 use Rattle.cg_driver.specs.Found.{Found, with_program, with_cert, functions, certificate_limit}
 use Rattle.cg_driver.specs.Judged.{IsCertificate, IsReadSource, KeepsKernel, RefusesCert, RefusesReading, RefusesText}
-use Rattle.cg_driver.specs.Lines.{byte_line, node_line, limit_line, limit_name, rechecked_line as accepted_text}
+use Rattle.cg_driver_lines.specs.Lines.{byte_line, node_line, limit_line, limit_name, rechecked_line as accepted_text}
 use Rattle.cg_driver.proofs.Certifying.{limit_refuses}
 use Rattle.cg_driver.proofs.Saying.{reading_settles, steps_judged}
 

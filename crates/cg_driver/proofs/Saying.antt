@@ -56,8 +56,8 @@ use Rattle.cg_driver.specs.Accepted.{HasKernel, IsAcceptedSource}
 use Rattle.cg_driver.specs.Commands.{HoldsArgument, Judgement, RefusesSyntax, Judges, kernel_rules, resolving_rules, reading_rules, source_rules, entry_rules, type_rules, heap_rules, entry_at}
 use Rattle.cg_driver.specs.Entered.{argument_type, is_entry}
 use Rattle.cg_driver.specs.Found.{Found, with_program, with_entry, with_argument, functions, source_limit, heap_limit}
-use Rattle.cg_driver.specs.Judged.{functions_in, IsCheckedKernel, IsCheckedSource, IsKernelOf, IsReadSource, Keeps, RefusesKernel, RefusesProgram, RefusesReading, RefusesSource, RefusesEntry, RefusesFunction, RefusesBytes, IsAllowed, IsAllowedAt, IsEntry, IsFaultOfFile, IsStartOf, argument_of}
-use Rattle.cg_driver.specs.Lines.{fault_line, name_rule, rule_line, no_entry_line, entry_type_line, abstract_line, heap_line, limit_name, limit_line}
+use Rattle.cg_driver.specs.Judged.{functions_in, IsCheckedKernel, IsCheckedSource, IsKernelOf, IsReadSource, Keeps, RefusesKernel, RefusesProgram, RefusesReading, RefusesSource, RefusesEntry, RefusesFunction, RefusesBytes, IsAllowed, IsAllowedAt, IsEntry, IsStartOf, argument_of}
+use Rattle.cg_driver_lines.specs.Lines.{IsFaultOfFile, fault_line, name_rule, rule_line, no_entry_line, entry_type_line, abstract_line, heap_line, limit_name, limit_line}
 use Rattle.cg_driver.proofs.Sources.{accepted_source, resolved_in}
 
 -- a report of a line says what the line says

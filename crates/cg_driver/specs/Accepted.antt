@@ -22,9 +22,9 @@ use Rattle.cg_driver_steps.specs.World.{World}
 use Rattle.cg_lower.specs.Collected.{Copy}
 use Rattle.cg_driver_words.specs.Words.{Command, build}
 use Rattle.cg_driver_entry.specs.Entries.{ReachesAbstract}
-use Rattle.cg_value.specs.NoForeign.{no_foreign}
 use Rattle.cg_value.specs.Values.{Val}
 use Rattle.cg_driver.specs.Commands.{HoldsArgument, Judges, entry_at, script_of}
+use Rattle.cg_driver.specs.Externs.{Extern}
 use Rattle.cg_driver.specs.Entered.{argument_type, is_entry}
 use Rattle.cg_driver.specs.Run.{Evaluates}
 use Rattle.cg_driver.specs.Found.{Argument, Found, certificate_limit, functions, heap_limit, source_limit}
@@ -83,8 +83,9 @@ pub record IsBuildable (source : List ℕ) : Type 0 where
   pub instances : HasInstances kernel copies
   pub brief : length (certified_text kernel) ≤ certificate_limit
 
--- a source has an entry that may be run, its heap file holds an argument of it, and evaluation ends within the steps with this value at this cost
-pub record IsRunnable (source entry heap : List ℕ) (steps : ℕ) : Type 0 where
+-- a source has an entry that may be run, its heap file holds an argument of it, and evaluation over a table ends within the steps with this value
+-- at this cost
+pub record IsRunnable (table : Extern) (source entry heap : List ℕ) (steps : ℕ) : Type 0 where
   pub kernel : List Function
   pub copies : List Copy
   pub at : ℕ
@@ -98,14 +99,14 @@ pub record IsRunnable (source entry heap : List ℕ) (steps : ℕ) : Type 0 wher
   pub concrete : ReachesAbstract kernel at → ⊥
   pub short : length heap ≤ heap_limit
   pub holds : HoldsArgument heap (argument_type kernel at) argument
-  pub ends : Evaluates no_foreign kernel at argument.value steps value cost
+  pub ends : Evaluates table.values kernel at argument.value steps value cost
 
 -- ---- what `build` writes
 
 -- the steps of `build` write the two files that it names for that, and those of other commands none
-abbrev pub WritesItsOwn : Option Command → Type 0
-WritesItsOwn (Some (build file text certificate)) = (name : List ℕ) → Writes (script_of (Some (build file text certificate))).steps name → (name ≡ text) ⊎ (name ≡ certificate)
-WritesItsOwn c = WritesNone (script_of c).steps
+abbrev pub WritesItsOwn : Extern → Option Command → Type 0
+WritesItsOwn table (Some (build file text certificate)) = (name : List ℕ) → Writes (script_of table (Some (build file text certificate))).steps name → (name ≡ text) ⊎ (name ≡ certificate)
+WritesItsOwn table c = WritesNone (script_of table c).steps
 
 -- a source was built: it is accepted, these are its instances, within the limits, and the files hold its C text and its certificate
 pub record IsBuiltSource (held : Held) (file text certificate : List ℕ) (found : Found) (new : World) : Type 0 where
@@ -115,10 +116,10 @@ pub record IsBuiltSource (held : Held) (file text certificate : List ℕ) (found
   pub files : new.held ≡ Some (insert (insert held text (emitted found.copies)) certificate (certified_text (functions found)))
 
 -- whatever counts rise, the steps of `build` go through only so
-abbrev pub BuildWrites : Type 0
-BuildWrites =
+abbrev pub BuildWrites : Extern → Type 0
+BuildWrites table =
     (held : Held) (file text certificate : List ℕ) (found : Found) (old new : World) → old.held ≡ Some held
-    → Runs Judges (script_of (Some (build file text certificate))).steps (script_of (Some (build file text certificate))).start old (goes found) new
+    → Runs Judges (script_of table (Some (build file text certificate))).steps (script_of table (Some (build file text certificate))).start old (goes found) new
     → IsBuiltSource held file text certificate found new
 
 -- What is printed of a source that the checker keeps is a certificate of it, where it is within the limit.

@@ -39,11 +39,12 @@ use Rattle.cg_surface.specs.Programs.{Entry}
 use Rattle.cg_resolve_takes.specs.Says as takes
 use Rattle.cg_typing.specs.Accepted.{IsAcceptedKernel}
 use Rattle.cg_driver_words.specs.Words.{Command, check, build, recheck, run, texts, command_of}
-use Rattle.cg_value.specs.NoForeign.{no_foreign}
+use Rattle.cg_value.specs.Foreign.{Foreign}
 use Rattle.cg_value.specs.Values.{Val}
 use Rattle.cg_base.specs.Types.{Tau}
+use Rattle.cg_driver.specs.Externs.{Extern}
 use Rattle.cg_driver.specs.Found.{Argument, Found, nothing, with_source, with_program, with_copies, with_certificate, with_cert, with_entry, with_heap, with_argument, with_value, functions, source_limit, certificate_limit, heap_limit, bound, quantity}
-use Rattle.cg_driver.specs.Lines.{usage_text, ok_line, built_line as written_line, fault_line, name_rule, rule_line, rechecked_line as accepted_text, byte_line, node_line, no_entry_line, entry_type_line, abstract_line, heap_line, limit_name, limit_line, step_limit_line}
+use Rattle.cg_driver_lines.specs.Lines.{usage_text, ok_line, built_line as written_line, fault_line, name_rule, rule_line, rechecked_line as accepted_text, byte_line, node_line, no_entry_line, entry_type_line, abstract_line, heap_line, limit_name, limit_line, step_limit_line}
 use Rattle.cg_driver.specs.Entered.{argument_type, is_entry, result_type}
 use Rattle.cg_driver.specs.Instanced.{HasInstances, PassesInstances, IsCompiled, emitted, certified_text}
 use Rattle.cg_driver.specs.Run.{Evaluates, RunsOut, IsReport}
@@ -56,7 +57,8 @@ use Rattle.cg_driver.specs.Run.{Evaluates, RunsOut, IsReport}
 -- limit: else the first condition that fails in the order of nodes is told, which is C2 or C3 with its node, or that limit (`type`); the
 -- instances are within all their limits, else the first that they pass is told; the certificate that would be written is within its own; the
 -- source has the entry (E1), whose type is allowed (E2), and which reaches no abstract function (M1); the heap file holds an argument of the
--- entry's type (H1 to H7); evaluation ends within the steps.
+-- entry's type (H1 to H7); evaluation over a table of abstract functions ends within the steps. That table is the one thing that the lists of
+-- judgements take from it, so a judgement says what it says of any table.
 pub data Judgement : Type 0 where
   no_command : Judgement
   within : Limit → Judgement
@@ -73,7 +75,7 @@ pub data Judgement : Type 0 where
   allowed : List ℕ → Judgement
   concrete : List ℕ → Judgement
   has_argument : List ℕ → Judgement
-  evaluated : ℕ → Judgement
+  evaluated : Foreign → ℕ → Judgement
 
 -- The line of a fault of syntax: the bytes spell no program, and this is the first place where they go on with none, by its rule.
 pub data RefusesSyntax (file source text : List ℕ) : Type 0 where
@@ -177,9 +179,9 @@ Judges (concrete file) found (refuses status text) = (status ≡ Refused) × (te
 Judges (concrete file) found (goes next) = (next ≡ found) × (ReachesAbstract (functions found) found.at → ⊥)
 Judges (has_argument heap) found (refuses status text) = (status ≡ HeapRefused) × RefusesHeap heap found.heap (argument_type (functions found) found.at) text
 Judges (has_argument heap) found (goes next) = (a : Argument) × (next ≡ with_argument a found) × HoldsArgument found.heap (argument_type (functions found) found.at) a
-Judges (evaluated steps) found (refuses status text) = (status ≡ StepLimit) × (text ≡ step_limit_line steps) × RunsOut no_foreign (functions found) found.at found.argument.value steps
-Judges (evaluated steps) found (goes next) =
-    (value : Val) × (cost : ℕ) × (next ≡ with_value value cost found) × Evaluates no_foreign (functions found) found.at found.argument.value steps value cost
+Judges (evaluated x steps) found (refuses status text) = (status ≡ StepLimit) × (text ≡ step_limit_line steps) × RunsOut x (functions found) found.at found.argument.value steps
+Judges (evaluated x steps) found (goes next) =
+    (value : Val) × (cost : ℕ) × (next ≡ with_value value cost found) × Evaluates x (functions found) found.at found.argument.value steps value cost
 
 -- ---- the lists
 
@@ -217,8 +219,8 @@ entry_rules file entry = has_entry file entry ∷ type_rules file
 abbrev pub heap_rules : List ℕ → List Judgement
 heap_rules heap = within Heap ∷ has_argument heap ∷ []
 
-abbrev pub run_rules : List ℕ → ℕ → List Judgement
-run_rules heap steps = heap_rules heap ++ evaluated steps ∷ []
+abbrev pub run_rules : Extern → List ℕ → ℕ → List Judgement
+run_rules table heap steps = heap_rules heap ++ evaluated table.values steps ∷ []
 
 -- a source that is read
 abbrev pub reads_source : List ℕ → Step Judgement Found
@@ -241,8 +243,8 @@ IsBuilt found text = (text ≡ written_line (functions found) (length found.copi
 abbrev pub rechecked_line : Found → List ℕ → Type 0
 rechecked_line found text = text ≡ accepted_text
 
-abbrev pub ran_lines : Found → List ℕ → Type 0
-ran_lines found text = IsReport found.copies found.at (result_type (functions found) found.at) found.argument found.value found.cost text
+abbrev pub ran_lines : Extern → Found → List ℕ → Type 0
+ran_lines table found text = IsReport table (functions found) found.copies found.at (result_type (functions found) found.at) found.argument found.value found.cost text
 
 -- the writes of `build`: the C text, and then the certificate
 abbrev pub writes_certificate : List ℕ → List (Step Judgement Found)
@@ -263,20 +265,20 @@ abbrev pub recheck_steps : List ℕ → List ℕ → List (Step Judgement Found)
 recheck_steps file certificate = judged_first (reading_rules file) (certificate_steps certificate)
 
 -- the steps of `run` from the heap file on, and all behind the read of the source
-abbrev pub heap_steps : List ℕ → ℕ → List (Step Judgement Found)
-heap_steps heap steps = reads_heap heap ∷ judged_first (run_rules heap steps) []
+abbrev pub heap_steps : Extern → List ℕ → ℕ → List (Step Judgement Found)
+heap_steps table heap steps = reads_heap heap ∷ judged_first (run_rules table heap steps) []
 
-abbrev pub run_steps : List ℕ → List ℕ → List ℕ → ℕ → List (Step Judgement Found)
-run_steps file entry heap steps = judged_first (source_rules file ++ entry_rules file entry ++ instanced ∷ []) (heap_steps heap steps)
+abbrev pub run_steps : Extern → List ℕ → List ℕ → List ℕ → ℕ → List (Step Judgement Found)
+run_steps table file entry heap steps = judged_first (source_rules file ++ entry_rules file entry ++ instanced ∷ []) (heap_steps table heap steps)
 
--- the commands; other words are refused
-abbrev pub script_of : Option Command → Script Judgement Found
-script_of None = record { steps = judged_first (no_command ∷ []) []; start = nothing; line = λ found text. ⊥ }
-script_of (Some (check file)) = record { steps = reads_source file ∷ judged_first (source_rules file) []; start = nothing; line = checked_line }
-script_of (Some (build file text certificate)) = record { steps = reads_source file ∷ build_steps file text certificate; start = nothing; line = IsBuilt }
-script_of (Some (recheck file certificate)) = record { steps = reads_source file ∷ recheck_steps file certificate; start = nothing; line = rechecked_line }
-script_of (Some (run file entry heap steps)) = record { steps = reads_source file ∷ run_steps file entry heap steps; start = nothing; line = ran_lines }
+-- the commands, over a table of abstract functions; other words are refused
+abbrev pub script_of : Extern → Option Command → Script Judgement Found
+script_of table None = record { steps = judged_first (no_command ∷ []) []; start = nothing; line = λ found text. ⊥ }
+script_of table (Some (check file)) = record { steps = reads_source file ∷ judged_first (source_rules file) []; start = nothing; line = checked_line }
+script_of table (Some (build file text certificate)) = record { steps = reads_source file ∷ build_steps file text certificate; start = nothing; line = IsBuilt }
+script_of table (Some (recheck file certificate)) = record { steps = reads_source file ∷ recheck_steps file certificate; start = nothing; line = rechecked_line }
+script_of table (Some (run file entry heap steps)) = record { steps = reads_source file ∷ run_steps table file entry heap steps; start = nothing; line = ran_lines table }
 
 -- the command that the words ask for
-abbrev pub asked : List (String Global) → Script Judgement Found
-asked words = script_of (command_of (texts words))
+abbrev pub asked : Extern → List (String Global) → Script Judgement Found
+asked table words = script_of table (command_of (texts words))

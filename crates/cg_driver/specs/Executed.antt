@@ -9,11 +9,11 @@ use Rattle.cg_ctree.specs.declared.tree.CProgram.{CProgram}
 use Rattle.cg_ctree.specs.Spells.{CSpells}
 use Rattle.cg_ctree.specs.Trees.{Program, program_of}
 use Rattle.cg_cgen_def.specs.Names.{function_name}
+use Rattle.cg_cmachine_def.specs.Runs.{Linked}
 use Rattle.cg_lower.specs.Promises.{IsSimulated}
-use Rattle.cg_driver_laws.specs.Laws.{GivesRefined, linked_over}
+use Rattle.cg_driver_laws.specs.Laws.{GivesRefined}
 use Rattle.cg_eval_def.specs.Evaluation.{evaluation}
 use Rattle.cg_eval_def.specs.Foreigns.{table_of}
-use Rattle.cg_heap.specs.NoForeignHeap.{no_foreign_heap}
 use Rattle.cg_base.specs.declared.kind.Sigil.TheVariants.{W}
 use Rattle.cg_cmachine.specs.declared.answer.Ran.{Ran}
 use Rattle.cg_heap.specs.Calls.{heap_of}
@@ -31,35 +31,35 @@ use Rattle.cg_heap.specs.Stored.{Stored}
 use Rattle.cg_typing.specs.declared.checked.Checked.{Checked}
 use Rattle.cg_typing.specs.Holds.{cores_in}
 use Rattle.cg_typing.specs.Kept.{maybe_core}
-use Rattle.cg_value.specs.NoForeign.{no_foreign}
 use Rattle.cg_value.specs.Values.{Val, function, value_of}
 use Rattle.cg_driver_steps.specs.declared.status.Status.{Status}
 use Rattle.cg_driver_steps.specs.declared.status.Status.TheVariants.{Done, StepLimit}
-use Rattle.cg_driver.specs.declared.machine.Machined.{Machined}
+use Rattle.cg_driver_lines.specs.declared.machined.Machined.{Machined}
+use Rattle.cg_driver.specs.Externs.{Extern, linked_in}
 use Rattle.cg_driver.specs.Found.{Argument}
 use Rattle.cg_driver.specs.Instanced.{emitted}
-use Rattle.cg_driver.specs.Lines.{step_limit_line}
+use Rattle.cg_driver_lines.specs.Lines.{step_limit_line}
 use Rattle.cg_driver.specs.Run.{budget, Evaluates, RunsOut, RunsTo, IsReport}
 
 -- the cores of a checked source
 abbrev pub cores_of : Checked → List (Option (Tree Note))
 cores_of checked = map maybe_core (cores_in checked)
 
--- evaluation gives this value at this cost, within the steps
-abbrev pub Gives : Checked → ℕ → Val → ℕ → Val → ℕ → Type 0
-Gives checked at arg steps value cost = evaluation (table_of no_foreign checked) steps (function (User at) []) arg ≡ Some (value, cost)
+-- evaluation over a table of abstract functions gives this value at this cost, within the steps
+abbrev pub Gives : Extern → Checked → ℕ → Val → ℕ → Val → ℕ → Type 0
+Gives table checked at arg steps value cost = evaluation (table_of table.values checked) steps (function (User at) []) arg ≡ Some (value, cost)
 
 -- the program is the one that the C text of the instances spells, and simulates the update semantics
 pub record Emits (copies : List Copy) (program : CProgram) : Type 0 where
   pub spelled : CSpells (emitted copies) (program_of program)
   pub simulates : IsSimulated copies (program_of program)
 
--- a program without abstract functions gives what represents this value, where evaluation gives it at this cost
-pub record GivesAlike (program : Program) (name : List ℕ) (us : List Scalar) (m : Stored) (t : Tau) (value : Val) (cost : ℕ) : Type 0 where
+-- a linked program gives what represents this value, where evaluation gives it at this cost
+pub record GivesAlike (linked : Linked) (name : List ℕ) (us : List Scalar) (m : Stored) (t : Tau) (value : Val) (cost : ℕ) : Type 0 where
   pub world : HeapWorld
   pub writes : ℕ → ℕ
   pub reads : ℕ → ℕ
-  pub gives : GivesRefined world (linked_over program [] no_foreign_heap) name us m writes reads t value cost
+  pub gives : GivesRefined world linked name us m writes reads t value cost
 
 -- what was read out of a store is what the scalars of a run represent there, and these are the cells that may be written through them
 pub record ReadsBack (m : Stored) (t : Tau) (ran : Ran) (r : Machined) : Type 0 where
@@ -70,15 +70,15 @@ pub record ReadsBack (m : Stored) (t : Tau) (ran : Ran) (r : Machined) : Type 0 
   pub are_kept : (q : ℕ) → count q r.kept ≡ foot (heap_of m) W t ran.value q
 
 -- what a run gave, within a budget
-abbrev pub Runs : Program → List ℕ → List Scalar → Stored → ℕ → Tau → Val → Machined → Type 0
-Runs program name us m most t value r =
-    RunsTo (linked_over program [] no_foreign_heap) name us m most t (value_of r.value) r.steps r.made r.freed r.kept × (value_of r.value ≡ value)
+abbrev pub Runs : Linked → List ℕ → List Scalar → Stored → ℕ → Tau → Val → Machined → Type 0
+Runs linked name us m most t value r =
+    RunsTo linked name us m most t (value_of r.value) r.steps r.made r.freed r.kept × (value_of r.value ≡ value)
 
 -- the run of the C text ends within its budget with what evaluation gave
-pub record Machines (copies : List Copy) (place : ℕ) (t : Tau) (us : List Scalar) (m : Stored) (value : Val) (cost : ℕ) (r : Machined) : Type 0 where
+pub record Machines (table : Extern) (functions : List Function) (copies : List Copy) (place : ℕ) (t : Tau) (us : List Scalar) (m : Stored) (value : Val) (cost : ℕ) (r : Machined) : Type 0 where
   pub program : Program
   pub spelled : CSpells (emitted copies) program
-  pub runs : Runs program (function_name place) us m (budget cost) t value r
+  pub runs : Runs (linked_in table functions copies program) (function_name place) us m (budget cost) t value r
 
 -- an entry can be run on what a heap file holds: the cells and scalars represent the value at its type, whatever functions and abstract types there
 -- are, and can be placed
@@ -94,8 +94,8 @@ abbrev pub the_argument : List Placed → List Scalar → Val → Argument
 the_argument cells us v = record { cells = map pair_of cells; scalars = us; value = v }
 
 -- what both runs say
-abbrev pub Executes : List Function → List Copy → ℕ → Tau → Argument → ℕ → Status → List ℕ → Type 0
-Executes functions copies at t a steps Done text =
-    (value : Val) × (cost : ℕ) × Evaluates no_foreign functions at a.value steps value cost × IsReport copies at t a value cost text
-Executes functions copies at t a steps StepLimit text = RunsOut no_foreign functions at a.value steps × (text ≡ step_limit_line steps)
-Executes functions copies at t a steps _ text = ⊥
+abbrev pub Executes : Extern → List Function → List Copy → ℕ → Tau → Argument → ℕ → Status → List ℕ → Type 0
+Executes table functions copies at t a steps Done text =
+    (value : Val) × (cost : ℕ) × Evaluates table.values functions at a.value steps value cost × IsReport table functions copies at t a value cost text
+Executes table functions copies at t a steps StepLimit text = RunsOut table.values functions at a.value steps × (text ≡ step_limit_line steps)
+Executes table functions copies at t a steps _ text = ⊥

@@ -38,7 +38,7 @@ use Rattle.cg_update_laws.specs.Laws.{world_among}
 use Rattle.cg_value.specs.Foreign.{Foreign, IsLawful}
 use Rattle.cg_value.specs.NoForeign.{no_foreign}
 use Rattle.cg_value.specs.Values.{Val, function}
-use Rattle.cg_driver.specs.Lines.{limit_line, limit_name}
+use Rattle.cg_driver_lines.specs.Lines.{limit_line, limit_name}
 
 -- The cores of an accepted kernel, one for each function with a body: each erases to its body, and the typing rules derive it.
 -- There are no others (the law `one_core` of the checker).

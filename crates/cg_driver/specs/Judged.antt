@@ -31,8 +31,6 @@ use Rattle.cg_driver.specs.Commands.{Judges, certified, kernel_rules, resolving_
 use Rattle.cg_driver.specs.Entered.{argument_type, is_entry, result_type}
 use Rattle.cg_driver.specs.Found.{Argument, Found, functions, source_limit, certificate_limit, heap_limit}
 use Rattle.cg_driver.specs.Instanced.{AreCores}
-use Rattle.cg_heaptext.specs.declared.fault.HeapFault.{HeapFault}
-use Rattle.cg_heaptext.specs.declared.fault.HeapFault.TheVariants.{Memory}
 
 -- the functions of a checked source
 abbrev pub functions_in : Checked → List Function
@@ -163,8 +161,3 @@ pub record IsStartOf (bytes : List ℕ) (t : Tau) (start : Start) : Type 0 where
 -- what a heap file holds, of the answer of the reader
 abbrev pub argument_of : Start → Argument
 argument_of start = record { cells = map pair_of start.cells; scalars = start.arg; value = value_of start.value }
-
--- a fault of a heap file, and not want of memory
-abbrev pub IsFaultOfFile : HeapFault → Type 0
-IsFaultOfFile Memory = ⊥
-IsFaultOfFile fault = ⊤

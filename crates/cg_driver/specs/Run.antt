@@ -1,4 +1,5 @@
 -- What a run of an entry on a heap file says, and why (docs/LANGUAGE.md, "Commands"). The definitions speak of any table of abstract functions.
+use Rattle.std.specs.FinMap.{empty}
 use Rattle.std.specs.Prelude.{◌≡◌, ℕ, ◌+◌, ◌*◌, List, [], ◌∷◌, Option, Some}
 use Rattle.cg_base.specs.declared.fun.Fun.TheVariants.{User}
 use Rattle.cg_base.specs.Types.{Tau}
@@ -10,13 +11,10 @@ use Rattle.cg_lower.specs.Collected.{Copy}
 use Rattle.cg_cgen_def.specs.Names.{function_name}
 use Rattle.cg_cmachine_def.specs.Outcomes.{State, done}
 use Rattle.cg_cmachine_def.specs.Runs.{Linked, crun}
-use Rattle.cg_cmachine_def.specs.WordRuns.{no_cells}
-use Rattle.cg_driver_laws.specs.Laws.{linked_over}
 use Rattle.cg_eval_def.specs.Evaluation.{Table, evaluation, IsSpent}
 use Rattle.cg_eval_def.specs.Foreigns.{table_over}
 use Rattle.cg_heap.specs.Calls.{heap_of}
 use Rattle.cg_heap.specs.declared.cell.Scalar.{Scalar}
-use Rattle.cg_heap.specs.NoForeignHeap.{no_foreign_heap}
 use Rattle.cg_heap.specs.Reps.{HeapWorld, Represents}
 use Rattle.cg_heap.specs.declared.cell.Cell.{Cell}
 use Rattle.cg_heap.specs.Stored.{Stored, with_cell}
@@ -24,9 +22,10 @@ use Rattle.cg_heap.specs.Steps.{count}
 use Rattle.cg_value.specs.Foreign.{Foreign}
 use Rattle.cg_value.specs.Values.{Val, function}
 use Rattle.cg_driver.specs.Entered.{entry_place}
+use Rattle.cg_driver.specs.Externs.{Extern, linked_in}
 use Rattle.cg_driver.specs.Found.{Argument}
 use Rattle.cg_driver.specs.Instanced.{AreCores, bodies_in, emitted}
-use Rattle.cg_driver.specs.Lines.{report}
+use Rattle.cg_driver_lines.specs.Lines.{report}
 
 -- the functions of a source, by their cores, over a table of abstract functions
 abbrev pub table_in : Foreign → List Function → List (Option (Tree Note)) → Table
@@ -47,6 +46,10 @@ pub record RunsOut (x : Foreign) (functions : List Function) (at : ℕ) (arg : V
   pub cores : List (Option (Tree Note))
   pub derived : AreCores functions cores
   pub spent : IsSpent (table_in x functions cores) steps (function (User at) []) arg
+
+-- a store that has never had a cell
+abbrev pub no_cells : Stored
+no_cells = record { cells = empty; top = 0 }
 
 -- cells in a store, each at its address: the first of an address counts
 abbrev pub filled : List (ℕ × Cell) → Stored → Stored
@@ -75,8 +78,8 @@ pub record RunsTo (linked : Linked) (name : List ℕ) (us : List Scalar) (m : St
 
 -- The seven lines of a run of an entry on what a heap file holds, where evaluation gives this value at this cost: the program that the C text of
 -- the instances spells, run from the cells of the file, ends within the budget, and its scalars represent a value in its heap, which is that of
--- evaluation.
-pub record IsReport (copies : List Copy) (at : ℕ) (t : Tau) (a : Argument) (value : Val) (cost : ℕ) (text : List ℕ) : Type 0 where
+-- evaluation. Both go over one table of abstract functions, whose functions the C names of instances are linked to.
+pub record IsReport (table : Extern) (functions : List Function) (copies : List Copy) (at : ℕ) (t : Tau) (a : Argument) (value : Val) (cost : ℕ) (text : List ℕ) : Type 0 where
   pub place : ℕ
   pub stands : entry_place copies at ≡ Some place
   pub program : Program
@@ -86,6 +89,6 @@ pub record IsReport (copies : List Copy) (at : ℕ) (t : Tau) (a : Argument) (va
   pub made : List ℕ
   pub freed : List ℕ
   pub kept : List ℕ
-  pub runs : RunsTo (linked_over program [] no_foreign_heap) (function_name place) a.scalars (begun a) (budget cost) t result taken made freed kept
+  pub runs : RunsTo (linked_in table functions copies program) (function_name place) a.scalars (begun a) (budget cost) t result taken made freed kept
   pub equal : result ≡ value
   pub lines : text ≡ report t value result cost taken made freed kept

@@ -13,12 +13,12 @@ ghost use Rattle.cg_driver.specs.Instanced.{IsMeant, emitted};
 ghost use Rattle.cg_driver.specs.Judged.{functions_in, CanBeBuilt, HoldsCores};
 
 use crate::judge::{SOURCE_LIMIT, judge};
-use crate::lines::{beyond, built, limit_name};
 use crate::recheck::CERTIFICATE_LIMIT;
 use cg_base::Memory;
 use cg_cert::print_cert;
 use cg_ctext::print_c;
 use cg_driver_laws::sources_print;
+use cg_driver_lines::{beyond, built, limit_name};
 use cg_driver_steps::{Report, Step, read_file, write_file};
 use cg_inst::{InstFault, Instances, instances};
 use cg_lower::lower;

@@ -7,8 +7,8 @@ ghost use Rattle.cg_driver.specs.Commands.{Judges, source_rules, reads_source, c
 ghost use Rattle.cg_driver.specs.Found.{Found, nothing};
 
 use crate::judge::{SOURCE_LIMIT, judge};
-use crate::lines::accepted;
 use cg_base::Memory;
+use cg_driver_lines::accepted;
 use cg_driver_steps::{Report, Step, read_file};
 use cg_outside::Files;
 use std::alloc::Global;

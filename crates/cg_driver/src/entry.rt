@@ -7,11 +7,11 @@ ghost use Rattle.cg_driver.specs.Built.{IsListed};
 ghost use Rattle.cg_driver.specs.Entered.{entry_type, instance_at, is_entry};
 ghost use Rattle.cg_driver.specs.Judged.{functions_in, IsAllowed, IsAllowedAt, IsEntry, RefusesEntry, RefusesFunction};
 
-use crate::lines::{abstract_reached, no_entry, no_entry_type};
 use cg_base::{Fun, Items, Memory, Ty};
 use cg_core::KFun;
 use cg_driver_entry::{is_first_order, reaches_abstract};
 use cg_driver_laws::functions_stand;
+use cg_driver_lines::{abstract_reached, no_entry, no_entry_type};
 use cg_driver_steps::Step;
 use cg_inst::{Instance, Instances};
 use cg_typing::Checked;

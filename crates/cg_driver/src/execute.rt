@@ -2,22 +2,22 @@
 ghost use Rattle.std.specs.Prelude.{◌≤◌, ◌^◌, ℕ, IfOk, map};
 ghost use Rattle.cg_base.specs.Types.{Tau, type_of};
 ghost use Rattle.cg_driver_laws.specs.Laws.{copies_in};
-ghost use Rattle.cg_cmachine_def.specs.WordRuns.{no_cells};
 ghost use Rattle.cg_heaptext_contents.specs.Placings.{pair_of};
-ghost use Rattle.cg_driver.specs.Run.{filled};
+ghost use Rattle.cg_driver.specs.Run.{filled, no_cells};
 ghost use Rattle.cg_value.specs.Values.{Val, value_of};
 ghost use Rattle.cg_driver.specs.Built.{IsListed};
 ghost use Rattle.cg_driver.specs.Executed.{Emits, Gives, IsReady, Machines, Executes, the_argument};
+ghost use Rattle.cg_driver.specs.Externs.{no_extern};
 ghost use Rattle.cg_driver.specs.Judged.{functions_in, argument_of, CanBeBuilt, HoldsCores};
 ghost use Rattle.cg_driver_steps.specs.Parts.{Reports};
 
 use crate::build::emit_text;
-use crate::lines::{ran, step_limit};
-use crate::machine::{Machined, run_on};
+use crate::machine::run_on;
 use cg_base::{Items, Memory, Ty};
 use cg_cread::{CFault, read_c};
 use cg_ctree::CProgram;
 use cg_driver_laws::{entries_are_sound, entries_run, none_are_linked};
+use cg_driver_lines::{Machined, ran, step_limit};
 use cg_driver_steps::Report;
 use cg_eval::{EvalFault, eval, more_budget};
 use cg_heap::Scalar;
@@ -64,11 +64,11 @@ fn machine(
     requires ready { CanBeBuilt checked.now }
     requires gives { (argument : Tau) × (v : Val) × (w : Val) × (steps : ℕ) × (steps ≤ 2 ^ 40)
         × IsReady checked.now list.now chosen.at chosen.place argument (type_of ty.now) (the_argument cells.cells arg.now v)
-        × Gives checked.now chosen.at v steps w cost }
+        × Gives no_extern checked.now chosen.at v steps w cost }
     ensures { (argument : Tau) (v w : Val) (steps : ℕ) → steps ≤ 2 ^ 40
         → IsReady checked.now list.now chosen.at chosen.place argument (type_of ty.now) (the_argument cells.cells arg.now v)
-        → Gives checked.now chosen.at v steps w cost
-        → IfOk result (Machines (copies_in checked.now list.now) chosen.place (type_of ty.now) arg.now (filled (map pair_of cells.cells) no_cells) w cost) }
+        → Gives no_extern checked.now chosen.at v steps w cost
+        → IfOk result (Machines no_extern (functions_in checked.now) (copies_in checked.now list.now) chosen.place (type_of ty.now) arg.now (filled (map pair_of cells.cells) no_cells) w cost) }
 {
     let function = function_name(alloc, chosen.place)?;
     let program = emit(alloc, checked, list)?;
@@ -94,11 +94,11 @@ fn run_both(
     requires cores { HoldsCores checked.now }
     requires gives { (argument : Tau) × (v : Val) × (steps : ℕ) × (steps ≤ 2 ^ 40)
         × IsReady checked.now list.now chosen.at chosen.place argument (type_of ty.now) (the_argument cells.cells arg.now v)
-        × Gives checked.now chosen.at v steps (value_of value.now) cost }
+        × Gives no_extern checked.now chosen.at v steps (value_of value.now) cost }
     ensures { (argument : Tau) (v : Val) (steps : ℕ) → steps ≤ 2 ^ 40
         → IsReady checked.now list.now chosen.at chosen.place argument (type_of ty.now) (the_argument cells.cells arg.now v)
-        → Gives checked.now chosen.at v steps (value_of value.now) cost
-        → IfOk result (Reports (Executes (functions_in checked.now) (copies_in checked.now list.now) chosen.at (type_of ty.now) (the_argument cells.cells arg.now v) steps)) }
+        → Gives no_extern checked.now chosen.at v steps (value_of value.now) cost
+        → IfOk result (Reports (Executes no_extern (functions_in checked.now) (copies_in checked.now list.now) chosen.at (type_of ty.now) (the_argument cells.cells arg.now v) steps)) }
 {
     let run = machine(alloc, checked, list, chosen, arg, cells, ty, cost)?;
     ran(alloc, ty, value, cost, &run)
@@ -118,7 +118,7 @@ pub(crate) fn execute(
     requires runs { (argument : Tau) × IsReady checked.now list.now chosen.at chosen.place argument (type_of ty.now) (argument_of start) }
     requires few { steps ≤ 2 ^ 40 }
     requires cores { HoldsCores checked.now }
-    ensures { IfOk result (Reports (Executes (functions_in checked.now) (copies_in checked.now list.now) chosen.at (type_of ty.now) (argument_of start) steps)) }
+    ensures { IfOk result (Reports (Executes no_extern (functions_in checked.now) (copies_in checked.now list.now) chosen.at (type_of ty.now) (argument_of start) steps)) }
 {
     let Start {
         cells,

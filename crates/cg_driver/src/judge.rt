@@ -10,10 +10,10 @@ ghost use Rattle.cg_driver_steps.specs.Parts.{Reports, Steps};
 ghost use Rattle.cg_driver.specs.Found.{source_limit};
 ghost use Rattle.cg_driver.specs.Judged.{IsCheckedKernel, IsCheckedSource, IsKernelOf, IsReadSource, RefusesKernel, RefusesProgram, RefusesReading, RefusesSource};
 
-use crate::lines::{beyond, broken, fault, limit_name};
 use cg_base::Memory;
 use cg_check::{Refusal, check};
 use cg_core::Kernel;
+use cg_driver_lines::{beyond, broken, fault, limit_name};
 use cg_driver_steps::{Report, Step};
 use cg_parser::{ParseFault, parse};
 use cg_resolve::{Fault, resolve};

@@ -11,6 +11,7 @@ ghost use Rattle.cg_driver_steps.specs.Scripts.{Answers, ComesTo, Decides};
 ghost use Rattle.cg_driver_words.specs.Words.{Command, build, check, recheck, run};
 ghost use Rattle.cg_driver.specs.Accepted.{BuildWrites, IsAcceptedSource, IsBuildable, IsCertifiedSource, IsRunnable, PrintedIsCertified, WritesItsOwn};
 ghost use Rattle.cg_driver.specs.Commands.{Judgement, certified, typed, Judges, script_of, asked};
+ghost use Rattle.cg_driver.specs.Externs.{Extern, no_extern};
 ghost use Rattle.cg_driver.specs.Found.{Found, functions as functions_found};
 
 use crate::{Status, cogent};
@@ -26,19 +27,19 @@ pub fn honest_cogent(
     out: &mut HonestSink,
 ) -> Status
     // What is printed, with which status, what stands afterwards, and why, to the byte. No count of faults ever rises.
-    ensures answer { Answers Judges (asked words.now)
+    ensures answer { Answers Judges (asked no_extern words.now)
         (world (Some (honest_held files.old)) (λ name. 0) (λ name. 0)) (world (Some (honest_held files.new)) (λ name. 0) (λ name. 0))
         (Some (honest_taken out.old)) (Some (honest_taken out.new)) 0 0 result }
 
     // No file changes, where no step writes.
-    ensures held { WritesNone (asked words.now).steps → honest_held files.new ≡ honest_held files.old }
+    ensures held { WritesNone (asked no_extern words.now).steps → honest_held files.new ≡ honest_held files.old }
 
     // No fault is answered.
     ensures no_read_fault { result ≢ Status.ReadFault }
     ensures no_write_fault { result ≢ Status.WriteFault }
 
     // The status is exactly the one that the steps come to over the files, want of memory apart.
-    ensures decides { Decides (ComesTo Judges (asked words.now) (honest_held files.old)) result ⊎ (result ≡ Status.Memory) }
+    ensures decides { Decides (ComesTo Judges (asked no_extern words.now) (honest_held files.old)) result ⊎ (result ≡ Status.Memory) }
 {
     cogent(alloc, words, files, out)
 }
@@ -60,52 +61,52 @@ pub fn certificates_decide()
 
 /// What a command prints at status 0 of what its steps found is one text.
 pub fn one_text()
-    ensures { (command : Option Command) (found : Found) (a b : List ℕ) → (script_of command).line found a → (script_of command).line found b → a ≡ b }
+    ensures { (table : Extern) (command : Option Command) (found : Found) (a b : List ℕ) → (script_of table command).line found a → (script_of table command).line found b → a ≡ b }
 {}
 
 /// `build` alone writes files: those that it names for the C text and for the certificate.
 pub fn only_build_writes()
-    ensures { (command : Option Command) → WritesItsOwn command }
+    ensures { (table : Extern) (command : Option Command) → WritesItsOwn table command }
 {}
 
 /// At status 0 of `build` the source is accepted, its instances are within the limits, the two files hold their C text and the source's
 /// certificate, and all others stand as they did. What is printed then says of both that they mean the source (`Commands.antt: IsBuilt`).
 pub fn build_writes_both()
-    ensures { BuildWrites }
+    ensures { (table : Extern) → BuildWrites table }
 {}
 
 /// The steps of `check` come to status 0 over exactly the files whose source is accepted: the typing rules derive each function
 /// of the program that it spells, and all is within the limits.
 pub fn status_0_is_acceptance()
-    ensures { (held : Held) (file : List ℕ) → ComesTo Judges (script_of (Some (check file))) held Status.Done
+    ensures { (table : Extern) (held : Held) (file : List ℕ) → ComesTo Judges (script_of table (Some (check file))) held Status.Done
         ↔ ((functions : List Function) × IsAcceptedSource (bytes_at held file) functions) }
 {}
 
 /// The steps of `recheck` come to status 0 over exactly the files whose certificate spells a derivation of the source, with any splits,
 /// and where all is within the limits.
 pub fn status_0_is_a_derivation()
-    ensures { (held : Held) (file certificate : List ℕ) → ComesTo Judges (script_of (Some (recheck file certificate))) held Status.Done
+    ensures { (table : Extern) (held : Held) (file certificate : List ℕ) → ComesTo Judges (script_of table (Some (recheck file certificate))) held Status.Done
         ↔ IsCertifiedSource (bytes_at held file) (bytes_at held certificate) }
 {}
 
 /// The steps of `build` come to status 0 over exactly the files whose source is accepted, and whose instances and certificate are within their
 /// limits.
 pub fn status_0_of_build()
-    ensures { (held : Held) (file text certificate : List ℕ) → ComesTo Judges (script_of (Some (build file text certificate))) held Status.Done
+    ensures { (table : Extern) (held : Held) (file text certificate : List ℕ) → ComesTo Judges (script_of table (Some (build file text certificate))) held Status.Done
         ↔ IsBuildable (bytes_at held file) }
 {}
 
 /// The steps of `run` come to status 0 over exactly the files whose source is accepted and has the entry, which may be run, whose heap file holds
 /// an argument of it, and on which evaluation ends within the steps.
 pub fn status_0_of_run()
-    ensures { (held : Held) (file entry heap : List ℕ) (steps : ℕ) → ComesTo Judges (script_of (Some (run file entry heap steps))) held Status.Done
-        ↔ IsRunnable (bytes_at held file) entry (bytes_at held heap) steps }
+    ensures { (table : Extern) (held : Held) (file entry heap : List ℕ) (steps : ℕ) → ComesTo Judges (script_of table (Some (run file entry heap steps))) held Status.Done
+        ↔ IsRunnable table (bytes_at held file) entry (bytes_at held heap) steps }
 {}
 
 /// A source whose certificate is in order is accepted: where the steps of `recheck` come to status 0, those of `check` do over the same files.
 pub fn rechecked_is_accepted()
-    ensures { (held : Held) (file certificate : List ℕ) → ComesTo Judges (script_of (Some (recheck file certificate))) held Status.Done
-        → ComesTo Judges (script_of (Some (check file))) held Status.Done }
+    ensures { (table : Extern) (held : Held) (file certificate : List ℕ) → ComesTo Judges (script_of table (Some (recheck file certificate))) held Status.Done
+        → ComesTo Judges (script_of table (Some (check file))) held Status.Done }
 {}
 
 /// What `cg_cert`'s `print_cert` prints of a source that `check` keeps is such a certificate of it, where it is within the limit.

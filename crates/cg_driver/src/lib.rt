@@ -14,7 +14,6 @@ mod entry;
 mod execute;
 mod judge;
 mod law;
-mod lines;
 mod machine;
 mod plan;
 mod recheck;

@@ -1,33 +1,22 @@
 // The run of the C of an entry on what a heap file holds.
 ghost use Rattle.std.specs.Prelude.{◌*◌, ◌+◌, ◌≤◌, ◌^◌, IfOk, IsTrue, map};
 ghost use Rattle.cg_base.specs.Types.{type_of};
-ghost use Rattle.cg_cmachine_def.specs.WordRuns.{no_cells};
 ghost use Rattle.cg_ctree.specs.Trees.{program_of};
 ghost use Rattle.cg_driver.specs.Executed.{GivesAlike, ReadsBack, Runs};
+ghost use Rattle.cg_driver.specs.Externs.{unlinked};
 ghost use Rattle.cg_heap.specs.FirstOrder.{is_first_order};
 ghost use Rattle.cg_heaptext_contents.specs.Placings.{pair_of};
-ghost use Rattle.cg_driver.specs.Run.{filled};
+ghost use Rattle.cg_driver.specs.Run.{filled, no_cells};
 ghost use Rattle.cg_heaptext_def.specs.Placed.{CanBePlaced};
 ghost use Rattle.cg_value.specs.Values.{Val};
 
 use cg_base::{Items, Memory, Name, Sigil, Ty};
 use cg_cmachine::{Ran, RunFault, run_c};
 use cg_ctree::CProgram;
+use cg_driver_lines::Machined;
 use cg_heap::{MapStore, Scalar, Store, reached, read_out};
 use cg_heaptext::{Start, fill};
-use cg_value::Value;
 use std::alloc::Global;
-
-/// What a run of C gave: the value that its result represents, its steps, the addresses of the cells that it made and freed, and of those that
-/// may be written through its result.
-#[derive(Drop)]
-pub(crate) struct Machined {
-    pub value: Value,
-    pub steps: u64,
-    pub made: Items<u64>,
-    pub freed: Items<u64>,
-    pub kept: Items<u64>,
-}
 
 /// What the result of a run represents in its store.
 fn read_back<S: Store>(alloc: Global, store: &S, ty: &Ty, ran: Ran) -> Result<Machined, Memory>
@@ -57,9 +46,9 @@ pub(crate) fn run_on(
     requires few { cost ≤ 2 ^ 40 }
     requires placeable { CanBePlaced (map pair_of cells.cells) }
     requires plain { IsTrue (is_first_order (type_of ty.now)) }
-    requires ends { (value : Val) × GivesAlike (program_of program.now) function.now arg.now (filled (map pair_of cells.cells) no_cells) (type_of ty.now) value cost }
-    ensures { (value : Val) → GivesAlike (program_of program.now) function.now arg.now (filled (map pair_of cells.cells) no_cells) (type_of ty.now) value cost
-        → IfOk result (Runs (program_of program.now) function.now arg.now (filled (map pair_of cells.cells) no_cells) (32 * cost + 32) (type_of ty.now) value) }
+    requires ends { (value : Val) × GivesAlike (unlinked (program_of program.now)) function.now arg.now (filled (map pair_of cells.cells) no_cells) (type_of ty.now) value cost }
+    ensures { (value : Val) → GivesAlike (unlinked (program_of program.now)) function.now arg.now (filled (map pair_of cells.cells) no_cells) (type_of ty.now) value cost
+        → IfOk result (Runs (unlinked (program_of program.now)) function.now arg.now (filled (map pair_of cells.cells) no_cells) (32 * cost + 32) (type_of ty.now) value) }
 {
     let mut store = MapStore::new(alloc);
     fill(cells, &mut store)?;

@@ -2,13 +2,14 @@
 ghost use Rattle.cg_driver_steps.specs.World.{world};
 ghost use Rattle.cg_driver_steps.specs.Parts.{Concludes};
 ghost use Rattle.cg_driver.specs.Commands.{Judges, asked as script_asked};
+ghost use Rattle.cg_driver.specs.Externs.{no_extern};
 
 use crate::build::{Named, build_file};
 use crate::check::check_file;
-use crate::lines::usage;
 use crate::recheck::recheck_file;
 use crate::run::{Asked, run_file};
 use cg_base::Memory;
+use cg_driver_lines::usage;
 use cg_driver_steps::Report;
 use cg_driver_words::{Command, read_words};
 use cg_outside::Files;
@@ -20,7 +21,7 @@ pub(crate) fn plan<F: Files>(
     words: &[String],
     files: &mut F,
 ) -> Result<Report, Memory>
-    ensures { Concludes Judges (script_asked words.now).line (script_asked words.now).steps (script_asked words.now).start
+    ensures { Concludes Judges (script_asked no_extern words.now).line (script_asked no_extern words.now).steps (script_asked no_extern words.now).start
         (world (F.held files.old) (F.failed_reads files.old) (F.failed_writes files.old))
         (world (F.held files.new) (F.failed_reads files.new) (F.failed_writes files.new)) result }
 {

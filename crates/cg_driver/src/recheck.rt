@@ -11,11 +11,11 @@ ghost use Rattle.cg_driver.specs.Found.{Found, nothing, functions as functions_f
 ghost use Rattle.cg_driver.specs.Judged.{IsCertificate, RefusesCert, RefusesText};
 
 use crate::judge::{SOURCE_LIMIT, read_source};
-use crate::lines::{beyond, limit_name, rechecked, wrong_byte, wrong_node};
 use cg_base::Memory;
 use cg_cert::{Cert, CertFault, read_cert};
 use cg_certcheck::recheck;
 use cg_core::Kernel;
+use cg_driver_lines::{beyond, limit_name, rechecked, wrong_byte, wrong_node};
 use cg_driver_steps::{Report, Step, read_file};
 use cg_outside::Files;
 use std::alloc::Global;

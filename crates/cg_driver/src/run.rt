@@ -8,6 +8,7 @@ ghost use Rattle.cg_driver_steps.specs.Parts.{Concludes, Rules, Steps};
 ghost use Rattle.cg_driver.specs.Built.{CanRun, KeepsCopies};
 ghost use Rattle.cg_driver.specs.Entered.{argument_type, result_type};
 ghost use Rattle.cg_driver.specs.Commands.{Judges, entry_rules, instanced, run_rules, reads_source, heap_steps, run_steps, ran_lines};
+ghost use Rattle.cg_driver.specs.Externs.{no_extern};
 ghost use Rattle.cg_driver.specs.Found.{Found, nothing, functions as functions_found};
 ghost use Rattle.cg_driver.specs.Judged.{functions_in, CanBeBuilt, HaveEntryTypes, HoldsCores, IsAllowed, IsStartOf, RefusesBytes};
 
@@ -15,9 +16,9 @@ use crate::build::listed;
 use crate::entry::{entry_of, entry_types, instance_place};
 use crate::execute::{Entry, execute};
 use crate::judge::{SOURCE_LIMIT, judge};
-use crate::lines::{beyond, heap_refused};
 use cg_base::{Memory, Ty};
 use cg_driver_entry_laws::entries_have_types;
+use cg_driver_lines::{beyond, heap_refused};
 use cg_driver_steps::{Report, Step, read_file};
 use cg_heaptext::{Start, read_heap};
 use cg_inst::Instances;
@@ -68,7 +69,7 @@ fn run_bytes(
     requires few { asked.now.steps ≤ 2 ^ 40 }
     requires cores { HoldsCores checked.now }
     ensures { (found : Found) → KeepsCopies checked.now list.now found → found.at ≡ chosen.at → found.heap ≡ bytes.now
-        → Rules Judges ran_lines (run_rules asked.now.heap.now asked.now.steps) found result }
+        → Rules Judges (ran_lines no_extern) (run_rules no_extern asked.now.heap.now asked.now.steps) found result }
 {
     match start_of(alloc, asked.heap, bytes, takes) {
         Err(_) => Err(Memory),
@@ -93,7 +94,7 @@ fn run_ready<F: Files>(
     requires few { asked.now.steps ≤ 2 ^ 40 }
     requires cores { HoldsCores checked.now }
     ensures { (found : Found) → KeepsCopies checked.now list.now found → found.at ≡ chosen.at
-        → Concludes Judges ran_lines (heap_steps asked.now.heap.now asked.now.steps) found
+        → Concludes Judges (ran_lines no_extern) (heap_steps no_extern asked.now.heap.now asked.now.steps) found
         (world (F.held files.old) (F.failed_reads files.old) (F.failed_writes files.old))
         (world (F.held files.new) (F.failed_reads files.new) (F.failed_writes files.new)) result }
 {
@@ -123,7 +124,7 @@ fn run_listed<F: Files>(
     requires few { asked.now.steps ≤ 2 ^ 40 }
     requires cores { HoldsCores checked.now }
     ensures { (found : Found) → functions_found found ≡ functions_in checked.now → found.at ≡ at
-        → Concludes Judges ran_lines (judged_first (instanced ∷ []) (heap_steps asked.now.heap.now asked.now.steps)) found
+        → Concludes Judges (ran_lines no_extern) (judged_first (instanced ∷ []) (heap_steps no_extern asked.now.heap.now asked.now.steps)) found
         (world (F.held files.old) (F.failed_reads files.old) (F.failed_writes files.old))
         (world (F.held files.new) (F.failed_reads files.new) (F.failed_writes files.new)) result }
 {
@@ -150,7 +151,7 @@ fn run_checked<F: Files>(
     requires ready { CanBeBuilt checked.now }
     requires typed { HaveEntryTypes (functions_in checked.now) }
     ensures { (found : Found) → functions_found found ≡ functions_in checked.now
-        → Concludes Judges ran_lines (judged_first (entry_rules asked.now.file.now asked.now.entry.now ++ instanced ∷ []) (heap_steps asked.now.heap.now asked.now.steps)) found
+        → Concludes Judges (ran_lines no_extern) (judged_first (entry_rules asked.now.file.now asked.now.entry.now ++ instanced ∷ []) (heap_steps no_extern asked.now.heap.now asked.now.steps)) found
         (world (F.held files.old) (F.failed_reads files.old) (F.failed_writes files.old))
         (world (F.held files.new) (F.failed_reads files.new) (F.failed_writes files.new)) result }
 {
@@ -170,7 +171,7 @@ fn run_source<F: Files>(
 ) -> Result<Report, Memory>
     requires few { asked.now.steps ≤ 2 ^ 40 }
     ensures { (found : Found) → found.source ≡ source.now
-        → Concludes Judges ran_lines (run_steps asked.now.file.now asked.now.entry.now asked.now.heap.now asked.now.steps) found
+        → Concludes Judges (ran_lines no_extern) (run_steps no_extern asked.now.file.now asked.now.entry.now asked.now.heap.now asked.now.steps) found
         (world (F.held files.old) (F.failed_reads files.old) (F.failed_writes files.old))
         (world (F.held files.new) (F.failed_reads files.new) (F.failed_writes files.new)) result }
 {
@@ -192,7 +193,7 @@ pub(crate) fn run_file<F: Files>(
     files: &mut F,
 ) -> Result<Report, Memory>
     requires few { asked.now.steps ≤ 2 ^ 40 }
-    ensures { Concludes Judges ran_lines (reads_source asked.now.file.now ∷ run_steps asked.now.file.now asked.now.entry.now asked.now.heap.now asked.now.steps) nothing
+    ensures { Concludes Judges (ran_lines no_extern) (reads_source asked.now.file.now ∷ run_steps no_extern asked.now.file.now asked.now.entry.now asked.now.heap.now asked.now.steps) nothing
         (world (F.held files.old) (F.failed_reads files.old) (F.failed_writes files.old))
         (world (F.held files.new) (F.failed_reads files.new) (F.failed_writes files.new)) result }
 {

@@ -1,7 +1,7 @@
 use Rattle.cg_driver_steps.specs.declared.status.Status.TheVariants.{TooLarge}
 use Rattle.cg_driver.specs.Built.{RefusesInstances}
 use Rattle.cg_driver.specs.Judged.{functions_in}
-use Rattle.cg_driver.specs.Lines.{limit_line}
+use Rattle.cg_driver_lines.specs.Lines.{limit_line}
 use Rattle.cg_driver.proofs.Building.{instances_refused}
 use Rattle.cg_driver.proofs.Saying.{line_says}
 use Rattle.cg_driver.proofs.build.listed.Goals as goal

@@ -1,6 +1,6 @@
 use Rattle.cg_driver_steps.specs.declared.status.Status.TheVariants.{Refused}
 use Rattle.cg_driver.specs.Judged.{RefusesEntry}
-use Rattle.cg_driver.specs.Lines.{no_entry_line}
+use Rattle.cg_driver_lines.specs.Lines.{no_entry_line}
 use Rattle.cg_driver.proofs.Saying.{absent_refused, entry_found, entry_told, line_says}
 use Rattle.cg_driver.proofs.entry.entry_of.Goals as goal
 

@@ -1,7 +1,7 @@
 use Rattle.cg_core.specs.Kernels.{kernel_of}
 use Rattle.cg_driver_steps.specs.declared.status.Status.TheVariants.{Refused, TooLarge}
 use Rattle.cg_driver.specs.Judged.{RefusesKernel}
-use Rattle.cg_driver.specs.Lines.{fault_line, rule_line, limit_line}
+use Rattle.cg_driver_lines.specs.Lines.{fault_line, rule_line, limit_line}
 use Rattle.cg_driver.proofs.Saying.{line_says, kernel_kept, rule_refused, type_refused}
 use Rattle.cg_driver.proofs.judge.judge_kernel.Goals as goal
 

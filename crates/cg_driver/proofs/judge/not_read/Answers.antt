@@ -3,7 +3,7 @@ use Rattle.std.specs.Prelude.{codes}
 use Rattle.cg_driver_steps.specs.declared.status.Status.TheVariants.{Refused, TooLarge}
 use Rattle.cg_driver.specs.Commands.{unknown_byte, open_comment, unexpected, wrong_bar}
 use Rattle.cg_driver.specs.Judged.{RefusesReading}
-use Rattle.cg_driver.specs.Lines.{fault_line, limit_line}
+use Rattle.cg_driver_lines.specs.Lines.{fault_line, limit_line}
 use Rattle.cg_driver.proofs.Saying.{line_told, syntax_refused, deep_refused}
 use Rattle.cg_driver.proofs.judge.not_read.Goals as goal
 

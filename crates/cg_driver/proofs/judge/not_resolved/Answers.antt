@@ -2,7 +2,7 @@ use Rattle.std.specs.Prelude.{codes}
 use Rattle.cg_resolve_def.specs.Faults.{unknown, twice, arguments}
 use Rattle.cg_driver_steps.specs.declared.status.Status.TheVariants.{Refused, TooLarge}
 use Rattle.cg_driver.specs.Judged.{RefusesProgram}
-use Rattle.cg_driver.specs.Lines.{fault_line, limit_line}
+use Rattle.cg_driver_lines.specs.Lines.{fault_line, limit_line}
 use Rattle.cg_driver.proofs.Saying.{line_told, misnamed, circular, untakable, limited}
 use Rattle.cg_driver.proofs.judge.not_resolved.Goals as goal
 

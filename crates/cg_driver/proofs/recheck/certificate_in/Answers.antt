@@ -1,6 +1,6 @@
 use Rattle.cg_driver_steps.specs.declared.status.Status.TheVariants.{CertRefused}
 use Rattle.cg_driver.specs.Judged.{RefusesText}
-use Rattle.cg_driver.specs.Lines.{byte_line}
+use Rattle.cg_driver_lines.specs.Lines.{byte_line}
 use Rattle.cg_driver.proofs.Rechecking.{byte_refused}
 use Rattle.cg_driver.proofs.Saying.{line_says}
 use Rattle.cg_driver.proofs.recheck.certificate_in.Goals as goal

@@ -1,7 +1,7 @@
 use Rattle.std.specs.Prelude.{codes}
 use Rattle.cg_driver_steps.specs.declared.status.Status.TheVariants.{CertRefused, TooLarge}
 use Rattle.cg_driver.specs.Judged.{RefusesCert}
-use Rattle.cg_driver.specs.Lines.{node_line, limit_line}
+use Rattle.cg_driver_lines.specs.Lines.{node_line, limit_line}
 use Rattle.cg_driver.proofs.Rechecking.{row_refused, place_refused, size_refused}
 use Rattle.cg_driver.proofs.Saying.{line_told}
 use Rattle.cg_driver.proofs.recheck.not_certified.Goals as goal

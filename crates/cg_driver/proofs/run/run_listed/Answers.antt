@@ -2,6 +2,7 @@ use Rattle.std.proofs.Common.{[], ◌∷◌, ap, ◌∙◌, Ok}
 use Rattle.cg_driver_steps.proofs.Following.{judged_ended, judged_follows, judged_halted}
 use Rattle.cg_driver_steps.specs.Steps.{judged_first}
 use Rattle.cg_driver.specs.Commands.{Judges, heap_steps, instanced, ran_lines}
+use Rattle.cg_driver.specs.Externs.{no_extern}
 use Rattle.cg_driver.specs.Built.{IsListed, RefusesInstances}
 use Rattle.cg_driver.specs.Judged.{functions_in}
 use Rattle.cg_driver.proofs.Building.{IsListedIn, listed_judged}
@@ -17,17 +18,17 @@ run_ready-requires-clause-runs g c = record {
 }
 
 pub returns-in-Err : goal.returns-in-Err
-returns-in-Err g c found same there = judged_halted Judges ran_lines (judged_first (instanced ∷ []) (heap_steps c.args.asked.now.heap.now c.args.asked.now.steps)) found _ _
+returns-in-Err g c found same there = judged_halted Judges (ran_lines no_extern) (judged_first (instanced ∷ []) (heap_steps no_extern c.args.asked.now.heap.now c.args.asked.now.steps)) found _ _
 
 pub returns-in-Ok-Ends : goal.returns-in-Ok-Ends
 returns-in-Ok-Ends g c found same there =
-    judged_ended Judges (IsListedIn c.args.checked.now found) ran_lines (instanced ∷ []) (heap_steps c.args.asked.now.heap.now c.args.asked.now.steps)
+    judged_ended Judges (IsListedIn c.args.checked.now found) (ran_lines no_extern) (instanced ∷ []) (heap_steps no_extern c.args.asked.now.heap.now c.args.asked.now.steps)
     found _ c.listed.result c.in-Ok-Ends.report (c.in-Ok-Ends.is ∙ ap Ok c.in-Ok-Ends.field-0-is)
     (listed_judged c.args.checked.now c.requires.cores found same c.listed.result c.listed.ensures)
 
 pub returns-in-Ok-Goes : goal.returns-in-Ok-Goes
 returns-in-Ok-Goes g c found same there =
-    judged_follows Judges (IsListedIn c.args.checked.now found) ran_lines (instanced ∷ []) (heap_steps c.args.asked.now.heap.now c.args.asked.now.steps)
+    judged_follows Judges (IsListedIn c.args.checked.now found) (ran_lines no_extern) (instanced ∷ []) (heap_steps no_extern c.args.asked.now.heap.now c.args.asked.now.steps)
     found _ _ c.listed.result c.in-Ok-Goes.list c.run_ready.result (c.in-Ok-Goes.is ∙ ap Ok c.in-Ok-Goes.field-0-is)
     (listed_judged c.args.checked.now c.requires.cores found same c.listed.result c.listed.ensures)
     (λ next kept. c.run_ready.ensures next kept.kept (kept.at ∙ there))

@@ -1,7 +1,7 @@
 use Rattle.cg_base.specs.Types.{type_of}
 use Rattle.cg_driver_steps.specs.declared.status.Status.TheVariants.{HeapRefused}
 use Rattle.cg_driver.specs.Judged.{RefusesBytes}
-use Rattle.cg_driver.specs.Lines.{heap_line}
+use Rattle.cg_driver_lines.specs.Lines.{heap_line}
 use Rattle.cg_driver.proofs.Saying.{heap_fault_refused, line_says, start_here}
 use Rattle.cg_driver.proofs.run.start_of.Goals as goal
 

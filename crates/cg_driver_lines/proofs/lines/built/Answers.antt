@@ -1,6 +1,6 @@
 use Rattle.std.proofs.Common.{◌∙◌, append_assoc}
-use Rattle.cg_driver.proofs.Counting.{counted}
-use Rattle.cg_driver.proofs.lines.built.Goals as goal
+use Rattle.cg_driver_lines.proofs.Counting.{counted}
+use Rattle.cg_driver_lines.proofs.lines.built.Goals as goal
 
 pub returns : goal.returns
 returns c = (c.of_text.ensures.0, c.of_text.ensures.1 ∙ simp append_assoc (rw (counted _, ← c.count_functions-count.ensures) c.in_ok-format.ensures.ok))

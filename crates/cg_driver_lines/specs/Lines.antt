@@ -98,6 +98,11 @@ heap_line heap (H6 line) = heap_rule heap line (codes "H6 writable cell reached 
 heap_line heap (H7 line) = heap_rule heap line (codes "H7 too many cells or elements")
 heap_line heap Memory = []
 
+-- a fault of a heap file, and not want of memory
+abbrev pub IsFaultOfFile : HeapFault → Type 0
+IsFaultOfFile Memory = ⊥
+IsFaultOfFile fault = ⊤
+
 -- a limit, and the step limit
 abbrev pub limit_line : List ℕ → List ℕ
 limit_line name = codes "limit: " ++ name ++ codes "\n"

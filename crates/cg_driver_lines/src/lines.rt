@@ -4,11 +4,11 @@ ghost use Rattle.cg_base.specs.Types.{type_of};
 ghost use Rattle.cg_core.specs.Kernels.{function_of};
 ghost use Rattle.cg_value.specs.Printed.{printed};
 ghost use Rattle.cg_value.specs.Values.{value_of};
-ghost use Rattle.cg_driver.specs.Lines as lines;
-ghost use Rattle.cg_driver.specs.Judged.{IsFaultOfFile};
+ghost use Rattle.cg_driver_lines.specs.Lines as lines;
+ghost use Rattle.cg_driver_lines.specs.Lines.{IsFaultOfFile};
 ghost use Rattle.cg_driver_steps.specs.Parts.{IsLine};
 
-use crate::machine::Machined;
+use crate::Machined;
 use cg_base::{Limit, Memory, Place, Ty};
 use cg_core::KFun;
 use cg_driver_steps::{Report, Status};
@@ -18,7 +18,7 @@ use cg_value::{Value, print_value};
 use std::alloc::Global;
 
 /// The usage text.
-pub(crate) fn usage(alloc: Global) -> Result<Report, Memory>
+pub fn usage(alloc: Global) -> Result<Report, Memory>
     ensures { IfOk result (λ r. IsLine Status.Usage lines.usage_text r) }
 {
     Ok(Report::of_text(
@@ -31,7 +31,7 @@ pub(crate) fn usage(alloc: Global) -> Result<Report, Memory>
 }
 
 /// The refusal of a source at a place, by a rule with its text.
-pub(crate) fn fault(alloc: Global, file: &str, place: Place, rule: &str) -> Result<Report, Memory>
+pub fn fault(alloc: Global, file: &str, place: Place, rule: &str) -> Result<Report, Memory>
     ensures { IfOk result (λ r. IsLine Status.Refused (lines.fault_line file.now place rule.now) r) }
 {
     let Place { line, column } = place;
@@ -71,7 +71,7 @@ fn rule_name(rule: Rule) -> &'static str
 }
 
 /// The refusal of a source at a place, by a rule of kinds or types.
-pub(crate) fn broken(alloc: Global, file: &str, place: Place, rule: Rule) -> Result<Report, Memory>
+pub fn broken(alloc: Global, file: &str, place: Place, rule: Rule) -> Result<Report, Memory>
     ensures { IfOk result (λ r. IsLine Status.Refused (lines.fault_line file.now place (lines.rule_line rule)) r) }
 {
     let Place { line, column } = place;
@@ -84,7 +84,7 @@ pub(crate) fn broken(alloc: Global, file: &str, place: Place, rule: Rule) -> Res
 }
 
 /// The refusal of an entry that isn't there.
-pub(crate) fn no_entry(alloc: Global, file: &str) -> Result<Report, Memory>
+pub fn no_entry(alloc: Global, file: &str) -> Result<Report, Memory>
     ensures { IfOk result (λ r. IsLine Status.Refused (lines.no_entry_line file.now) r) }
 {
     Ok(Report::of_text(
@@ -94,7 +94,7 @@ pub(crate) fn no_entry(alloc: Global, file: &str) -> Result<Report, Memory>
 }
 
 /// The refusal of an entry whose type isn't allowed.
-pub(crate) fn no_entry_type(alloc: Global, file: &str) -> Result<Report, Memory>
+pub fn no_entry_type(alloc: Global, file: &str) -> Result<Report, Memory>
     ensures { IfOk result (λ r. IsLine Status.Refused (lines.entry_type_line file.now) r) }
 {
     Ok(Report::of_text(
@@ -104,7 +104,7 @@ pub(crate) fn no_entry_type(alloc: Global, file: &str) -> Result<Report, Memory>
 }
 
 /// The refusal of an entry that reaches an abstract function.
-pub(crate) fn abstract_reached(alloc: Global, file: &str) -> Result<Report, Memory>
+pub fn abstract_reached(alloc: Global, file: &str) -> Result<Report, Memory>
     ensures { IfOk result (λ r. IsLine Status.Refused (lines.abstract_line file.now) r) }
 {
     Ok(Report::of_text(
@@ -124,7 +124,7 @@ fn heap_rule(alloc: Global, heap: &str, line: u32, rule: &str) -> Result<Report,
 }
 
 /// The refusal of a heap file by its first fault.
-pub(crate) fn heap_refused(alloc: Global, heap: &str, fault: HeapFault) -> Result<Report, Memory>
+pub fn heap_refused(alloc: Global, heap: &str, fault: HeapFault) -> Result<Report, Memory>
     ensures { IfOk result (λ r. IsLine Status.HeapRefused (lines.heap_line heap.now fault) r × IsFaultOfFile fault) }
 {
     match fault {
@@ -140,7 +140,7 @@ pub(crate) fn heap_refused(alloc: Global, heap: &str, fault: HeapFault) -> Resul
 }
 
 /// The name of a limit (docs/LANGUAGE.md, "Limits").
-pub(crate) fn limit_name(limit: Limit) -> &'static str
+pub fn limit_name(limit: Limit) -> &'static str
     ensures { result.now ≡ lines.limit_name limit }
 {
     match limit {
@@ -158,14 +158,14 @@ pub(crate) fn limit_name(limit: Limit) -> &'static str
 }
 
 /// The line of a limit.
-pub(crate) fn beyond(alloc: Global, limit: &str) -> Result<Report, Memory>
+pub fn beyond(alloc: Global, limit: &str) -> Result<Report, Memory>
     ensures { IfOk result (λ r. IsLine Status.TooLarge (lines.limit_line limit.now) r) }
 {
     Ok(Report::of_text(Status::TooLarge, format!(in alloc; "limit: {limit}\n")?))
 }
 
 /// The line of the step limit.
-pub(crate) fn step_limit(alloc: Global, steps: u64) -> Result<Report, Memory>
+pub fn step_limit(alloc: Global, steps: u64) -> Result<Report, Memory>
     ensures { IfOk result (λ r. IsLine Status.StepLimit (lines.step_limit_line steps) r) }
 {
     Ok(Report::of_text(
@@ -186,7 +186,7 @@ fn count_functions(functions: &[KFun]) -> usize
 }
 
 /// The line of an accepted kernel.
-pub(crate) fn accepted(alloc: Global, functions: &[KFun]) -> Result<Report, Memory>
+pub fn accepted(alloc: Global, functions: &[KFun]) -> Result<Report, Memory>
     ensures { IfOk result (λ r. IsLine Status.Done (lines.ok_line (map function_of functions.now)) r) }
 {
     let count = count_functions(functions);
@@ -194,7 +194,7 @@ pub(crate) fn accepted(alloc: Global, functions: &[KFun]) -> Result<Report, Memo
 }
 
 /// The line of a source that is written, with so many instances.
-pub(crate) fn built(alloc: Global, functions: &[KFun], instances: usize) -> Result<Report, Memory>
+pub fn built(alloc: Global, functions: &[KFun], instances: usize) -> Result<Report, Memory>
     ensures { IfOk result (λ r. IsLine Status.Done (lines.built_line (map function_of functions.now) instances) r) }
 {
     let count = count_functions(functions);
@@ -205,14 +205,14 @@ pub(crate) fn built(alloc: Global, functions: &[KFun], instances: usize) -> Resu
 }
 
 /// The line of a certificate that spells a derivation.
-pub(crate) fn rechecked(alloc: Global) -> Result<Report, Memory>
+pub fn rechecked(alloc: Global) -> Result<Report, Memory>
     ensures { IfOk result (λ r. IsLine Status.Done lines.rechecked_line r) }
 {
     Ok(Report::of_text(Status::Done, String::from_str(alloc, "ok\n")?))
 }
 
 /// The refusal of a certificate at a byte of its text.
-pub(crate) fn wrong_byte(alloc: Global, certificate: &str, byte: usize) -> Result<Report, Memory>
+pub fn wrong_byte(alloc: Global, certificate: &str, byte: usize) -> Result<Report, Memory>
     ensures { IfOk result (λ r. IsLine Status.CertRefused (lines.byte_line certificate.now byte) r) }
 {
     Ok(Report::of_text(
@@ -222,12 +222,7 @@ pub(crate) fn wrong_byte(alloc: Global, certificate: &str, byte: usize) -> Resul
 }
 
 /// The refusal of a certificate at a node, by a rule.
-pub(crate) fn wrong_node(
-    alloc: Global,
-    certificate: &str,
-    rule: &str,
-    node: u64,
-) -> Result<Report, Memory>
+pub fn wrong_node(alloc: Global, certificate: &str, rule: &str, node: u64) -> Result<Report, Memory>
     ensures { IfOk result (λ r. IsLine Status.CertRefused (lines.node_line certificate.now rule.now node) r) }
 {
     Ok(Report::of_text(
@@ -273,7 +268,7 @@ fn count_lines(alloc: Global, cost: u64, run: &Machined) -> Result<String, Memor
 
 /// The seven lines of a run whose results have this type.
 #[tactic(auto, using(std::proofs::lemmas::Grind::common_steps))]
-pub(crate) fn ran(
+pub fn ran(
     alloc: Global,
     ty: &Ty,
     value: &Value,
