@@ -1,5 +1,5 @@
 -- The lines that are printed (docs/LANGUAGE.md, "Commands").
-use Rattle.std.specs.Prelude.{ℕ, List, [], ◌++◌, codes, count_by, decimal, is_some, length}
+use Rattle.std.specs.Prelude.{ℕ, List, [], ◌++◌, codes, count_by, decimal, is_some, length, ⊤}
 use Rattle.cg_base.specs.declared.limit.Limit.{Limit}
 use Rattle.cg_base.specs.declared.limit.Limit.TheVariants.{Source, Nesting, Functions, Fields, Ty, Depth, Instances, Core, Heap, Certificate}
 use Rattle.cg_base.specs.declared.place.Place.{Place}
