@@ -1,5 +1,5 @@
 -- What the checker's answer and the parts of a run say, as the code has them.
-use Rattle.std.specs.Prelude.{◌≡◌, ℕ, ◌≤◌, true, List, [], ◌∷◌, length, map, slice_get, Some, ⊤}
+use Rattle.std.specs.Prelude.{◌≡◌, ℕ, ◌≤◌, true, List, [], ◌∷◌, length, map, slice_get, Some}
 use Rattle.cg_cert.specs.declared.cert.Cert.{Cert}
 use Rattle.cg_cert.specs.Laws.{AreNamed}
 use Rattle.cg_cert.specs.Texts.{CertText}
