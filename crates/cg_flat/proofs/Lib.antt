@@ -1,0 +1,16 @@
+mod Calls
+mod Cells
+mod Counts
+mod Gaps
+mod Gives
+mod Laid
+mod Looks
+mod Loops
+mod Maps
+mod Needs
+mod Rooms
+mod Shorter
+mod Sounds
+mod Steps
+mod Stores
+mod Wordy

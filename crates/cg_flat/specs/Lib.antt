@@ -1,0 +1,4 @@
+pub mod Around
+pub mod Codes
+pub mod Flat
+pub mod Seen
