@@ -13,6 +13,9 @@ use Rattle.cg_base.specs.Words.{bits}
 pub one_more : (m : ℕ) → suc m ≡ m + 1
 one_more m = omega arith
 
+pub is_equal : (x k : ℕ) → x ≡ k → nat_eq x k ≡ true
+is_equal x k e = grind (arith, nat_tests)
+
 pub is_other : (x k : ℕ) → (x ≡ k → ⊥) → nat_eq x k ≡ false
 is_other x k e = grind (arith, nat_tests)
 

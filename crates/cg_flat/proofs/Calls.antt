@@ -11,11 +11,11 @@ use Rattle.cg_heap.specs.declared.cell.Form.{Form}
 use Rattle.cg_heap.specs.declared.cell.Form.TheVariants as form
 use Rattle.cg_heap.specs.declared.cell.Scalar.{Scalar}
 use Rattle.cg_heap.specs.Stored.{answer_of, asked_of, changed, with_element, with_slot, without_answer}
+use Rattle.cg_heap.proofs.Shorter.{answer_shorter, element_shorter, field_shorter}
 use Rattle.cg_flat.specs.declared.span.Span.{Span}
 use Rattle.cg_flat.specs.Flat.{Flat, IsFlat, answer_taken, answers_in, cell_in, cell_of, element_written, over, scalar_words, slot_written, span_words, start_at, start_of, stored_of, written}
 use Rattle.cg_flat.proofs.Cells.{scalar_long}
 use Rattle.cg_flat.proofs.Counts.{within_words}
-use Rattle.cg_flat.proofs.Shorter.{answer_shorter, element_shorter, field_shorter}
 use Rattle.cg_flat.proofs.Steps.{Does, answer_in_kind, done, element_in_kind, rewritten, slot_in_kind}
 use Rattle.cg_flat.proofs.Wordy.{length_span}
 

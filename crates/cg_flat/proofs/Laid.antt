@@ -9,6 +9,7 @@ use Rattle.std.specs.Ordering.{nat_cmp, eq_by_cmp}
 use Rattle.cg_base.proofs.Options.{some_is}
 use Rattle.cg_heap.specs.declared.cell.Form.{Form}
 use Rattle.cg_heap.specs.Stored.{cell_length, without_cell}
+use Rattle.cg_heap.proofs.Sounds.{sound_with, sound_without}
 use Rattle.cg_flat.specs.Around.{AreAround, AreWithin}
 use Rattle.cg_flat.specs.declared.span.Hole.{Hole}
 use Rattle.cg_flat.specs.declared.span.Span.{Span}
@@ -17,7 +18,6 @@ use Rattle.cg_flat.proofs.Counts.{below_tells, has_inside, has_tells, one_of, sp
 use Rattle.cg_flat.proofs.Gaps.{from_apart, put_apart, put_has}
 use Rattle.cg_flat.proofs.Maps.{alike, each_put, each_without, got_put, got_put_other, got_removed, got_removed_other}
 use Rattle.cg_flat.proofs.Rooms.{Takes, filled_apart, fits}
-use Rattle.cg_flat.proofs.Sounds.{sound_with, sound_without}
 use Rattle.cg_flat.proofs.Stores.{each_kept, same_cell}
 use Rattle.cg_flat.proofs.Wordy.{length-written, span_kept, span_laid, written_grown, zeros, zeros_long}
 

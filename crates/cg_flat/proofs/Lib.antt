@@ -9,8 +9,6 @@ mod Loops
 mod Maps
 mod Needs
 mod Rooms
-mod Shorter
-mod Sounds
 mod Steps
 mod Stores
 mod Wordy

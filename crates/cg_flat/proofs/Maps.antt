@@ -1,16 +1,15 @@
 -- Maps from addresses, as ordered maps hold them, and maps whose values are made anew.
-use Rattle.std.proofs.Common.{rules, ◌≡◌, ℕ, Bool, true, false, cond, List, [], ◌∷◌, map, refl, sym, ap, ◌∙◌}
+use Rattle.std.proofs.Common.{◌≡◌, ℕ, Bool, true, false, cond, List, [], ◌∷◌, map, refl, sym, ap, ◌∙◌}
 use Rattle.std.specs.BTreeMap.{BTreeMap, is_at, Updates}
 use Rattle.std.specs.Cmp.{nat_cmp_total, eq_by_cmp_equiv}
 use Rattle.std.specs.FinMap as table
 use Rattle.std.specs.FinMap.{FinMap, find, get-entries, get-insert, get-remove, get-from_entries, same_map, nat_cmp-IsAntisymmetric}
 use Rattle.std.specs.Map.{lookup}
 use Rattle.std.specs.Option.{option_map}
-use Rattle.std.specs.declared.cmp.Ordering.{Ordering}
-use Rattle.std.specs.declared.cmp.Ordering.TheVariants.{Less, Equal, Greater}
 use Rattle.std.specs.declared.option.Option.{Option}
 use Rattle.std.specs.declared.option.Option.TheVariants.{None, Some}
-use Rattle.std.specs.Ordering.{nat_cmp, eq_by_cmp, is_eq}
+use Rattle.std.specs.Ordering.{nat_cmp, eq_by_cmp}
+use Rattle.cg_heap.proofs.Sounds.{alike as cell_alike}
 use Rattle.cg_flat.specs.Flat.{each}
 
 -- ---- what an ordered map holds
@@ -40,13 +39,8 @@ taken_out old new k updates =
 
 -- ---- two addresses
 
-alike_by : (x y : ℕ) (r : Ordering) → nat_cmp x y ≡ r → is_eq r ≡ true → x ≡ y
-alike_by x y Less e same = absurd (search rules)
-alike_by x y Equal e same = nat_cmp-IsAntisymmetric x y e
-alike_by x y Greater e same = absurd (search rules)
-
 pub alike : (x y : ℕ) → eq_by_cmp nat_cmp x y ≡ true → x ≡ y
-alike x y e = alike_by x y (nat_cmp x y) refl e
+alike x y e = cell_alike x y (nat_cmp x y) refl e
 
 pub itself : (x : ℕ) → eq_by_cmp nat_cmp x x ≡ true
 itself x = (eq_by_cmp_equiv nat_cmp_total).refl x

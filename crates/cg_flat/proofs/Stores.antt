@@ -9,11 +9,11 @@ use Rattle.cg_heap.specs.declared.cell.Cell.{Cell}
 use Rattle.cg_heap.specs.declared.cell.Form.{Form}
 use Rattle.cg_heap.specs.declared.cell.Form.TheVariants as form
 use Rattle.cg_heap.specs.Stored.{asked_of, cell_at, cell_length, changed, in_cell, in_place}
+use Rattle.cg_heap.proofs.Sounds.{sound_changed}
 use Rattle.cg_flat.specs.declared.span.Span.{Span}
 use Rattle.cg_flat.specs.Flat.{Flat, IsFlat, cell_in, cell_of, elements_of, over, span_words, stored_of, written}
 use Rattle.cg_flat.proofs.Counts.{below_tells, has_inside, has_tells, two_of, within_words}
 use Rattle.cg_flat.proofs.Maps.{each_put, get-each}
-use Rattle.cg_flat.proofs.Sounds.{sound_changed}
 use Rattle.cg_flat.proofs.Wordy.{length-written, span_kept}
 
 -- ---- what is asked of a cell

@@ -9,8 +9,7 @@ use Rattle.cg_graphs.specs.Ranks.{rank, in_order}
 use Rattle.cg_graphs.proofs.OrderSteps.{rank_most}
 use Rattle.cg_graphs.proofs.Standing.{In, in_contains, in_left, in_right, bucket, in_bucket, bucket_is, stands}
 use Rattle.cg_graphs.proofs.Chains.{rank_falls}
-use Rattle.cg_graphs.proofs.BucketSteps.{is_equal}
-use Rattle.cg_base.proofs.Counts.{is_other as are_apart}
+use Rattle.cg_base.proofs.Counts.{is_equal, is_other as are_apart}
 
 -- a place in two lists is in the first, or behind all of it
 at_part : (xs ys : List ℕ) (k i : ℕ) → slice_get (xs ++ ys) k ≡ Some i → In xs i ⊎ ((l : ℕ) × (slice_get ys l ≡ Some i) × (take k (xs ++ ys) ≡ xs ++ take l ys))

@@ -6,9 +6,9 @@ pub mod Maps
 mod ReachSteps
 mod ReadSteps
 mod Readers
-mod Shorter
+pub mod Shorter
 mod SlotCells
-mod Sounds
+pub mod Sounds
 pub mod Tables
 pub mod TopSteps
 pub mod Widths

@@ -12,7 +12,7 @@ use Rattle.cg_heap.specs.declared.cell.Cell.{Cell}
 use Rattle.cg_heap.specs.Stored.{Stored, IsSound, cell_at, cell_length, changed, in_cell, in_place, without_cell, asked_of}
 use Rattle.cg_base.proofs.Options.{some_is}
 
-alike : (x y : ℕ) (r : Ordering) → nat_cmp x y ≡ r → is_eq r ≡ true → x ≡ y
+pub alike : (x y : ℕ) (r : Ordering) → nat_cmp x y ≡ r → is_eq r ≡ true → x ≡ y
 alike x y Less e same = absurd (search rules)
 alike x y Equal e same = nat_cmp-IsAntisymmetric x y e
 alike x y Greater e same = absurd (search rules)

@@ -4,6 +4,7 @@ pub mod Items
 pub mod Kernel
 pub mod Limit
 pub mod Lists
+pub mod Mentioned
 pub mod Patterns
 pub mod Positions
 pub mod Proper
