@@ -26,7 +26,7 @@ use Rattle.cg_driver_steps.specs.Steps.{goes, Step, Runs, Settles, judged_first}
 use Rattle.cg_driver_steps.specs.Scripts.{ComesTo}
 use Rattle.cg_driver_steps.proofs.Joining.{judged_runs}
 use Rattle.cg_driver_steps.proofs.Topping.{came_done}
-use Rattle.cg_driver_words.specs.Words.{Command, check, build, recheck, run}
+use Rattle.cg_driver_words.specs.Words.{Command, check, build, gen, recheck, run}
 use Rattle.cg_driver.specs.Accepted.{BuildWrites, HasKernel, IsAcceptedSource, IsBuiltSource, IsCertifiedSource, WritesItsOwn}
 use Rattle.cg_driver.specs.Commands.{Judgement, spelled, within, acyclic, with_fields, written, certified, instanced, certifiable, Judges, kernel_rules, resolving_rules, reading_rules, source_rules, built_rules, certificate_rules, reads_source, build_steps, writes_both, certificate_steps, recheck_steps, script_of}
 use Rattle.cg_driver.specs.Externs.{Extern}
@@ -48,6 +48,7 @@ own_writes table (Some (build file text certificate)) = one_of
     one_of name (inr (inr e)) = absurd e
 own_writes table (Some (recheck file certificate)) = tt
 own_writes table (Some (run file entry heap steps)) = tt
+own_writes table (Some (gen n)) = tt
 
 -- bytes within the limit were read whole
 pub whole : (most : ℕ) (bytes read : List ℕ) → read ≡ take (most + 1) bytes → length read ≤ most → read ≡ bytes

@@ -159,16 +159,17 @@ certificate_is checked marks bytes is = is ∙ ap (λ trees. text_of (certificat
 pub certificate_refused : (checked : Checked) → certificate_limit < length (certified_text (functions_in checked)) → RefusesCertificate (functions_in checked) TooLarge (limit_line (codes "certificate"))
 certificate_refused checked long f same = inl (tt, (refl, refl, subst (λ fs. certificate_limit < length (certified_text fs)) (sym same) long))
 
--- a state in which the instances were found of which this is written
-pub record KeepsBuilt (checked : Checked) (list : List Instance) (built : Built) (found : Found) : Type 0 where
+-- a state as it was, in which the instances were found of which this is written
+pub record KeepsBuilt (checked : Checked) (list : List Instance) (f : Found) (built : Built) (found : Found) : Type 0 where
+  pub same : found ≡ f
   pub kept : KeepsCopies checked list found
   pub is : IsWritten checked list built
 
 pub made_judged : (checked : Checked) (list : List Instance) (f : Found) → KeepsCopies checked list f → (r : Result (Step Built) Memory)
-    → IfOk r (Steps (IsWritten checked list) (RefusesCertificate (functions_in checked))) → Judged Judges (KeepsBuilt checked list) (certifiable ∷ []) f r
+    → IfOk r (Steps (IsWritten checked list) (RefusesCertificate (functions_in checked))) → Judged Judges (KeepsBuilt checked list f) (certifiable ∷ []) f r
 made_judged checked list f kept r said =
-    steps_judged (IsWritten checked list) (RefusesCertificate (functions_in checked)) (KeepsBuilt checked list) (certifiable ∷ []) f
-    (λ built b. (f, inr (f, (refl, subst (λ fs. length (certified_text fs) ≤ certificate_limit) (sym kept.same) b.brief), refl), record { kept = kept; is = b }))
+    steps_judged (IsWritten checked list) (RefusesCertificate (functions_in checked)) (KeepsBuilt checked list f) (certifiable ∷ []) f
+    (λ built b. (f, inr (f, (refl, subst (λ fs. length (certified_text fs) ≤ certificate_limit) (sym kept.same) b.brief), refl), record { same = refl; kept = kept; is = b }))
     (λ s text j. j f kept.same) r said
 
 -- ---- what is written

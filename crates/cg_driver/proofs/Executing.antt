@@ -3,7 +3,6 @@ use Rattle.std.proofs.Common.{◌≡◌, ℕ, zero, suc, IsTrue, List, [], ◌�
 use Rattle.std.specs.Prelude.{IfOk}
 use Rattle.cg_base.specs.declared.fun.Fun.TheVariants.{User}
 use Rattle.cg_base.specs.declared.memory.Memory.{Memory}
-use Rattle.cg_base.specs.declared.place.Place.{Place}
 use Rattle.cg_base.specs.Types.{Tau, arrow}
 use Rattle.cg_cmachine.specs.Answers.{EndsAs}
 use Rattle.cg_cmachine.specs.declared.answer.Ran.{Ran}
@@ -13,27 +12,21 @@ use Rattle.cg_lower.specs.Collected.{Copy}
 use Rattle.cg_core.specs.Kernels.{Function}
 use Rattle.cg_core.specs.declared.term.Term.{Term}
 use Rattle.cg_core.specs.declared.term.Typed.{Typed}
-use Rattle.cg_cread.specs.Answers.{Answers}
-use Rattle.cg_cread.specs.declared.fault.CFault.TheVariants.{Text}
-use Rattle.cg_ctree.specs.declared.tree.CProgram.{CProgram}
 use Rattle.cg_ctree.specs.declared.why.Why.{Why}
 use Rattle.cg_ctree.specs.Spells.{CSpells}
-use Rattle.cg_ctree.specs.Trees.{program_of}
+use Rattle.cg_ctree.specs.Trees.{Program}
 use Rattle.cg_inst.specs.Judged.{core_in}
 use Rattle.cg_cgen_def.specs.Names.{function_name}
-use Rattle.cg_lower.specs.Promises.{IsSimulated}
 use Rattle.cg_eval_def.specs.Evaluation.{Table, evaluation, IsSpent}
 use Rattle.cg_eval_def.specs.Foreigns.{table_of, table_over}
 use Rattle.cg_driver_laws.specs.Laws.{EntriesRun, copies_in}
 use Rattle.cg_heap.specs.Calls.{heap_of}
-use Rattle.cg_heap.specs.declared.cell.Cell.{Cell}
 use Rattle.cg_heap.specs.declared.cell.Scalar.{Scalar}
 use Rattle.cg_heap.specs.FirstOrder.{is_first_order}
 use Rattle.cg_heap.specs.Reps.{Represents}
 use Rattle.cg_heap.specs.Stored.{Stored}
 use Rattle.cg_heap.specs.Steps.{count}
 use Rattle.cg_heaptext.specs.declared.start.Start.{Start}
-use Rattle.cg_heaptext.specs.Filled.{IsFilled}
 use Rattle.cg_typing.specs.Parts.{given_by, taken_by}
 use Rattle.cg_typing.specs.declared.checked.Checked.{Checked}
 use Rattle.cg_typing.specs.Holds.{cores_in, kept_at, trees_in}
@@ -50,14 +43,15 @@ use Rattle.cg_driver.specs.Built.{CanRun, KeepsCopies}
 use Rattle.cg_driver.specs.Commands.{Judges, evaluated, ran_lines}
 use Rattle.cg_driver_lines.specs.declared.machined.Machined.{Machined}
 use Rattle.cg_driver.specs.Entered.{argument_type, entry_place, entry_type, result_type}
-use Rattle.cg_driver.specs.Executed.{cores_of, Emits, Gives, GivesAlike, IsReady, Machines, ReadsBack, Runs, Executes}
+use Rattle.cg_driver.specs.Executed.{cores_of, Gives, GivesAlike, IsReady, Machines, ReadsBack, Runs, Executes}
 use Rattle.cg_driver.specs.Externs.{Extern, IsLawfulExtern, linked_in}
 use Rattle.cg_driver.specs.Found.{Argument, Found, functions, with_value}
 use Rattle.cg_driver.specs.Instanced.{IsMeant, bodies_in, emitted}
 use Rattle.cg_driver.specs.Judged.{argument_of, functions_in, CanBeBuilt, HoldsCores, IsStartOf}
 use Rattle.cg_driver_lines.specs.Lines.{report, step_limit_line}
-use Rattle.cg_driver.specs.Run.{begun, budget, filled, no_cells, table_in}
-use Rattle.cg_driver.proofs.Begun.{filled_is, filled_low, filled_represents}
+use Rattle.cg_driver.specs.Run.{begun, budget, table_in}
+use Rattle.cg_driver_text.proofs.Begun.{filled_low, filled_represents}
+use Rattle.cg_driver_text.specs.Filled.{unlinked}
 use Rattle.cg_driver.proofs.Ends.{end_same}
 use Rattle.cg_driver.proofs.Saying.{each, line_says}
 
@@ -73,19 +67,6 @@ bodies_same checked = λ j i. body_same (cores_in checked) i j
 
 table_same : (x : Foreign) (checked : Checked) → table_of x checked ≡ table_in x (functions_in checked) (cores_of checked)
 table_same x checked = ap (table_over x (functions_in checked)) (bodies_same checked)
-
--- ---- the text
-
--- the program that is read back is the one that was written
-pub emits : (copies : List Copy) (read : CProgram) (text bytes : List ℕ) → text ≡ emitted copies → IsMeant copies → bytes ≡ text → Answers bytes (Ok read) → Emits copies read
-emits copies read text bytes is m same answer =
-    record {
-      spelled = subst (λ b. CSpells b (program_of read)) (same ∙ is) answer.0;
-      simulates = subst (IsSimulated copies) (answer.1 m.program (subst (λ b. CSpells b m.program) (sym (same ∙ is)) m.spelled)) m.simulates;
-    }
-
-pub unreadable : (copies : List Copy) (text bytes : List ℕ) (place : Place) → text ≡ emitted copies → IsMeant copies → bytes ≡ text → Answers bytes (Err (Text place)) → ⊥
-unreadable copies text bytes place is m same answer = answer.4 m.program (subst (λ b. CSpells b m.program) (sym (same ∙ is)) m.spelled)
 
 -- ---- what is ready
 
@@ -109,13 +90,13 @@ kept_trees : (checked : Checked) → CanBeBuilt checked → AreKept (functions_i
 kept_trees checked ready = subst (AreKept (functions_in checked) (functions_in checked) (map maybe_core (cores_in checked))) (sym ready.marks.are) ready.marks.kept
 
 -- the C of an entry's instance, linked to a lawful table, gives what represents what evaluation gives
-pub gives_alike : EntriesRun → (table : Extern) → IsLawfulExtern table → (checked : Checked) (list : List Instance) (program : CProgram) → CanBeBuilt checked → Emits (copies_in checked list) program
+pub gives_alike : EntriesRun → (table : Extern) → IsLawfulExtern table → (checked : Checked) (list : List Instance) → CanBeBuilt checked → (m : IsMeant (copies_in checked list))
     → (at place steps cost : ℕ) (argument result : Tau) (a : Argument) (value : Val) → IsReady checked list at place argument result a → Gives table checked at a.value steps value cost
-    → GivesAlike (linked_in table (functions_in checked) (copies_in checked list) (program_of program)) (function_name place) a.scalars (begun a) result value cost
-gives_alike law table lawful checked list program built e at place steps cost argument result a value ready gives =
+    → GivesAlike (linked_in table (functions_in checked) (copies_in checked list) m.program) (function_name place) a.scalars (begun a) result value cost
+gives_alike law table lawful checked list built m at place steps cost argument result a value ready gives =
     let ty = ready.can.ty in
     let few = ready.can.listed.few in
-    let r = law table.values table.heap lawful.values lawful.heap checked list (program_of program) (kept_trees checked built) ready.can.listed.is e.simulates (table.links (functions_in checked) (copies_in checked list))
+    let r = law table.values table.heap lawful.values lawful.heap checked list m.program (kept_trees checked built) ready.can.listed.is m.simulates (table.links (functions_in checked) (copies_in checked list))
     (lawful.links (functions_in checked) (core_in checked) list (omega (arith, few)))
     place at steps cost ty.function argument result a.scalars (begun a) a.value value ready.writes ready.reads ready.can.stands ty.there
     (λ none. ready.can.allowed.concrete (record { place = at; function = ty.function; stands = ty.there; abstract = none; reached = inl refl })) ty.typed.is
@@ -155,42 +136,34 @@ ran_so linked name us m after most t value cost is plain g ran ended r back =
       same,
     )
 
--- ---- the machine's answers, on cells that were put into a store
+-- ---- the machine's answers
 
-module _ (linked : Linked) (name : List ℕ) (us : List Scalar) (cs : List (ℕ × Cell)) (t : Tau) (cost : ℕ) where
-  -- the run from the store is that from the cells
-  run_from : (s : Stored) → IsFilled cs s
-      → crun linked (budget cost) name us s ≡ crun linked (budget cost) name us (filled cs no_cells)
-  run_from s f = ap (crun linked (budget cost) name us) (filled_is cs s f)
+module _ (linked : Linked) (name : List ℕ) (us : List Scalar) (m : Stored) (t : Tau) (cost : ℕ) where
+  -- the run is neither stuck nor short of steps
+  pub not_stuck : (why : Why) → (value : Val) × GivesAlike linked name us m t value cost → (after : Stored) × (crun linked (budget cost) name us m ≡ stuck why after) → ⊥
+  not_stuck why g e = let a = e.1 in let b = g.1.gives.ends in absurd (cc)
 
-  -- so it is neither stuck nor short of steps
-  pub not_stuck : (s after : Stored) (why : Why) → IsFilled cs s → (value : Val) × GivesAlike linked name us (filled cs no_cells) t value cost
-      → crun linked (budget cost) name us s ≡ stuck why after → ⊥
-  not_stuck s after why f g e = let a = run_from s f in let b = g.1.gives.ends in absurd (cc)
-
-  pub not_short : (s after : Stored) → IsFilled cs s → (value : Val) × GivesAlike linked name us (filled cs no_cells) t value cost
-      → crun linked (budget cost) name us s ≡ needs after → ⊥
-  not_short s after f g e = let a = run_from s f in let b = g.1.gives.ends in absurd (cc)
+  pub not_short : (value : Val) × GivesAlike linked name us m t value cost → (after : Stored) × (crun linked (budget cost) name us m ≡ needs after) → ⊥
+  not_short g e = let a = e.1 in let b = g.1.gives.ends in absurd (cc)
 
   -- and what is read back is what it gives
-  pub gives_so : (s after : Stored) → IsFilled cs s → IsTrue (is_first_order t) → (ran : Ran)
-      → EndsAs (crun linked (budget cost) name us s) (budget cost) after ran
-      → (r : Result Machined Memory) → IfOk r (ReadsBack after t ran)
-      → (value : Val) → GivesAlike linked name us (filled cs no_cells) t value cost
-      → IfOk r (Runs linked name us (filled cs no_cells) (budget cost) t value)
-  gives_so s after f plain ran ended r back value g =
-      each (ReadsBack after t ran) (Runs linked name us (filled cs no_cells) (budget cost) t value)
-      (ran_so linked name us (filled cs no_cells) after (budget cost) t value cost refl plain g ran
-      (subst (λ o. EndsAs o (budget cost) after ran) (run_from s f) ended)) r back
+  pub gives_so : (after : Stored) → IsTrue (is_first_order t) → (ran : Ran) → EndsAs (crun linked (budget cost) name us m) (budget cost) after ran
+      → (r : Result Machined Memory) → IfOk r (ReadsBack after t ran) → (value : Val) → GivesAlike linked name us m t value cost → IfOk r (Runs linked name us m (budget cost) t value)
+  gives_so after plain ran ended r back value g =
+      each (ReadsBack after t ran) (Runs linked name us m (budget cost) t value) (ran_so linked name us m after (budget cost) t value cost refl plain g ran ended) r back
+
+-- what is said of the one program that a text spells is said of any that it spells
+pub of_spelled : (bytes : List ℕ) (p q : Program) → ((r : Program) → CSpells bytes r → r ≡ p) → CSpells bytes q → (P : Linked → Type 0) → P (unlinked p) → P (unlinked q)
+of_spelled bytes p q only spelled P h = subst (λ x. P (unlinked x)) (sym (only q spelled)) h
 
 -- ---- what is said
 
 -- what the machine gave is what is said of the C of an entry
-pub machined : (table : Extern) (functions : List Function) (copies : List Copy) (program : CProgram) (name : List ℕ) (place : ℕ) (t : Tau) (us : List Scalar) (m : Stored) (value : Val) (cost : ℕ) → Emits copies program → name ≡ function_name place
-    → (r : Result Machined Memory) → IfOk r (Runs (linked_in table functions copies (program_of program)) name us m (budget cost) t value) → IfOk r (Machines table functions copies place t us m value cost)
-machined table functions copies program name place t us m value cost e is r h =
-    each (Runs (linked_in table functions copies (program_of program)) name us m (budget cost) t value) (Machines table functions copies place t us m value cost)
-    (λ x ran. record { program = program_of program; spelled = e.spelled; runs = subst (λ n. Runs (linked_in table functions copies (program_of program)) n us m (budget cost) t value x) is ran }) r h
+pub machined : (table : Extern) (functions : List Function) (copies : List Copy) (meant : IsMeant copies) (name : List ℕ) (place : ℕ) (t : Tau) (us : List Scalar) (m : Stored) (value : Val) (cost : ℕ) → name ≡ function_name place
+    → (r : Result Machined Memory) → IfOk r (Runs (linked_in table functions copies meant.program) name us m (budget cost) t value) → IfOk r (Machines table functions copies place t us m value cost)
+machined table functions copies meant name place t us m value cost is r h =
+    each (Runs (linked_in table functions copies meant.program) name us m (budget cost) t value) (Machines table functions copies place t us m value cost)
+    (λ x ran. record { program = meant.program; spelled = meant.spelled; runs = subst (λ n. Runs (linked_in table functions copies meant.program) n us m (budget cost) t value x) is ran }) r h
 
 pub said_of : (table : Extern) (checked : Checked) (list : List Instance) (at place : ℕ) (t : Tau) (a : Argument) (value : Val) (cost : ℕ) (r : Machined) → HoldsCores checked → entry_place (copies_in checked list) at ≡ Some place
     → Machines table (functions_in checked) (copies_in checked list) place t a.scalars (begun a) value cost r → (p : Report) → IsLine Done (report t value (value_of r.value) cost r.steps r.made r.freed r.kept) p

@@ -1,5 +1,5 @@
 -- Each judgement comes to one outcome, refuses with a status of its own, and each command says one text of what it found.
-use Rattle.std.proofs.Common.{◌≡◌, ◌⊎◌, inl, inr, ◌<◌, ◌∙◌, ℕ, List, [], ◌∷◌, Option, Some, None, Result, Err, length, refl, sym, ap, subst, arith}
+use Rattle.std.proofs.Common.{◌≡◌, ◌⊎◌, inl, inr, ◌<◌, ◌∙◌, ℕ, List, [], ◌∷◌, ◌++◌, Option, Some, None, Result, Err, length, refl, sym, ap, ap₂, subst, arith}
 use Rattle.std.specs.Prelude.{codes, slice_get}
 use Rattle.std.proofs.lemmas.Option.{same_Some}
 use Rattle.cg_base.specs.declared.fun.Fun.TheVariants.{User}
@@ -49,7 +49,7 @@ use Rattle.cg_surface.specs.Programs.{Entry}
 use Rattle.cg_typing.specs.Accepted.{IsAcceptedKernel}
 use Rattle.cg_value.specs.Foreign.{Foreign}
 use Rattle.cg_value.specs.Values.{Val, function}
-use Rattle.cg_driver_words.specs.Words.{Command, check, build, recheck, run}
+use Rattle.cg_driver_words.specs.Words.{Command, check, build, gen, recheck, run}
 use Rattle.cg_driver.specs.Commands.{Judgement, no_command, within, spelled, named, acyclic, with_fields, typed, written, certified, instanced, certifiable, has_entry, allowed, concrete, has_argument, evaluated, HoldsArgument, RefusesHeap, RefusesSyntax, unknown_byte, open_comment, unexpected, wrong_bar, RefusesTyping, RefusesType, Judges, script_of}
 use Rattle.cg_driver.specs.Entered.{argument_type, result_type}
 use Rattle.cg_driver.specs.Externs.{Extern, linked_in}
@@ -406,3 +406,7 @@ once table (Some (check file)) f t t' a b = a ∙ sym b
 once table (Some (build file text certificate)) f t t' a b = a.0 ∙ sym b.0
 once table (Some (recheck file certificate)) f t t' a b = a ∙ sym b
 once table (Some (run file entry heap steps)) f t t' a b = report_once table (functions f) f.copies f.at (result_type (functions f) f.at) f.argument f.value f.cost t t' a b
+once table (Some (gen n)) f t t' a b =
+    let line : a.line ≡ b.line = a.built.0 ∙ sym b.built.0 in
+    let lines = report_once table (functions f) f.copies f.at (result_type (functions f) f.at) f.argument f.value f.cost a.lines b.lines a.ran b.ran in
+    a.text_is ∙ ap₂ (λ x y. x ++ y) line lines ∙ sym b.text_is

@@ -11,7 +11,7 @@ use Rattle.cg_driver_steps.specs.Steps.{Runs, refuses, goes, Each, ReadsFirst}
 use Rattle.cg_driver_steps.specs.Scripts.{IsSaid, Says, Answers, printed, unprinted, no_memory, IsVerdict}
 use Rattle.cg_driver_steps.specs.Parts.{IsLine, Concludes}
 use Rattle.cg_driver_steps.proofs.Deciding.{Refuses, by_read, by_write, by_judgement, refused_by}
-use Rattle.cg_driver_words.specs.Words.{Command, check, build, recheck, run}
+use Rattle.cg_driver_words.specs.Words.{Command, check, build, gen, recheck, run}
 use Rattle.std.specs.Io.KnownBytes.{append_known}
 use Rattle.cg_driver.specs.Commands.{Judges, build_steps, reads_source, script_of}
 use Rattle.cg_driver.specs.Externs.{Extern}
@@ -33,6 +33,7 @@ of_command table (check file) = (tt, (tt, (tt, (tt, (tt, (tt, (tt, (tt, (tt, (tt
 of_command table (build file text certificate) = (tt, (tt, (tt, (tt, (tt, (tt, (tt, (tt, (tt, (tt, (tt, (tt, (tt, tt)))))))))))))
 of_command table (recheck file certificate) = (tt, (tt, (tt, (tt, (tt, (tt, (tt, (tt, (tt, (tt, (tt, (tt, (tt, tt)))))))))))))
 of_command table (run file entry heap steps) = (tt, (tt, (tt, (tt, (tt, (tt, (tt, (tt, (tt, (tt, (tt, (tt, (tt, (tt, (tt, (tt, (tt, (tt, tt))))))))))))))))))
+of_command table (gen n) = (tt, (tt, (tt, (tt, (tt, (tt, (tt, (tt, (tt, (tt, (tt, (tt, (tt, (tt, (tt, (tt, (tt, (tt, (tt, tt)))))))))))))))))))
 
 module _ (table : Extern) (old new : World) where
   -- no command says the usage text
@@ -87,6 +88,7 @@ reads_first table (Some (check file)) = tt
 reads_first table (Some (build file text certificate)) = tt
 reads_first table (Some (recheck file certificate)) = tt
 reads_first table (Some (run file entry heap steps)) = tt
+reads_first table (Some (gen n)) = tt
 
 -- ---- from the words to the command
 

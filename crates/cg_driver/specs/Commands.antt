@@ -22,6 +22,7 @@ use Rattle.cg_resolve_def.specs.Takes.{missing_fields}
 use Rattle.cg_driver_entry.specs.Entries.{ReachesAbstract}
 use Rattle.cg_faults.specs.declared.rule.Rule.{Rule}
 use Rattle.cg_faults.specs.Rule.{rule, type_limit}
+use Rattle.cg_gen.specs.Generated.{entry as made_entry, heap as made_heap, source as made_source}
 use Rattle.cg_heaptext.specs.Answers.{IsFault}
 use Rattle.cg_heaptext.specs.declared.fault.HeapFault.{HeapFault}
 use Rattle.cg_heaptext_def.specs.HeapText.{HeapText}
@@ -38,7 +39,7 @@ use Rattle.cg_driver_steps.specs.Scripts.{Script}
 use Rattle.cg_surface.specs.Programs.{Entry}
 use Rattle.cg_resolve_takes.specs.Says as takes
 use Rattle.cg_typing.specs.Accepted.{IsAcceptedKernel}
-use Rattle.cg_driver_words.specs.Words.{Command, check, build, recheck, run, texts, command_of}
+use Rattle.cg_driver_words.specs.Words.{Command, check, build, gen, recheck, run, command_of, default_steps, texts}
 use Rattle.cg_value.specs.Foreign.{Foreign}
 use Rattle.cg_value.specs.Values.{Val}
 use Rattle.cg_base.specs.Types.{Tau}
@@ -222,6 +223,14 @@ heap_rules heap = within Heap ∷ has_argument heap ∷ []
 abbrev pub run_rules : Extern → List ℕ → ℕ → List Judgement
 run_rules table heap steps = heap_rules heap ++ evaluated table.values steps ∷ []
 
+-- the name that a refusal of a generated source and its heap file would tell
+abbrev pub made_name : List ℕ
+made_name = codes "gen"
+
+-- those of `gen`, over a source of so many functions and a heap file that it made
+abbrev pub made_rules : Extern → ℕ → List Judgement
+made_rules table n = source_rules made_name ++ entry_rules made_name (made_entry n) ++ instanced ∷ certifiable ∷ run_rules table made_name default_steps
+
 -- a source that is read
 abbrev pub reads_source : List ℕ → Step Judgement Found
 reads_source file = reads file source_limit with_source
@@ -245,6 +254,14 @@ rechecked_line found text = text ≡ accepted_text
 
 abbrev pub ran_lines : Extern → Found → List ℕ → Type 0
 ran_lines table found text = IsReport table (functions found) found.copies found.at (result_type (functions found) found.at) found.argument found.value found.cost text
+
+-- the line of `build`, and then those of `run`
+pub record IsMade (table : Extern) (found : Found) (text : List ℕ) : Type 0 where
+  pub line : List ℕ
+  pub lines : List ℕ
+  pub built : IsBuilt found line
+  pub ran : ran_lines table found lines
+  pub text_is : text ≡ line ++ lines
 
 -- the writes of `build`: the C text, and then the certificate
 abbrev pub writes_certificate : List ℕ → List (Step Judgement Found)
@@ -271,6 +288,10 @@ heap_steps table heap steps = reads_heap heap ∷ judged_first (run_rules table 
 abbrev pub run_steps : Extern → List ℕ → List ℕ → List ℕ → ℕ → List (Step Judgement Found)
 run_steps table file entry heap steps = judged_first (source_rules file ++ entry_rules file entry ++ instanced ∷ []) (heap_steps table heap steps)
 
+-- what `gen` begins with: a source of so many functions, and its heap file
+abbrev pub made : ℕ → Found
+made n = with_heap made_heap (with_source (made_source n) nothing)
+
 -- the commands, over a table of abstract functions; other words are refused
 abbrev pub script_of : Extern → Option Command → Script Judgement Found
 script_of table None = record { steps = judged_first (no_command ∷ []) []; start = nothing; line = λ found text. ⊥ }
@@ -278,6 +299,7 @@ script_of table (Some (check file)) = record { steps = reads_source file ∷ jud
 script_of table (Some (build file text certificate)) = record { steps = reads_source file ∷ build_steps file text certificate; start = nothing; line = IsBuilt }
 script_of table (Some (recheck file certificate)) = record { steps = reads_source file ∷ recheck_steps file certificate; start = nothing; line = rechecked_line }
 script_of table (Some (run file entry heap steps)) = record { steps = reads_source file ∷ run_steps table file entry heap steps; start = nothing; line = ran_lines table }
+script_of table (Some (gen n)) = record { steps = judged_first (made_rules table n) []; start = made n; line = IsMade table }
 
 -- the command that the words ask for
 abbrev pub asked : Extern → List (String Global) → Script Judgement Found

@@ -5,12 +5,10 @@ use Rattle.cg_base.specs.Types.{Tau}
 use Rattle.cg_lower.specs.Collected.{Copy}
 use Rattle.cg_core.specs.Kernels.{Function}
 use Rattle.cg_core.specs.Terms.{Note, Tree}
-use Rattle.cg_ctree.specs.declared.tree.CProgram.{CProgram}
 use Rattle.cg_ctree.specs.Spells.{CSpells}
-use Rattle.cg_ctree.specs.Trees.{Program, program_of}
+use Rattle.cg_ctree.specs.Trees.{Program}
 use Rattle.cg_cgen_def.specs.Names.{function_name}
 use Rattle.cg_cmachine_def.specs.Runs.{Linked}
-use Rattle.cg_lower.specs.Promises.{IsSimulated}
 use Rattle.cg_driver_laws.specs.Laws.{GivesRefined}
 use Rattle.cg_eval_def.specs.Evaluation.{evaluation}
 use Rattle.cg_eval_def.specs.Foreigns.{table_of}
@@ -48,11 +46,6 @@ cores_of checked = map maybe_core (cores_in checked)
 -- evaluation over a table of abstract functions gives this value at this cost, within the steps
 abbrev pub Gives : Extern → Checked → ℕ → Val → ℕ → Val → ℕ → Type 0
 Gives table checked at arg steps value cost = evaluation (table_of table.values checked) steps (function (User at) []) arg ≡ Some (value, cost)
-
--- the program is the one that the C text of the instances spells, and simulates the update semantics
-pub record Emits (copies : List Copy) (program : CProgram) : Type 0 where
-  pub spelled : CSpells (emitted copies) (program_of program)
-  pub simulates : IsSimulated copies (program_of program)
 
 -- a linked program gives what represents this value, where evaluation gives it at this cost
 pub record GivesAlike (linked : Linked) (name : List ℕ) (us : List Scalar) (m : Stored) (t : Tau) (value : Val) (cost : ℕ) : Type 0 where

@@ -37,7 +37,3 @@ no_extern = record { values = no_foreign; heap = no_foreign_heap; links = λ fun
 -- it is lawful
 pub none_is_lawful_extern : NoneAreLinked → IsLawfulExtern no_extern
 none_is_lawful_extern unlinked = record { values = none_is_lawful; heap = none_is_lawful_on_heaps; links = λ functions cores list small. unlinked functions list }
-
--- a C program without abstract functions
-abbrev pub unlinked : Program → Linked
-unlinked program = linked_over program [] no_foreign_heap

@@ -1,6 +1,5 @@
 -- What a run of an entry on a heap file says, and why (docs/LANGUAGE.md, "Commands"). The definitions speak of any table of abstract functions.
-use Rattle.std.specs.FinMap.{empty}
-use Rattle.std.specs.Prelude.{◌≡◌, ℕ, ◌+◌, ◌*◌, List, [], ◌∷◌, Option, Some}
+use Rattle.std.specs.Prelude.{◌≡◌, ℕ, ◌+◌, ◌*◌, List, [], Option, Some}
 use Rattle.cg_base.specs.declared.fun.Fun.TheVariants.{User}
 use Rattle.cg_base.specs.Types.{Tau}
 use Rattle.cg_core.specs.Kernels.{Function}
@@ -16,8 +15,7 @@ use Rattle.cg_eval_def.specs.Foreigns.{table_over}
 use Rattle.cg_heap.specs.Calls.{heap_of}
 use Rattle.cg_heap.specs.declared.cell.Scalar.{Scalar}
 use Rattle.cg_heap.specs.Reps.{HeapWorld, Represents}
-use Rattle.cg_heap.specs.declared.cell.Cell.{Cell}
-use Rattle.cg_heap.specs.Stored.{Stored, with_cell}
+use Rattle.cg_heap.specs.Stored.{Stored}
 use Rattle.cg_heap.specs.Steps.{count}
 use Rattle.cg_value.specs.Foreign.{Foreign}
 use Rattle.cg_value.specs.Values.{Val, function}
@@ -26,6 +24,7 @@ use Rattle.cg_driver.specs.Externs.{Extern, linked_in}
 use Rattle.cg_driver.specs.Found.{Argument}
 use Rattle.cg_driver.specs.Instanced.{AreCores, bodies_in, emitted}
 use Rattle.cg_driver_lines.specs.Lines.{report}
+use Rattle.cg_driver_text.specs.Filled.{filled, no_cells}
 
 -- the functions of a source, by their cores, over a table of abstract functions
 abbrev pub table_in : Foreign → List Function → List (Option (Tree Note)) → Table
@@ -46,15 +45,6 @@ pub record RunsOut (x : Foreign) (functions : List Function) (at : ℕ) (arg : V
   pub cores : List (Option (Tree Note))
   pub derived : AreCores functions cores
   pub spent : IsSpent (table_in x functions cores) steps (function (User at) []) arg
-
--- a store that has never had a cell
-abbrev pub no_cells : Stored
-no_cells = record { cells = empty; top = 0 }
-
--- cells in a store, each at its address: the first of an address counts
-abbrev pub filled : List (ℕ × Cell) → Stored → Stored
-filled [] s = s
-filled (c ∷ cs) s = with_cell c.0 c.1 (filled cs s)
 
 -- the cells of a heap file in a store, of which the highest address that was ever held is the greatest of theirs, 0 where there are none
 abbrev pub begun : Argument → Stored

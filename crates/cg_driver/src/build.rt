@@ -37,10 +37,10 @@ pub(crate) struct Named<'a> {
 
 /// What is written of a source: the C text of its instances and the certificate of its functions; and how many instances there are.
 #[derive(Drop)]
-struct Built {
-    text: Vec<u8>,
-    certificate: Vec<u8>,
-    instances: usize,
+pub(crate) struct Built {
+    pub text: Vec<u8>,
+    pub certificate: Vec<u8>,
+    pub instances: usize,
 }
 
 /// The instances of a checked source.
@@ -73,7 +73,11 @@ pub(crate) fn emit_text(
 }
 
 /// What is written of a checked source with these instances.
-fn make(alloc: Global, checked: &Checked, list: &Instances) -> Result<Step<Built>, Memory>
+pub(crate) fn make(
+    alloc: Global,
+    checked: &Checked,
+    list: &Instances,
+) -> Result<Step<Built>, Memory>
     requires list { IsListed checked.now list.now }
     requires ready { CanBeBuilt checked.now }
     ensures { IfOk result (Steps (IsWritten checked.now list.now) (RefusesCertificate (functions_in checked.now))) }

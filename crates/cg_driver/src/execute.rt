@@ -3,24 +3,21 @@ ghost use Rattle.std.specs.Prelude.{◌≤◌, ◌^◌, ℕ, IfOk, map};
 ghost use Rattle.cg_base.specs.Types.{Tau, type_of};
 ghost use Rattle.cg_driver_laws.specs.Laws.{copies_in};
 ghost use Rattle.cg_heaptext_contents.specs.Placings.{pair_of};
-ghost use Rattle.cg_driver.specs.Run.{filled, no_cells};
+ghost use Rattle.cg_driver_text.specs.Filled.{filled, no_cells};
 ghost use Rattle.cg_value.specs.Values.{Val, value_of};
 ghost use Rattle.cg_driver.specs.Built.{IsListed};
-ghost use Rattle.cg_driver.specs.Executed.{Emits, Gives, IsReady, Machines, Executes, the_argument};
+ghost use Rattle.cg_driver.specs.Executed.{Gives, IsReady, Machines, Executes, the_argument};
 ghost use Rattle.cg_driver.specs.Externs.{no_extern};
 ghost use Rattle.cg_driver.specs.Judged.{functions_in, argument_of, CanBeBuilt, HoldsCores};
 ghost use Rattle.cg_driver_steps.specs.Parts.{Reports};
 
 use crate::build::emit_text;
 use crate::machine::run_on;
-use cg_base::{Items, Memory, Ty};
-use cg_cread::{CFault, read_c};
-use cg_ctree::CProgram;
+use cg_base::{Memory, Ty};
 use cg_driver_laws::{entries_are_sound, entries_run, none_are_linked};
 use cg_driver_lines::{Machined, ran, step_limit};
 use cg_driver_steps::Report;
 use cg_eval::{EvalFault, eval, more_budget};
-use cg_heap::Scalar;
 use cg_heap_laws::represented_fits;
 use cg_heaptext::Start;
 use cg_inst::Instances;
@@ -36,46 +33,31 @@ pub(crate) struct Entry {
     pub place: u32,
 }
 
-/// The C of the instances of a source: written as a text, and read back from it.
-fn emit(alloc: Global, checked: &Checked, list: &Instances) -> Result<CProgram, Memory>
-    requires list { IsListed checked.now list.now }
-    requires ready { CanBeBuilt checked.now }
-    ensures { IfOk result (Emits (copies_in checked.now list.now)) }
-{
-    let text = emit_text(alloc, checked, list)?;
-    match read_c(alloc, &text) {
-        Ok(program) => Ok(program),
-        Err(CFault::Text(_)) => unreachable!(),
-        Err(CFault::Memory) => Err(Memory),
-    }
-}
-
 /// What the C of an entry gives on what a heap file holds, on which evaluation gives a value at this cost.
 fn machine(
     alloc: Global,
     checked: &Checked,
     list: &Instances,
     chosen: Entry,
-    arg: &Items<Scalar>,
-    cells: Start,
+    start: Start,
     ty: &Ty,
     cost: u64,
 ) -> Result<Machined, Memory>
     requires ready { CanBeBuilt checked.now }
     requires gives { (argument : Tau) × (v : Val) × (w : Val) × (steps : ℕ) × (steps ≤ 2 ^ 40)
-        × IsReady checked.now list.now chosen.at chosen.place argument (type_of ty.now) (the_argument cells.cells arg.now v)
+        × IsReady checked.now list.now chosen.at chosen.place argument (type_of ty.now) (the_argument start.cells start.arg v)
         × Gives no_extern checked.now chosen.at v steps w cost }
     ensures { (argument : Tau) (v w : Val) (steps : ℕ) → steps ≤ 2 ^ 40
-        → IsReady checked.now list.now chosen.at chosen.place argument (type_of ty.now) (the_argument cells.cells arg.now v)
+        → IsReady checked.now list.now chosen.at chosen.place argument (type_of ty.now) (the_argument start.cells start.arg v)
         → Gives no_extern checked.now chosen.at v steps w cost
-        → IfOk result (Machines no_extern (functions_in checked.now) (copies_in checked.now list.now) chosen.place (type_of ty.now) arg.now (filled (map pair_of cells.cells) no_cells) w cost) }
+        → IfOk result (Machines no_extern (functions_in checked.now) (copies_in checked.now list.now) chosen.place (type_of ty.now) start.arg (filled (map pair_of start.cells) no_cells) w cost) }
 {
     let function = function_name(alloc, chosen.place)?;
-    let program = emit(alloc, checked, list)?;
+    let text = emit_text(alloc, checked, list)?;
     more_budget();
     entries_run();
     none_are_linked();
-    run_on(alloc, &program, &function, arg, cells, ty, cost)
+    run_on(alloc, &text, &function, start, ty, cost)
 }
 
 /// What is said where evaluation gives a value at this cost.
@@ -84,8 +66,7 @@ fn run_both(
     checked: &Checked,
     list: &Instances,
     chosen: Entry,
-    arg: &Items<Scalar>,
-    cells: Start,
+    start: Start,
     ty: &Ty,
     value: &Value,
     cost: u64,
@@ -93,14 +74,14 @@ fn run_both(
     requires ready { CanBeBuilt checked.now }
     requires cores { HoldsCores checked.now }
     requires gives { (argument : Tau) × (v : Val) × (steps : ℕ) × (steps ≤ 2 ^ 40)
-        × IsReady checked.now list.now chosen.at chosen.place argument (type_of ty.now) (the_argument cells.cells arg.now v)
+        × IsReady checked.now list.now chosen.at chosen.place argument (type_of ty.now) (the_argument start.cells start.arg v)
         × Gives no_extern checked.now chosen.at v steps (value_of value.now) cost }
     ensures { (argument : Tau) (v : Val) (steps : ℕ) → steps ≤ 2 ^ 40
-        → IsReady checked.now list.now chosen.at chosen.place argument (type_of ty.now) (the_argument cells.cells arg.now v)
+        → IsReady checked.now list.now chosen.at chosen.place argument (type_of ty.now) (the_argument start.cells start.arg v)
         → Gives no_extern checked.now chosen.at v steps (value_of value.now) cost
-        → IfOk result (Reports (Executes no_extern (functions_in checked.now) (copies_in checked.now list.now) chosen.at (type_of ty.now) (the_argument cells.cells arg.now v) steps)) }
+        → IfOk result (Reports (Executes no_extern (functions_in checked.now) (copies_in checked.now list.now) chosen.at (type_of ty.now) (the_argument start.cells start.arg v) steps)) }
 {
-    let run = machine(alloc, checked, list, chosen, arg, cells, ty, cost)?;
+    let run = machine(alloc, checked, list, chosen, start, ty, cost)?;
     ran(alloc, ty, value, cost, &run)
 }
 
@@ -129,7 +110,7 @@ pub(crate) fn execute(
     } = start;
     let rest = Start {
         cells,
-        arg: Items::new(alloc),
+        arg,
         value: Value::Gone,
         reads,
         writes,
@@ -137,9 +118,7 @@ pub(crate) fn execute(
     entries_are_sound();
     represented_fits();
     match eval(alloc, checked, chosen.at, value, steps) {
-        Ok((value, cost)) => {
-            run_both(alloc, checked, list, chosen, &arg, rest, ty, &value, cost)
-        }
+        Ok((value, cost)) => run_both(alloc, checked, list, chosen, rest, ty, &value, cost),
         Err(EvalFault::StepLimit) => step_limit(alloc, steps),
         Err(EvalFault::Memory) => Err(Memory),
     }

@@ -15,12 +15,14 @@ mod execute;
 mod judge;
 mod law;
 mod machine;
+mod made;
 mod plan;
 mod recheck;
 mod run;
 
 pub use call::cogent;
 pub use cg_driver_steps::Status;
+pub use cg_driver_text::{TextFault, text_run};
 pub use law::{
     build_writes_both, certificates_decide, honest_cogent, one_outcome, one_text,
     only_build_writes, printed_is_certified, rechecked_is_accepted, status_0_is_a_derivation,

@@ -6,6 +6,7 @@ ghost use Rattle.cg_driver.specs.Externs.{no_extern};
 
 use crate::build::{Named, build_file};
 use crate::check::check_file;
+use crate::made::make_and_run;
 use crate::recheck::recheck_file;
 use crate::run::{Asked, run_file};
 use cg_base::Memory;
@@ -66,5 +67,6 @@ pub(crate) fn plan<F: Files>(
             };
             run_file(alloc, &asked, files)
         }
+        Ok(Some(Command::Gen { number })) => make_and_run(alloc, number as u32),
     }
 }

@@ -54,7 +54,7 @@ fn start_of(alloc: Global, heap: &str, bytes: &[u8], ty: &Ty) -> Result<Step<Sta
 }
 
 /// What is said of a run that is ready, once its heap file is read, with what its entry takes and gives.
-fn run_bytes(
+pub(crate) fn run_bytes(
     alloc: Global,
     asked: &Asked<'_>,
     checked: &Checked,

@@ -16,7 +16,7 @@ use Rattle.cg_value.specs.Values.{Val}
 
 -- the usage text
 abbrev pub usage_text : List ℕ
-usage_text = codes "usage: cogent check FILE\n       cogent build FILE CFILE CERTFILE\n       cogent recheck FILE CERTFILE\n       cogent run FILE ENTRY HEAPFILE [--steps N]\n"
+usage_text = codes "usage: cogent check FILE\n       cogent build FILE CFILE CERTFILE\n       cogent recheck FILE CERTFILE\n       cogent run FILE ENTRY HEAPFILE [--steps N]\n       cogent gen N\n"
 
 -- what `check` prints of an accepted source: how many functions have a definition
 abbrev pub ok_line : List Function → List ℕ

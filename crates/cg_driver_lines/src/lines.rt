@@ -25,7 +25,7 @@ pub fn usage(alloc: Global) -> Result<Report, Memory>
         Status::Usage,
         String::from_str(
             alloc,
-            "usage: cogent check FILE\n       cogent build FILE CFILE CERTFILE\n       cogent recheck FILE CERTFILE\n       cogent run FILE ENTRY HEAPFILE [--steps N]\n",
+            "usage: cogent check FILE\n       cogent build FILE CFILE CERTFILE\n       cogent recheck FILE CERTFILE\n       cogent run FILE ENTRY HEAPFILE [--steps N]\n       cogent gen N\n",
         )?,
     ))
 }

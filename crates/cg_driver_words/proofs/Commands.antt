@@ -2,9 +2,9 @@
 use Rattle.std.proofs.Common.{◌≡◌, ◌∙◌, true, false, true≢false, refl, ap, ap₂, List, [], ◌∷◌, Option, Some, None, option_map, codes}
 use Rattle.clap.specs.Words.{Row, Rule, Text, first_of}
 use Rattle.clap.specs.Simple.{built_leaf, inherited}
-use Rattle.cg_driver_words.specs.Apps.{bare_app, build_app, check_app, recheck_app, run_app}
-use Rattle.cg_driver_words.specs.Matches.{build_by, build_in, check_in, recheck_by, recheck_in, run_by, run_in}
-use Rattle.cg_driver_words.specs.Words.{build_names, check, check_names, recheck_names, run_names}
+use Rattle.cg_driver_words.specs.Apps.{bare_app, build_app, check_app, gen_app, recheck_app, run_app}
+use Rattle.cg_driver_words.specs.Matches.{build_by, build_in, check_in, gen_by, gen_in, recheck_by, recheck_in, run_by, run_in}
+use Rattle.cg_driver_words.specs.Words.{build_names, check, check_names, gen_names, recheck_names, run_names}
 use Rattle.cg_driver_words.proofs.Rows.{Slot, value_in}
 use Rattle.cg_driver_words.proofs.Rules.{Allowed, Expects, Given, IsLeaf, as_many, listed}
 use Rattle.cg_base.proofs.Counts.{no_steps}
@@ -91,6 +91,41 @@ build_expects = record {
   reads = λ rows vs n a k g e. build_reads rows vs n a g;
   wrong = build_wrong;
   twice = build_twice;
+}
+
+-- ---- `gen N`
+
+abbrev pub gen_rules : List Rule
+gen_rules = (built_leaf (inherited bare_app.top gen_app.top)).rules
+
+pub gen_is_leaf : IsLeaf false gen_rules
+gen_is_leaf = record { steps_long = λ e. no_steps e; steps_id = λ e. no_steps e; other = λ name e. refl; short = λ x. refl; bare = refl }
+
+gen_reads : (rows : List Row) (vs : List Text) (n : Option Text) → Allowed false n → Given rows (codes "number" ∷ []) vs → gen_in rows ≡ gen_names vs (listed n)
+gen_reads rows [] n a g = absurd g
+gen_reads rows (number ∷ []) None a g = ap gen_by (value_in (codes "number") (Some number) rows g.0)
+gen_reads rows (number ∷ []) (Some s) a g = no_steps a
+gen_reads rows (number ∷ v ∷ vs) n a g = absurd g.1
+
+gen_wrong : (names values : List Text) → as_many (codes "number" ∷ []) names ≡ false → gen_names names values ≡ None
+gen_wrong [] values e = refl
+gen_wrong (number ∷ []) values e = absurd (true≢false e)
+gen_wrong (number ∷ v ∷ names) values e = refl
+
+gen_twice : (names : List Text) (a b : Text) (values : List Text) → gen_names names (a ∷ b ∷ values) ≡ None
+gen_twice [] a b values = refl
+gen_twice (number ∷ []) a b values = refl
+gen_twice (number ∷ v ∷ names) a b values = refl
+
+pub gen_expects : Expects false gen_rules gen_in (codes "number" ∷ []) 1 gen_names []
+gen_expects = record {
+  numbered = (refl, refl, refl);
+  apart = refl;
+  no_steps = refl;
+  lacks = λ rows k. refl;
+  reads = λ rows vs n a k g e. gen_reads rows vs n a g;
+  wrong = gen_wrong;
+  twice = gen_twice;
 }
 
 -- ---- `recheck FILE CERTFILE`

@@ -26,6 +26,9 @@ recheck_app = named (codes "recheck") (codes "file" ∷ codes "certificate" ∷ 
 abbrev pub run_app : App
 run_app = with_rule (named (codes "run") (codes "file" ∷ codes "entry" ∷ codes "heap" ∷ [])) steps_rule
 
+abbrev pub gen_app : App
+gen_app = named (codes "gen") (codes "number" ∷ [])
+
 -- the whole command line, without its commands: it has no help and no version of clap's
 abbrev pub bare_app : App
 bare_app = record (new_app (codes "cogent")) {
@@ -38,9 +41,12 @@ bare_app = record (new_app (codes "cogent")) {
   };
 }
 
--- with its commands on a source alone, and with all
+-- with its commands on a source alone, with those on files, and with all
 abbrev pub source_app : App
 source_app = with_subcommand (with_subcommand bare_app check_app.top) build_app.top
 
+abbrev pub file_app : App
+file_app = with_subcommand (with_subcommand source_app recheck_app.top) run_app.top
+
 abbrev pub cogent_app : App
-cogent_app = with_subcommand (with_subcommand source_app recheck_app.top) run_app.top
+cogent_app = with_subcommand file_app gen_app.top

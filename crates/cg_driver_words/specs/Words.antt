@@ -10,13 +10,14 @@ use Rattle.cg_base.specs.Numbers.{literal_of}
 abbrev pub texts : List (String Global) → List (List ℕ)
 texts words = map string_bytes words
 
--- a command: `check` of a file; `build` of a file, into a C file and a certificate; `recheck` of a file and a certificate; `run` of a file, an entry and a heap file, with the number of steps at
--- most
+-- a command: `check` of a file; `build` of a file, into a C file and a certificate; `recheck` of a file and a certificate; `run` of a file, an entry
+-- and a heap file, with the number of steps at most; `gen` of so many functions
 pub data Command : Type 0 where
   check : List ℕ → Command
   build : List ℕ → List ℕ → List ℕ → Command
   recheck : List ℕ → List ℕ → Command
   run : List ℕ → List ℕ → List ℕ → ℕ → Command
+  gen : ℕ → Command
 
 -- the steps where none are asked for
 abbrev pub default_steps : ℕ
@@ -67,15 +68,25 @@ sorted has_steps false (word ∷ rest) =
     else if is_option word then option_and_then (λ v. option_map (with_value v) (sorted has_steps false rest)) (attached has_steps word)
     else option_map (with_name word) (sorted has_steps false rest)
 
--- a number of steps that may be asked for: 1 to 2^40
-abbrev pub in_range : Option ℕ → Option ℕ
-in_range None = None
-in_range (Some n) = if nat_le 1 n && nat_le n (2 ^ 40) then Some n else None
+-- a number from 1 to the greatest that may be asked for
+abbrev pub in_range : ℕ → Option ℕ → Option ℕ
+in_range most None = None
+in_range most (Some n) = if nat_le 1 n && nat_le n most then Some n else None
 
--- the number of steps that a word says: one to twenty digits, in range
+-- the number that a word says: one to twenty digits, in range
+abbrev pub number_in : ℕ → List ℕ → Option ℕ
+number_in most [] = None
+number_in most (b ∷ bytes) = if nat_le (length (b ∷ bytes)) 20 && list_all digit (b ∷ bytes) then in_range most (literal_of (b ∷ bytes)) else None
+
+-- the greatest number of steps, and of functions that `gen` makes
+abbrev pub most_steps : ℕ
+most_steps = 2 ^ 40
+
+abbrev pub most_made : ℕ
+most_made = 4096
+
 abbrev pub steps_in : List ℕ → Option ℕ
-steps_in [] = None
-steps_in (b ∷ bytes) = if nat_le (length (b ∷ bytes)) 20 && list_all digit (b ∷ bytes) then in_range (literal_of (b ∷ bytes)) else None
+steps_in word = number_in most_steps word
 
 -- `check FILE`
 abbrev pub check_names : List (List ℕ) → List (List ℕ) → Option Command
@@ -105,6 +116,11 @@ run_names (file ∷ entry ∷ heap ∷ []) [] = Some (run file entry heap defaul
 run_names (file ∷ entry ∷ heap ∷ []) (steps ∷ []) = option_map (run file entry heap) (steps_in steps)
 run_names _ _ = None
 
+-- `gen N`
+abbrev pub gen_names : List (List ℕ) → List (List ℕ) → Option Command
+gen_names (number ∷ []) [] = option_map gen (number_in most_made number)
+gen_names _ _ = None
+
 -- the command that sorted words are, by their names and values; words that are out of order are none
 abbrev pub called : (List (List ℕ) → List (List ℕ) → Option Command) → Option Sorted → Option Command
 called command None = None
@@ -118,12 +134,14 @@ command_of (word ∷ rest) =
     else if bytes_eq (codes "build") word then called build_names (sorted false false rest)
     else if bytes_eq (codes "recheck") word then called recheck_names (sorted false false rest)
     else if bytes_eq (codes "run") word then called run_names (sorted true false rest)
+    else if bytes_eq (codes "gen") word then called gen_names (sorted false false rest)
     else None
 
--- no more steps than 2^40
-abbrev pub HasFewSteps : Option Command → Type 0
-HasFewSteps None = ⊤
-HasFewSteps (Some (check file)) = ⊤
-HasFewSteps (Some (build file text certificate)) = ⊤
-HasFewSteps (Some (recheck file certificate)) = ⊤
-HasFewSteps (Some (run file entry heap steps)) = steps ≤ 2 ^ 40
+-- no more steps than 2^40, and from 1 to 4,096 functions
+abbrev pub IsInRange : Option Command → Type 0
+IsInRange None = ⊤
+IsInRange (Some (check file)) = ⊤
+IsInRange (Some (build file text certificate)) = ⊤
+IsInRange (Some (recheck file certificate)) = ⊤
+IsInRange (Some (run file entry heap steps)) = steps ≤ 2 ^ 40
+IsInRange (Some (gen number)) = (1 ≤ number) × (number ≤ 4096)

@@ -2,7 +2,7 @@
 ghost use Rattle.std.specs.Prelude.{◌≡◌, false, map, IfOk};
 ghost use Rattle.clap.specs.Words.{app_of, rule_of, shape_of};
 ghost use Rattle.clap.specs.declared.builder.command.Command.TheViews.{out-Command as fields_of};
-ghost use Rattle.cg_driver_words.specs.Apps.{bare_app, cogent_app, name_rule, named, run_app, source_app};
+ghost use Rattle.cg_driver_words.specs.Apps.{bare_app, cogent_app, file_app, name_rule, named, run_app, source_app};
 
 use clap::{Arg, Command};
 use std::alloc::{AllocError, Global};
@@ -58,11 +58,18 @@ fn on_sources<'a>(alloc: Global) -> Result<Command<'a>, AllocError>
         .subcommand(command(alloc, "build", &["file", "text", "certificate"])?)
 }
 
-/// The whole command line.
-pub(crate) fn cogent<'a>(alloc: Global) -> Result<Command<'a>, AllocError>
-    ensures { IfOk result (λ c. app_of c ≡ cogent_app) }
+/// The command line with its commands on files.
+fn on_files<'a>(alloc: Global) -> Result<Command<'a>, AllocError>
+    ensures { IfOk result (λ c. app_of c ≡ file_app) }
 {
     on_sources(alloc)?
         .subcommand(command(alloc, "recheck", &["file", "certificate"])?)?
         .subcommand(run(alloc)?)
+}
+
+/// The whole command line.
+pub(crate) fn cogent<'a>(alloc: Global) -> Result<Command<'a>, AllocError>
+    ensures { IfOk result (λ c. app_of c ≡ cogent_app) }
+{
+    on_files(alloc)?.subcommand(command(alloc, "gen", &["number"])?)
 }

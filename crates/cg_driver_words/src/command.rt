@@ -3,12 +3,12 @@ ghost use Rattle.std.specs.Prelude.{◌≡◌, IfOk};
 ghost use Rattle.std.specs.Option.{option_map};
 ghost use Rattle.clap.specs.Words.{fault_of, first_of, found_of, rows_of, subcommand_of};
 ghost use Rattle.cg_driver_words.specs.Apps.{cogent_app};
-ghost use Rattle.cg_driver_words.specs.Matches.{build_in, check_in, command_from, command_in, recheck_in, run_in};
+ghost use Rattle.cg_driver_words.specs.Matches.{build_in, check_in, command_from, command_in, gen_in, recheck_in, run_in};
 ghost use Rattle.cg_driver_words.specs.Views.{command_view};
-ghost use Rattle.cg_driver_words.specs.Words.{command_of, texts, HasFewSteps};
+ghost use Rattle.cg_driver_words.specs.Words.{command_of, texts, IsInRange};
 
 use crate::app::cogent;
-use crate::steps::steps_in;
+use crate::numbers::number_in;
 use cg_base::Memory;
 use clap::ArgMatches;
 use clap::error::ErrorKind;
@@ -17,7 +17,14 @@ use std::alloc::Global;
 /// The number of steps where none is asked for.
 const DEFAULT_STEPS: u64 = 10_000_000;
 
-/// A command: `check FILE`, `build FILE CFILE CERTFILE`, whose names are apart, `recheck FILE CERTFILE`, or `run FILE ENTRY HEAPFILE [--steps N]` (docs/LANGUAGE.md, "Commands").
+/// The greatest number of steps, 2^40.
+const MOST_STEPS: u64 = 1_099_511_627_776;
+
+/// The greatest number of functions that `gen` makes.
+const MOST_MADE: u64 = 4096;
+
+/// A command: `check FILE`, `build FILE CFILE CERTFILE`, whose names are apart, `recheck FILE CERTFILE`, `run FILE ENTRY HEAPFILE [--steps N]`, or
+/// `gen N` (docs/LANGUAGE.md, "Commands").
 #[derive(Clone, Copy)]
 pub enum Command<'a> {
     Check {
@@ -37,6 +44,9 @@ pub enum Command<'a> {
         entry: &'a str,
         heap: &'a str,
         steps: u64,
+    },
+    Gen {
+        number: u64,
     },
 }
 
@@ -103,7 +113,7 @@ fn read_run<'a>(matches: &ArgMatches<'a>) -> Option<Command<'a>>
         return None;
     };
     let steps = match text_of(matches, "steps") {
-        Some(text) => steps_in(text.as_bytes())?,
+        Some(text) => number_in(MOST_STEPS, text.as_bytes())?,
         None => DEFAULT_STEPS,
     };
     Some(Command::Run {
@@ -112,6 +122,15 @@ fn read_run<'a>(matches: &ArgMatches<'a>) -> Option<Command<'a>>
         heap,
         steps,
     })
+}
+
+/// `gen`, by what clap found.
+fn read_gen<'a>(matches: &ArgMatches<'a>) -> Option<Command<'a>>
+    ensures { option_map command_view result ≡ gen_in (rows_of (found_of matches.now)) }
+{
+    let text = text_of(matches, "number")?;
+    let number = number_in(MOST_MADE, text.as_bytes())?;
+    Some(Command::Gen { number })
 }
 
 /// The command with this name, by what clap found.
@@ -124,8 +143,10 @@ fn read<'a>(name: &str, matches: &ArgMatches<'a>) -> Option<Command<'a>>
         read_build(matches)
     } else if name == "recheck" {
         read_recheck(matches)
-    } else {
+    } else if name == "run" {
         read_run(matches)
+    } else {
+        read_gen(matches)
     }
 }
 
@@ -150,7 +171,7 @@ fn answer<'a>(alloc: Global, words: &'a [String]) -> Result<Option<Command<'a>>,
 /// "Commands", says. The one error is want of memory.
 pub fn read_words<'a>(alloc: Global, words: &'a [String]) -> Result<Option<Command<'a>>, Memory>
     ensures asks { IfOk result (λ c. option_map command_view c ≡ command_of (texts words.now)) }
-    ensures few { IfOk result (λ c. HasFewSteps (option_map command_view c)) }
+    ensures range { IfOk result (λ c. IsInRange (option_map command_view c)) }
 {
     answer(alloc, words)
 }

@@ -7,6 +7,6 @@
 
 mod app;
 mod command;
-mod steps;
+mod numbers;
 
 pub use command::{Command, read_words};

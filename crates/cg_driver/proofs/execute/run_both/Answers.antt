@@ -18,8 +18,8 @@ machine-requires-clause-gives c = let g = c.requires.gives in (g.0, g.1, value_o
 pub returns : goal.returns
 returns c argument v steps few ready gives =
     each (IsLine Done (report (type_of c.args.ty.now) (value_of c.args.value.now) (value_of c.in_ok-run.run'.value) c.args.cost c.in_ok-run.run'.steps c.in_ok-run.run'.made c.in_ok-run.run'.freed c.in_ok-run.run'.kept))
-    (Reports (Executes no_extern (functions_in c.args.checked.now) (copies_in c.args.checked.now c.args.list.now) c.args.chosen.at (type_of c.args.ty.now) (the_argument c.args.cells.cells c.args.arg.now v) steps))
-    (λ p line. said_of no_extern c.args.checked.now c.args.list.now c.args.chosen.at c.args.chosen.place (type_of c.args.ty.now) (the_argument c.args.cells.cells c.args.arg.now v) (value_of c.args.value.now) c.args.cost
+    (Reports (Executes no_extern (functions_in c.args.checked.now) (copies_in c.args.checked.now c.args.list.now) c.args.chosen.at (type_of c.args.ty.now) (the_argument c.args.start.cells c.args.start.arg v) steps))
+    (λ p line. said_of no_extern c.args.checked.now c.args.list.now c.args.chosen.at c.args.chosen.place (type_of c.args.ty.now) (the_argument c.args.start.cells c.args.start.arg v) (value_of c.args.value.now) c.args.cost
     c.in_ok-run.run' c.requires.cores (stands_at c.args.checked.now c.args.list.now ready.can.listed c.args.chosen.at c.args.chosen.place ready.can.stands)
     (c.in_ok-run.ensures argument v (value_of c.args.value.now) steps few ready gives) p line steps gives)
     _ c.ran.ensures

@@ -11,6 +11,6 @@ use Rattle.cg_driver_words.proofs.command.read_words.Goals as goal
 pub returns-clause-asks : goal.returns-clause-asks
 returns-clause-asks c = IfOk-weaker c.answer.result _ _ (λ r e. e ∙ exact (texts c.args.words.now) (utf8_words c.args.words.now)) c.answer.ensures
 
-pub returns-clause-few : goal.returns-clause-few
-returns-clause-few c = IfOk-weaker c.answer.result _ _
+pub returns-clause-range : goal.returns-clause-range
+returns-clause-range c = IfOk-weaker c.answer.result _ _
     (λ r e. few_as (texts c.args.words.now) (option_map command_view r) (e ∙ exact (texts c.args.words.now) (utf8_words c.args.words.now))) c.answer.ensures

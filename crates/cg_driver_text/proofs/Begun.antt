@@ -1,19 +1,18 @@
 -- The store that the cells of a heap file make: each cell at its address, and none above the greatest.
 use Rattle.std.proofs.Common.{◌≡◌, ◌<◌, ◌^◌, ◌⊎◌, inl, inr, ℕ, suc, true, false, List, [], ◌∷◌, Option, Some, None, cond, arith, refl, sym, ap, ◌∙◌, subst, slice_get, if◌then◌else◌}
 use Rattle.std.proofs.Math.Nat.{max_comm}
-use Rattle.std.proofs.lemmas.Bool.{eqb-true}
 use Rattle.std.specs.Cmp.{nat_cmp_total}
 use Rattle.std.specs.FinMap.{get-insert, get-empty, same_map, nat_cmp-IsAntisymmetric}
 use Rattle.std.specs.Ordering.{nat_cmp, eq_by_cmp}
 use Rattle.std.specs.Prelude.{max, nat_eq}
+use Rattle.cg_base.proofs.Counts.{is_other}
 use Rattle.cg_base.proofs.Truths.{either_bool}
 use Rattle.cg_heap.specs.Calls.{heap_of}
 use Rattle.cg_heap.specs.declared.cell.Cell.{Cell}
 use Rattle.cg_heap.specs.Stored.{Stored, cell_at}
 use Rattle.cg_heaptext_def.specs.Footprints.{held_in}
 use Rattle.cg_heaptext.specs.Filled.{IsFilled, greatest}
-use Rattle.cg_driver.specs.Run.{filled, no_cells}
-use Rattle.cg_inst.proofs.Names.{by_cases}
+use Rattle.cg_driver_text.specs.Filled.{filled, no_cells}
 
 -- a key is found where it is the same number
 same_key : (p q : ℕ) → eq_by_cmp nat_cmp q p ≡ nat_eq p q
@@ -37,9 +36,7 @@ filled_low cs q above = filled_holds cs q ∙ high cs q above
     high : (cs : List (ℕ × Cell)) (q : ℕ) → (filled cs no_cells).top < q → held_in cs q ≡ None
     high [] q above = refl
     high (c ∷ cs) q above =
-        by_cases (λ b. (if b then Some c.1 else held_in cs q) ≡ None) (nat_eq c.0 q)
-        (λ same. let e : c.0 ≡ q = eqb-true c.0 q same in absurd (omega (arith, e, above)))
-        (λ _. high cs q (omega (arith, above)))
+        ap (λ b. if b then Some c.1 else held_in cs q) (is_other c.0 q (λ e. absurd (omega (arith, e, above)))) ∙ high cs q (omega (arith, above))
 
 -- and the greatest is a word of 32 bits, where they can be placed
 pub filled_small : (cs : List (ℕ × Cell)) → ((i : ℕ) (c : ℕ × Cell) → slice_get cs i ≡ Some c → c.0 < 2 ^ 32) → (filled cs no_cells).top < 2 ^ 32
