@@ -5,7 +5,7 @@ use Rattle.cg_gen_def.specs.Kernels.{core_behind, cores, function_behind, functi
 
 -- so many entries, each of them made of how many stand before it
 module _ {A : Type 0} (entry : ℕ → A) (entries : ℕ → List A) (none : entries zero ≡ []) (more : (n : ℕ) → entries (suc n) ≡ entries n ++ entry n ∷ []) where
-  as_many : (n : ℕ) → length (entries n) ≡ n
+  pub as_many : (n : ℕ) → length (entries n) ≡ n
   as_many zero = ap length none
   as_many (suc n) =
       let e = as_many n in
@@ -23,7 +23,7 @@ module _ {A : Type 0} (entry : ℕ → A) (entries : ℕ → List A) (none : ent
   entry_at : (n i : ℕ) → i ≡ n → slice_get (entries (suc n)) i ≡ Some (entry i)
   entry_at n i e = subst (λ k. slice_get (entries (suc n)) k ≡ Some (entry k)) (sym e) (last_of n)
 
-  entry_of : (n i : ℕ) → i < n → slice_get (entries n) i ≡ Some (entry i)
+  pub entry_of : (n i : ℕ) → i < n → slice_get (entries n) i ≡ Some (entry i)
   entry_of zero i lt = absurd (omega (arith, lt))
   entry_of (suc n) i lt = ⊎_elim (λ before. entry_more n i (entry_of n i before)) (entry_at n i) (either_before i n lt)
 

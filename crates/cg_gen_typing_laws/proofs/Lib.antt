@@ -1,3 +1,4 @@
 pub mod Derived
 pub mod Kernel
+pub mod Listed
 pub mod Rows
