@@ -7,8 +7,8 @@ use Rattle.cg_typing.proofs.KeptAccepted.{kept_accepted}
 use Rattle.cg_typing.specs.Kept.{AreKept, IsKept}
 use Rattle.cg_gen_def.specs.Kernels.{body_in, cell_type, core_behind, cores, function_behind, functions, subject_in, term_behind}
 use Rattle.cg_gen_typing_laws.specs.Laws.{CoresAreDerived, KernelIsAccepted}
-use Rattle.cg_gen_typing_laws.proofs.Kernel.{function_of}
-use Rattle.cg_gen_typing_laws.proofs.Rows.{HasEarlier, body_derived, tree_behind}
+use Rattle.cg_gen_typing_laws.proofs.Kernel.{HasEarlier, has_earlier}
+use Rattle.cg_gen_typing_laws.proofs.Rows.{body_derived, tree_behind}
 
 -- the derivations of so many functions
 trees : ℕ → List (Option Derivation)
@@ -19,10 +19,6 @@ erases : (before : ℕ) → erased (core_behind before) ≡ term_behind before
 unfolding erased body_in subject_in
 erases zero = refl
 erases (suc before) = refl
-
-has_earlier : (n before : ℕ) → before < n → HasEarlier (functions n) before
-has_earlier n zero lt = tt
-has_earlier n (suc before) lt = function_of n before (omega (arith, lt))
 
 kept_one : (fs : List Function) (before : ℕ) → HasEarlier fs before → before + 1 < 2 ^ 32 → IsKept fs (function_behind before) (Some (core_behind before)) (Some (tree_behind before))
 unfolding function_behind

@@ -1,7 +1,13 @@
 -- Where the functions of the kernel and their cores stand.
 use Rattle.std.proofs.Common.{◌≡◌, ◌<◌, ◌≤◌, ◌⊎◌, ⊎_elim, ℕ, zero, suc, ◌+◌, List, [], ◌∷◌, ◌++◌, length, Some, refl, sym, ap, ◌∙◌, arith, subst, slice_get, length-append}
 use Rattle.cg_base.proofs.Sequences.{get_front, get_last}
-use Rattle.cg_gen_def.specs.Kernels.{core_behind, cores, function_behind, functions}
+use Rattle.std.specs.Option.{option_map}
+use Rattle.cg_base.specs.declared.fun.Fun.TheVariants.{User}
+use Rattle.cg_base.specs.Types.{arrow}
+use Rattle.cg_core.specs.Kernels.{Function}
+use Rattle.cg_kinds.specs.Kinds.{subst as given}
+use Rattle.cg_typing.specs.Functions.{fun_type}
+use Rattle.cg_gen_def.specs.Kernels.{cell_type, core_behind, cores, function_behind, functions}
 
 -- so many entries, each of them made of how many stand before it
 module _ {A : Type 0} (entry : ℕ → A) (entries : ℕ → List A) (none : entries zero ≡ []) (more : (n : ℕ) → entries (suc n) ≡ entries n ++ entry n ∷ []) where
@@ -54,3 +60,22 @@ functions_as_many n = as_many function_behind functions no_functions more_functi
 
 pub cores_as_many : (n : ℕ) → length (cores n) ≡ n
 cores_as_many n = as_many (λ k. Some (core_behind k)) cores no_cores more_cores n
+
+-- what an option holds
+pub same_some : {A : Type 0} (x y : A) → Some x ≡ Some y → x ≡ y
+same_some x y e = cc
+
+module _ (all : List Function) where
+  -- the function before is there
+  abbrev pub HasEarlier : ℕ → Type 0
+  HasEarlier zero = Unit {0}
+  HasEarlier (suc before) = slice_get all before ≡ Some (function_behind before)
+
+  -- the type of one that is there
+  pub mention_is : (i : ℕ) → slice_get all i ≡ Some (function_behind i) → fun_type all (User i) [] ≡ Some (arrow cell_type cell_type)
+  unfolding function_behind given
+  mention_is i e = ap (option_map (λ g. given [] g.ty.ty)) e
+
+pub has_earlier : (n before : ℕ) → before < n → HasEarlier (functions n) before
+has_earlier n zero lt = tt
+has_earlier n (suc before) lt = function_of n before (omega (arith, lt))

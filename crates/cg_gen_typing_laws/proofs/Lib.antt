@@ -2,3 +2,4 @@ pub mod Derived
 pub mod Kernel
 pub mod Listed
 pub mod Rows
+pub mod Small

@@ -38,15 +38,12 @@ list_as_many n = length-map-range_with_len instance 0 n
 entry : (n i : ℕ) → i < n → slice_get (list n) i ≡ Some (instance i)
 entry n i lt = kernel.entry_of instance list refl list_more n i lt
 
-same_entry : {A : Type 0} (x y : A) → Some x ≡ Some y → x ≡ y
-same_entry x y e = cc
-
 -- each entry is the instance of its place
 each_entry : (n i : ℕ) (x : Instance) → slice_get (list n) i ≡ Some x → (i < n) × (x ≡ instance i)
 each_entry n i x e =
     let within = slice_get_within (list n) i x e in let many = list_as_many n in
     let lt : i < n = omega (arith, within, many) in
-    (lt, same_entry x (instance i) (sym e ∙ entry n i lt))
+    (lt, kernel.same_some x (instance i) (sym e ∙ entry n i lt))
 
 -- ---- the front
 
@@ -72,7 +69,7 @@ front (suc n) =
 
 found : {A : Type 0} (p : A → Bool) (xs : List A) (i : ℕ) (x : A) → slice_get xs i ≡ Some x → p x ≡ true → list_any p xs ≡ true
 found p [] i x e h = absurd (cc)
-found p (y ∷ xs) zero x e h = ap (λ z. p z || list_any p xs) (same_entry y x e) ∙ ap (λ b. b || list_any p xs) h
+found p (y ∷ xs) zero x e h = ap (λ z. p z || list_any p xs) (kernel.same_some y x e) ∙ ap (λ b. b || list_any p xs) h
 found p (y ∷ xs) (suc i) x e h = or_true (p y) (list_any p xs) (found p xs i x e h)
 
 -- an instance that is in the list isn't added

@@ -1,7 +1,6 @@
 -- The rules that derive the core of a body, row by row.
 use Rattle.std.proofs.Common.{◌≡◌, ◌<◌, ◌^◌, ◌+◌, ℕ, zero, suc, false, true, List, [], ◌∷◌, Some, None, Option, refl, sym, ap, arith, subst, slice_get, codes, IsTrue}
 use Rattle.std.proofs.lemmas.List.Elements.{All-nil}
-use Rattle.std.specs.Option.{option_map}
 use Rattle.cg_base.specs.declared.fun.Fun.TheVariants.{User}
 use Rattle.cg_base.specs.declared.kind.Word.TheVariants.{U32}
 use Rattle.cg_base.specs.declared.place.Place.{Place}
@@ -13,13 +12,13 @@ use Rattle.cg_core.specs.declared.op.Op.TheVariants.{Mul}
 use Rattle.cg_core.specs.Derivations.{Derivation}
 use Rattle.cg_core.specs.Kernels.{Function}
 use Rattle.cg_core.specs.Terms.{Note, Tree, term, var, lit, op, put, more, none}
-use Rattle.cg_kinds.specs.Kinds.{subst as given}
 use Rattle.cg_typing.specs.Contexts.{Context, DropsBut, Drops, Fits, Splits, look, mark_at}
 use Rattle.cg_typing.specs.Functions.{has_vars}
 use Rattle.cg_typing.specs.Rules.{Derives, FunRow, LitRow, Meets, VarRow}
 use Rattle.cg_typing.specs.Trees.{leaf, two}
 use Rattle.cg_gen_def.specs.Kernels.{body_in, cell_type, cell_with, core_behind, function_behind, subject_in, sum_in, with_type}
 use Rattle.cg_gen_def.specs.Programs.{at, body_row, place, reach}
+use Rattle.cg_gen_typing_laws.proofs.Kernel.{HasEarlier, mention_is}
 
 -- ---- the derivation of a body
 
@@ -164,22 +163,17 @@ module _ (functions : List Function) where
   argument_derived direction m = record { tree = refl; present = refl; others = used_alone (Some cell_type); meets = m }
 
   mention_derived : (i : ℕ) → slice_get functions i ≡ Some (function_behind i) → FunRow functions [] (one None) (leaf nodes.Fun) None (User i) [] (arrow cell_type cell_type)
-  unfolding function_behind given
+  unfolding function_behind
   mention_derived i e = record {
     tree = refl;
     many = subst (λ o. IsTrue (has_vars o 0)) (sym e) refl;
     arguments = refl;
-    is = ap (option_map (λ g. given [] g.ty.ty)) e;
+    is = mention_is functions i e;
     others = gone_alone;
     meets = tt;
   }
 
-  -- the function before is there
-  abbrev pub HasEarlier : ℕ → Type 0
-  HasEarlier zero = Unit {0}
-  HasEarlier (suc before) = slice_get functions before ≡ Some (function_behind before)
-
-  subject_derived : (before : ℕ) → HasEarlier before → Derives functions [] (one (Some cell_type)) (subject_tree before) None (subject_in with_type before)
+  subject_derived : (before : ℕ) → HasEarlier functions before → Derives functions [] (one (Some cell_type)) (subject_tree before) None (subject_in with_type before)
   unfolding subject_in
   subject_derived zero e = argument_derived None tt
   subject_derived (suc before) e = record {
@@ -191,7 +185,7 @@ module _ (functions : List Function) where
     meets = tt;
   }
 
-  pub body_derived : (before : ℕ) → HasEarlier before → before + 1 < 2 ^ 32 → Derives functions [] (one (Some cell_type)) (tree_behind before) (Some cell_type) (core_behind before)
+  pub body_derived : (before : ℕ) → HasEarlier functions before → before + 1 < 2 ^ 32 → Derives functions [] (one (Some cell_type)) (tree_behind before) (Some cell_type) (core_behind before)
   unfolding body_in subject_in
   body_derived zero e lt = record {
     tree = refl;
