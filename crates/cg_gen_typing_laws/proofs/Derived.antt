@@ -1,5 +1,5 @@
 -- The cores of the kernel are derived, and it is accepted.
-use Rattle.std.proofs.Common.{◌≡◌, ◌<◌, ◌≤◌, ◌^◌, ℕ, zero, suc, ◌+◌, List, [], ◌∷◌, ◌++◌, Option, Some, refl, subst, arith, slice_get}
+use Rattle.std.proofs.Common.{◌≡◌, ◌<◌, ◌≤◌, ◌^◌, ℕ, zero, suc, ◌+◌, List, [], ◌∷◌, ◌++◌, Option, Some, refl, arith}
 use Rattle.cg_core.specs.Derivations.{Derivation}
 use Rattle.cg_core.specs.Kernels.{Function}
 use Rattle.cg_core.specs.Terms.{Note, Tree, erased}
@@ -20,7 +20,8 @@ unfolding erased body_in subject_in
 erases zero = refl
 erases (suc before) = refl
 
-kept_one : (fs : List Function) (before : ℕ) → HasEarlier fs before → before + 1 < 2 ^ 32 → IsKept fs (function_behind before) (Some (core_behind before)) (Some (tree_behind before))
+kept_one : (fs : List Function) (before : ℕ) → HasEarlier fs before → before + 1 < 2 ^ 32
+    → IsKept fs (function_behind before) (Some (core_behind before)) (Some (tree_behind before))
 unfolding function_behind
 kept_one fs before e lt = record {
   argument = cell_type;

@@ -1,5 +1,5 @@
 -- Where the functions of the kernel and their cores stand.
-use Rattle.std.proofs.Common.{◌≡◌, ◌<◌, ◌≤◌, ◌⊎◌, ⊎_elim, ℕ, zero, suc, ◌+◌, List, [], ◌∷◌, ◌++◌, length, Some, refl, sym, ap, ◌∙◌, arith, subst, slice_get, length-append}
+use Rattle.std.proofs.Common.{◌≡◌, ◌<◌, ◌⊎◌, ⊎_elim, ℕ, zero, suc, List, [], ◌∷◌, ◌++◌, length, Some, refl, sym, ap, ◌∙◌, arith, subst, slice_get, length-append}
 use Rattle.cg_base.proofs.Sequences.{get_front, get_last}
 use Rattle.std.specs.Option.{option_map}
 use Rattle.cg_base.specs.declared.fun.Fun.TheVariants.{User}
@@ -10,7 +10,8 @@ use Rattle.cg_typing.specs.Functions.{fun_type}
 use Rattle.cg_gen_def.specs.Kernels.{cell_type, core_behind, cores, function_behind, functions}
 
 -- so many entries, each of them made of how many stand before it
-module _ {A : Type 0} (entry : ℕ → A) (entries : ℕ → List A) (none : entries zero ≡ []) (more : (n : ℕ) → entries (suc n) ≡ entries n ++ entry n ∷ []) where
+module _ {A : Type 0} (entry : ℕ → A) (entries : ℕ → List A) (none : entries zero ≡ [])
+    (more : (n : ℕ) → entries (suc n) ≡ entries n ++ entry n ∷ []) where
   pub as_many : (n : ℕ) → length (entries n) ≡ n
   as_many zero = ap length none
   as_many (suc n) =
@@ -18,7 +19,9 @@ module _ {A : Type 0} (entry : ℕ → A) (entries : ℕ → List A) (none : ent
       ap length (more n) ∙ length-append (entries n) (entry n ∷ []) ∙ omega (arith, e)
 
   last_of : (n : ℕ) → slice_get (entries (suc n)) n ≡ Some (entry n)
-  last_of n = subst (λ k. slice_get (entries (suc n)) k ≡ Some (entry n)) (as_many n) (ap (λ xs. slice_get xs (length (entries n))) (more n) ∙ get_last (entries n) (entry n))
+  last_of n =
+      subst (λ k. slice_get (entries (suc n)) k ≡ Some (entry n)) (as_many n)
+      (ap (λ xs. slice_get xs (length (entries n))) (more n) ∙ get_last (entries n) (entry n))
 
   either_before : (i n : ℕ) → i < suc n → (i < n) ⊎ (i ≡ n)
   either_before i n lt = grind (arith, lt)
@@ -57,9 +60,6 @@ core_of n i lt = entry_of (λ k. Some (core_behind k)) cores no_cores more_cores
 
 pub functions_as_many : (n : ℕ) → length (functions n) ≡ n
 functions_as_many n = as_many function_behind functions no_functions more_functions n
-
-pub cores_as_many : (n : ℕ) → length (cores n) ≡ n
-cores_as_many n = as_many (λ k. Some (core_behind k)) cores no_cores more_cores n
 
 -- what an option holds
 pub same_some : {A : Type 0} (x y : A) → Some x ≡ Some y → x ≡ y

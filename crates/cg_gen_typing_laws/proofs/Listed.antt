@@ -1,9 +1,9 @@
 -- The instances of the kernel are its functions, in their order, within all limits.
-use Rattle.std.proofs.Common.{◌≡◌, ◌<◌, ◌≤◌, ◌⊎◌, inl, inr, ⊎_elim, ℕ, zero, suc, ◌+◌, ◌*◌, Bool, true, false, ◌||◌, List, [], ◌∷◌, ◌++◌, length, map, Option, Some, None, refl, sym, ap, ◌∙◌, subst, arith, slice_get, get_or, if◌then◌else◌, append_assoc}
+use Rattle.std.proofs.Common.{◌≡◌, ◌<◌, ◌≤◌, ℕ, zero, suc, ◌+◌, ◌*◌, Bool, true, ◌||◌, List, [], ◌∷◌, ◌++◌, length, map, Option, Some, None, refl, sym, ap, ◌∙◌, subst, arith, slice_get, get_or, if◌then◌else◌, append_assoc}
 use Rattle.std.proofs.lemmas.List.FromFn.{length-map-range_with_len, map-range_with_len_more}
 use Rattle.std.proofs.lemmas.List.Sums.{AllPass-from_list_all}
-use Rattle.std.proofs.lemmas.Option.{slice_get-get_or, slice_get_past, slice_get_within}
-use Rattle.std.specs.List.{All, list_all, list_any, range_with_len}
+use Rattle.std.proofs.lemmas.Option.{slice_get-get_or, slice_get_within}
+use Rattle.std.specs.List.{All, list_any, range_with_len}
 use Rattle.cg_base.proofs.Sequences.{append_none}
 use Rattle.cg_base.proofs.Truths.{or_true}
 use Rattle.cg_base.specs.declared.fun.Fun.TheVariants.{User}
@@ -11,12 +11,11 @@ use Rattle.cg_core.specs.Kernels.{Function}
 use Rattle.cg_core.specs.Terms.{Note, Tree}
 use Rattle.cg_kinds.specs.Kinds.{subst as given}
 use Rattle.cg_typing.specs.Holds.{joined, kept_at}
-use Rattle.cg_typing.specs.Instances.{Instance, mentioned_in, nodes_of}
+use Rattle.cg_typing.specs.Instances.{Instance, mentioned_in}
 use Rattle.cg_typing.specs.Parts.{is_small_enough}
 use Rattle.cg_typing.specs.Rules.{type_at}
 use Rattle.cg_inst.proofs.SameInstance.{instance_same}
-use Rattle.cg_inst.specs.Judged.{IsWithin}
-use Rattle.cg_inst.specs.Lists.{Cores, after, core_of, front_from, front_one, gone_through, HasSmallTypes, HaveSmallTypes, mentioned_by, mentioned_maybe, nodes_in, nodes_maybe, same_instance, with_instances}
+use Rattle.cg_inst.specs.Lists.{Cores, after, core_of, front_from, front_one, gone_through, HasSmallTypes, mentioned_by, mentioned_maybe, nodes_in, nodes_maybe, same_instance, with_instances}
 use Rattle.cg_gen_def.specs.Kernels.{body_in, core_behind, cores, function_behind, functions, subject_in}
 use Rattle.cg_gen_typing_laws.specs.Laws.{InstancesAreWithin}
 use Rattle.cg_gen_typing_laws.proofs.Kernel as kernel
@@ -51,7 +50,8 @@ front_more : (k j : ℕ) (fs : List Function) (f : Function) → j ≡ k + lengt
 unfolding front_from
 front_more k j [] f e = let same : k ≡ j = omega (arith, e) in append_none (front_one k f.vars) ∙ ap (λ i. front_one i f.vars) same
 front_more k j (g ∷ fs) f e =
-    ap (λ xs. front_one k g.vars ++ xs) (front_more (suc k) j fs f (omega (arith, e))) ∙ sym (append_assoc (front_one k g.vars) (front_from (suc k) fs) (front_one j f.vars))
+    ap (λ xs. front_one k g.vars ++ xs) (front_more (suc k) j fs f (omega (arith, e)))
+    ∙ sym (append_assoc (front_one k g.vars) (front_from (suc k) fs) (front_one j f.vars))
 
 no_vars : (n : ℕ) → front_one n (function_behind n).vars ≡ instance n ∷ []
 unfolding function_behind
@@ -123,13 +123,15 @@ module _ (n : ℕ) where
   few_nodes zero = omega arith
   few_nodes (suc before) = omega arith
 
-  nodes_within : (xs : List Instance) → ((i : ℕ) (x : Instance) → slice_get xs i ≡ Some x → length (nodes_at x) ≤ 11) → nodes_in cores_here xs ≤ 11 * length xs
+  nodes_within : (xs : List Instance) → ((i : ℕ) (x : Instance) → slice_get xs i ≡ Some x → length (nodes_at x) ≤ 11)
+      → nodes_in cores_here xs ≤ 11 * length xs
   unfolding nodes_in
   nodes_within [] h = omega arith
   nodes_within (x ∷ xs) h = let a = h zero x refl in let b = nodes_within xs (λ i y e. h (suc i) y e) in omega (arith, a, b)
 
   -- what holds of each body holds at each entry
-  at_each : (P : Option (Tree Note) → Type 0) → ((i : ℕ) → P (Some (core_behind i))) → (i : ℕ) (x : Instance) → slice_get (list n) i ≡ Some x → P (core_of cores_here x.fun)
+  at_each : (P : Option (Tree Note) → Type 0) → ((i : ℕ) → P (Some (core_behind i)))
+      → (i : ℕ) (x : Instance) → slice_get (list n) i ≡ Some x → P (core_of cores_here x.fun)
   at_each P h i x e =
       let is = each_entry n i x e in
       subst (λ y. P (core_of cores_here y.fun)) (sym is.1) (subst P (sym (core i is.0)) (h i))

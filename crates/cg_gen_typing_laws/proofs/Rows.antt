@@ -1,5 +1,5 @@
 -- The rules that derive the core of a body, row by row.
-use Rattle.std.proofs.Common.{◌≡◌, ◌<◌, ◌^◌, ◌+◌, ℕ, zero, suc, false, true, List, [], ◌∷◌, Some, None, Option, refl, sym, ap, arith, subst, slice_get, codes, IsTrue}
+use Rattle.std.proofs.Common.{◌≡◌, ◌<◌, ◌^◌, ◌+◌, ℕ, zero, suc, false, true, List, [], ◌∷◌, Some, None, Option, refl, sym, arith, subst, slice_get, codes, IsTrue}
 use Rattle.std.proofs.lemmas.List.Elements.{All-nil}
 use Rattle.cg_base.specs.declared.fun.Fun.TheVariants.{User}
 use Rattle.cg_base.specs.declared.kind.Word.TheVariants.{U32}
@@ -53,7 +53,8 @@ one_splits m a f = record { long = refl; fits = fits; observed = All-nil _ }
     fits zero lt = f
     fits (suc i) lt = absurd (omega (arith, lt))
 
-three_split : (l m n : Mark) (a b c : Option Tau) → Fits [] false l a → Fits [] false m b → Fits [] false n c → Splits [] [] (l ∷ m ∷ n ∷ []) (three a b c)
+three_split : (l m n : Mark) (a b c : Option Tau) → Fits [] false l a → Fits [] false m b → Fits [] false n c
+    → Splits [] [] (l ∷ m ∷ n ∷ []) (three a b c)
 three_split l m n a b c f g h = record { long = refl; fits = fits; observed = All-nil _ }
   where
     fits : (i : ℕ) → i < 3 → Fits [] false (mark_at (l ∷ m ∷ n ∷ []) i) (look (three a b c) i)
@@ -142,9 +143,11 @@ module _ (functions : List Function) where
   abbrev put_in : ℕ → Tree Note
   put_in before =
       term (with_type (place (body_row before) (reach before + 29)) cell_type)
-      (put (term (with_type (place (body_row before) (reach before + 29)) (cell_with true)) (var 1)) (at (body_row before) (reach before + 33) (codes "val")) (sum_in with_type before))
+      (put (term (with_type (place (body_row before) (reach before + 29)) (cell_with true)) (var 1))
+      (at (body_row before) (reach before + 33) (codes "val")) (sum_in with_type before))
 
-  put_derived : (before : ℕ) → before + 1 < 2 ^ 32 → Derives functions [] (three None (Some (cell_with true)) (Some u32)) put_tree (Some cell_type) (put_in before)
+  put_derived : (before : ℕ) → before + 1 < 2 ^ 32
+      → Derives functions [] (three None (Some (cell_with true)) (Some u32)) put_tree (Some cell_type) (put_in before)
   put_derived before lt = record {
     tree = refl;
     splits = three_split Gone Left Right None (Some (cell_with true)) (Some u32) refl refl refl;
@@ -162,7 +165,8 @@ module _ (functions : List Function) where
   argument_derived : (direction : Option Tau) → Meets direction cell_type → VarRow functions [] (one (Some cell_type)) (leaf nodes.Var) direction 0 cell_type
   argument_derived direction m = record { tree = refl; present = refl; others = used_alone (Some cell_type); meets = m }
 
-  mention_derived : (i : ℕ) → slice_get functions i ≡ Some (function_behind i) → FunRow functions [] (one None) (leaf nodes.Fun) None (User i) [] (arrow cell_type cell_type)
+  mention_derived : (i : ℕ) → slice_get functions i ≡ Some (function_behind i)
+      → FunRow functions [] (one None) (leaf nodes.Fun) None (User i) [] (arrow cell_type cell_type)
   unfolding function_behind
   mention_derived i e = record {
     tree = refl;
@@ -173,7 +177,8 @@ module _ (functions : List Function) where
     meets = tt;
   }
 
-  subject_derived : (before : ℕ) → HasEarlier functions before → Derives functions [] (one (Some cell_type)) (subject_tree before) None (subject_in with_type before)
+  subject_derived : (before : ℕ) → HasEarlier functions before
+      → Derives functions [] (one (Some cell_type)) (subject_tree before) None (subject_in with_type before)
   unfolding subject_in
   subject_derived zero e = argument_derived None tt
   subject_derived (suc before) e = record {
@@ -185,7 +190,8 @@ module _ (functions : List Function) where
     meets = tt;
   }
 
-  pub body_derived : (before : ℕ) → HasEarlier functions before → before + 1 < 2 ^ 32 → Derives functions [] (one (Some cell_type)) (tree_behind before) (Some cell_type) (core_behind before)
+  pub body_derived : (before : ℕ) → HasEarlier functions before → before + 1 < 2 ^ 32
+      → Derives functions [] (one (Some cell_type)) (tree_behind before) (Some cell_type) (core_behind before)
   unfolding body_in subject_in
   body_derived zero e lt = record {
     tree = refl;

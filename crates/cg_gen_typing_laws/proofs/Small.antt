@@ -1,6 +1,5 @@
 -- The types of all nodes of the kernel are small.
 use Rattle.std.proofs.Common.{◌≡◌, ◌<◌, ℕ, zero, suc, ◌+◌, false, true, List, [], ◌∷◌, Some, None, Option, refl, sym, ap, ◌∙◌, arith, subst, slice_get, codes, IsTrue}
-use Rattle.std.specs.Option.{option_map}
 use Rattle.std.proofs.lemmas.Option.{slice_get_within}
 use Rattle.cg_base.specs.declared.fun.Fun.TheVariants.{User}
 use Rattle.cg_base.specs.declared.kind.Word.TheVariants.{U32}
@@ -9,12 +8,12 @@ use Rattle.cg_base.specs.Types.{Tau, arrow, word}
 use Rattle.cg_core.specs.declared.op.Op.TheVariants.{Mul}
 use Rattle.cg_core.specs.Kernels.{Body, Function}
 use Rattle.cg_core.specs.Terms.{Tree, term, var, lit, fun, op, put, more, none}
-use Rattle.cg_faults.specs.Fails.{AreTypesIn, IsTypeWithin, root_of}
+use Rattle.cg_faults.specs.Fails.{AreTypesIn, IsTypeWithin}
 use Rattle.cg_faults.specs.Plain.{mentioned, plain}
 use Rattle.cg_faults.specs.Sites.{Entry, Path, Site, argument, bound_at, down, parts}
-use Rattle.cg_kinds.specs.Kinds.{or_unit, subst as given}
+use Rattle.cg_kinds.specs.Kinds.{or_unit}
 use Rattle.cg_typing.specs.Parts.{field_in, given_by, held, is_small_enough, taken_by, with_part}
-use Rattle.cg_gen_def.specs.Kernels.{body_in, cell_type, cell_with, function_behind, functions, place_alone, subject_in, sum_in, term_behind}
+use Rattle.cg_gen_def.specs.Kernels.{body_in, cell_type, function_behind, functions, place_alone, subject_in, sum_in, term_behind}
 use Rattle.cg_gen_def.specs.Programs.{at, body_row, place, reach, width}
 use Rattle.cg_gen_typing_laws.specs.Laws.{TypesAreSmall}
 use Rattle.cg_gen_typing_laws.proofs.Kernel.{HasEarlier, function_of, functions_as_many, has_earlier, mention_is, same_some}
@@ -44,17 +43,20 @@ module _ (all : List Function) where
   u32 = word U32
 
   -- a node without parts that is checked against a word
-  number_below : (path : Path) (scope : List Entry) (p : Place) (n : Option ℕ) → Below (record { path = path; scope = scope; direction = Some u32; node = term p (lit n) })
+  number_below : (path : Path) (scope : List Entry) (p : Place) (n : Option ℕ)
+      → Below (record { path = path; scope = scope; direction = Some u32; node = term p (lit n) })
   number_below path scope p n = below _ refl tt
 
-  value_below : (path : Path) (scope : List Entry) (p : Place) (i : ℕ) → Below (record { path = path; scope = scope; direction = Some u32; node = term p (var i) })
+  value_below : (path : Path) (scope : List Entry) (p : Place) (i : ℕ)
+      → Below (record { path = path; scope = scope; direction = Some u32; node = term p (var i) })
   value_below path scope p i = below _ refl tt
 
   product_below : (path : Path) (scope : List Entry) (p q r : Place)
       → Below (record { path = path; scope = scope; direction = Some u32; node = term p (op Mul (more (term q (var 2)) (more (term r (lit (Some 3))) none))) })
   product_below path scope p q r = below _ refl (value_below _ scope q 2, (number_below _ scope r (Some 3), tt))
 
-  sum_below : (path : Path) (scope : List Entry) (before : ℕ) → Below (record { path = path; scope = scope; direction = Some u32; node = sum_in place_alone before })
+  sum_below : (path : Path) (scope : List Entry) (before : ℕ)
+      → Below (record { path = path; scope = scope; direction = Some u32; node = sum_in place_alone before })
   sum_below path scope before = below _ refl (product_below _ scope _ _ _, (number_below _ scope _ (Some (before + 1)), tt))
 
   -- what is in scope of a body: the argument, and behind what is taken apart of this type the record without its value, and the value
@@ -98,7 +100,8 @@ module _ (all : List Function) where
       → Below (record { path = 0 ∷ 0 ∷ []; scope = scope_of_body; direction = None; node = term p (fun (User i) []) })
   mention_below p i e = below _ (subst (λ t. IsTrue (is_small_enough t)) (sym (mention_type i e)) refl) tt
 
-  argument_below : (p : Place) (t : Tau) → t ≡ cell_type → Below (record { path = 0 ∷ 1 ∷ []; scope = scope_of_body; direction = Some t; node = term p (var 0) })
+  argument_below : (p : Place) (t : Tau) → t ≡ cell_type
+      → Below (record { path = 0 ∷ 1 ∷ []; scope = scope_of_body; direction = Some t; node = term p (var 0) })
   argument_below p t e = below _ (subst (λ t. IsTrue (is_small_enough t)) (sym e) refl) tt
 
   subject_below : (before : ℕ) → HasEarlier all before → Below (subject_site before)
@@ -122,7 +125,8 @@ module _ (all : List Function) where
   abbrev body_behind : ℕ → Body
   body_behind before = record { param = place (body_row before) (width before + 2); term = term_behind before }
 
-  function_below : (before : ℕ) → HasEarlier all before → (body : Body) → (function_behind before).body ≡ Some body → AreTypesIn all (function_behind before) body
+  function_below : (before : ℕ) → HasEarlier all before → (body : Body) → (function_behind before).body ≡ Some body
+      → AreTypesIn all (function_behind before) body
   unfolding function_behind
   function_below before e body is = subst (AreTypesIn all (function_behind before)) (same_some (body_behind before) body is) (body_below before e)
 

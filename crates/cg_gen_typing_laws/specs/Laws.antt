@@ -5,18 +5,17 @@ use Rattle.cg_base.specs.declared.fun.Fun.TheVariants.{User}
 use Rattle.cg_core.specs.Derivations.{Derivation}
 use Rattle.cg_typing.specs.Accepted.{IsAcceptedKernel}
 use Rattle.cg_typing.specs.Holds.{kept_at}
-use Rattle.cg_typing.specs.Instances.{Instance}
 use Rattle.cg_typing.specs.Kept.{AreKept}
 use Rattle.cg_faults.specs.Fails.{AreTypesWithin}
 use Rattle.cg_inst.specs.Judged.{IsWithin}
 use Rattle.cg_gen_def.specs.Kernels.{cores, functions}
 
--- The cores of the kernel erase to its bodies, and the typing rules derive each, where the functions' numbers, which stand in the bodies, are
--- numbers of 32 bits.
+-- The cores of the kernel erase to its bodies, and the typing rules derive each. A body holds the number of its function, as a `U32`, so that
+-- none is derived whose function has a larger one.
 abbrev pub CoresAreDerived : Type 0
 CoresAreDerived = (n : ℕ) → n < 2 ^ 32 → (trees : List (Option Derivation)) × AreKept (functions n) (functions n) (cores n) trees
 
--- The kernel is accepted.
+-- The kernel is accepted, as far as the numbers of its functions are of `U32`.
 abbrev pub KernelIsAccepted : Type 0
 KernelIsAccepted = (n : ℕ) → n < 2 ^ 32 → IsAcceptedKernel (functions n)
 
@@ -26,4 +25,5 @@ TypesAreSmall = (n : ℕ) → AreTypesWithin (functions n)
 
 -- Its instances are its functions, in their order, within all limits.
 abbrev pub InstancesAreWithin : Type 0
-InstancesAreWithin = (n : ℕ) → n ≤ 4096 → IsWithin (functions n) (λ i. kept_at (cores n) i) (map (λ i. record { fun = User i; types = [] }) (range_with_len 0 n))
+InstancesAreWithin =
+    (n : ℕ) → n ≤ 4096 → IsWithin (functions n) (λ i. kept_at (cores n) i) (map (λ i. record { fun = User i; types = [] }) (range_with_len 0 n))
