@@ -10,12 +10,12 @@ use Rattle.cg_faults.specs.Fails.{AreTypesWithin}
 use Rattle.cg_inst.specs.Judged.{IsWithin}
 use Rattle.cg_gen_def.specs.Kernels.{cores, functions}
 
--- The cores of the kernel erase to its bodies, and the typing rules derive each. A body holds the number of its function, as a `U32`, so that
--- none is derived whose function has a larger one.
+-- The cores of the kernel erase to its bodies, and the typing rules derive each, so long as the number of each function, which stands in its body,
+-- is one of `U32`.
 abbrev pub CoresAreDerived : Type 0
 CoresAreDerived = (n : ℕ) → n < 2 ^ 32 → (trees : List (Option Derivation)) × AreKept (functions n) (functions n) (cores n) trees
 
--- The kernel is accepted, as far as the numbers of its functions are of `U32`.
+-- The kernel is accepted, so long as these numbers are.
 abbrev pub KernelIsAccepted : Type 0
 KernelIsAccepted = (n : ℕ) → n < 2 ^ 32 → IsAcceptedKernel (functions n)
 
