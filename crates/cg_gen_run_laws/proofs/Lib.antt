@@ -1,1 +1,3 @@
+mod Faultless
+mod Held
 mod Running
