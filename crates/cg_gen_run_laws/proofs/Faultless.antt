@@ -1,17 +1,15 @@
 -- The heap file of the generated source has none of the faults of heap files.
-use Rattle.std.proofs.Common.{◌≡◌, ◌⊎◌, inl, inr, ℕ, zero, suc, ◌+◌, ◌^◌, ◌<◌, ◌≤◌, List, [], ◌∷◌, ◌++◌, codes, length, Option, Some, None, refl, sym, ◌∙◌, ap, subst, arith}
+use Rattle.std.proofs.Common.{◌≡◌, ◌⊎◌, inl, inr, ℕ, zero, suc, ◌^◌, ◌<◌, List, [], ◌∷◌, ◌++◌, Some, None, refl, sym, ◌∙◌, subst, arith}
 use Rattle.std.specs.List.{AllByRecursion}
 use Rattle.std.specs.Prelude.{⊤, slice_get}
 use Rattle.std.proofs.lemmas.Option.{slice_get_within}
 use Rattle.cg_base.specs.declared.place.Place.{Place}
 use Rattle.cg_base.specs.Types.{Tau}
-use Rattle.cg_heap.specs.declared.cell.Cell.TheVariants.{Slots}
-use Rattle.cg_heap.specs.declared.cell.Scalar.TheVariants.{Address, Word}
-use Rattle.cg_heaptext_def.specs.HeapText.{Fault, HeapText, IsSecond, IsAbsent, IsMisfit, IsAliased, IsMentioned, IsOver, over_type, over_word, entry_out, mention_out, IsLarge, HasMany, Mention, Lacks, LacksBefore, Never, Nowhere, cells_of, mentions, most_addresses, most_entries, read_at, read_events, large}
+use Rattle.cg_heaptext_def.specs.HeapText.{IsSecond, IsAbsent, IsMisfit, IsAliased, IsMentioned, IsOver, over_type, over_word, entry_out, mention_out, IsLarge, HasMany, Never, Nowhere, cells_of, mentions, most_addresses, most_entries, read_at, read_events}
 use Rattle.cg_heaptext_def.specs.Reading.{Event, misfit, counted, mention, events, events_all, scalars, scalars_all, value, value_all}
-use Rattle.cg_heaptext_def.specs.Trees.{Entry, Numeral, amount}
+use Rattle.cg_heaptext_def.specs.Trees.{Numeral, amount}
 use Rattle.cg_gen_def.specs.Kernels.{cell_type}
-use Rattle.cg_gen_run_laws.proofs.Held.{argument_address, cell_entry, cell_address, held, spells, tag_zero, value_zero}
+use Rattle.cg_gen_run_laws.proofs.Held.{argument_address, cell_address, held, spells, tag_zero, value_zero}
 use Rattle.cg_gen_run_laws.specs.Laws.{HeapIsHeld}
 
 -- ---- lists of known elements

@@ -1,13 +1,12 @@
 -- Evaluation of the bodies of the generated functions, one behind the other.
-use Rattle.std.proofs.Common.{◌≡◌, ◌∙◌, ℕ, zero, suc, ◌+◌, ◌-◌, ◌*◌, ◌%◌, ◌^◌, ◌<◌, ◌≤◌, ◌⊎◌, inl, inr, List, [], ◌∷◌, ◌++◌, codes, Option, Some, None, refl, ap, sym, length-append, arith}
+use Rattle.std.proofs.Common.{◌≡◌, ◌∙◌, ℕ, zero, suc, ◌+◌, ◌-◌, ◌*◌, ◌%◌, ◌^◌, ◌<◌, ◌≤◌, ◌⊎◌, inl, inr, [], ◌∷◌, ◌++◌, codes, Some, refl, ap, sym, length-append, arith}
 use Rattle.std.specs.Prelude.{slice_get, length}
 use Rattle.std.specs.Option.{option_map}
 use Rattle.std.proofs.Math.Nat.{mod-add-mod}
 use Rattle.cg_base.proofs.Sequences.{get_front, get_last}
 use Rattle.cg_base.specs.declared.fun.Fun.TheVariants.{User}
 use Rattle.cg_core.specs.Terms.{Tree, Note, term, take_field}
-use Rattle.cg_base.specs.declared.place.Place.{Place}
-use Rattle.cg_value.specs.Values.{Val, number, parts, more, none, gone, function}
+use Rattle.cg_value.specs.Values.{Val, number, parts, more, none, function}
 use Rattle.cg_value.specs.Foreign.{Foreign}
 use Rattle.cg_value.specs.Forms.{field, with_field, without}
 use Rattle.cg_value.specs.Values.{to_vals, val_list}
@@ -18,7 +17,7 @@ use Rattle.cg_eval_def.specs.Evaluation.{Outcome, gives, bind, Table, Body, Cont
 use Rattle.cg_eval_def.specs.Foreigns.{table_over}
 use Rattle.cg_typing.specs.Rules.{type_at}
 use Rattle.cg_typing.specs.Holds.{joined, kept_at}
-use Rattle.cg_gen_def.specs.Kernels.{body_in, subject_in, sum_in, core_behind, cores, functions, with_type}
+use Rattle.cg_gen_def.specs.Kernels.{body_in, subject_in, core_behind, cores, functions, with_type}
 use Rattle.cg_gen_def.specs.Results.{number_after, cell_after, cost_of}
 use Rattle.cg_gen_run_laws.specs.Laws.{EvaluationGives}
 
@@ -37,15 +36,6 @@ cell a = parts (more (number a) (more (number 0) none))
 abbrev next : ℕ → ℕ → ℕ
 next before a = ((a * 3) % 2 ^ 32 + (before + 1)) % 2 ^ 32
 
--- the variables behind what it takes apart
-abbrev taken : Val → ℕ → Context
-taken x a = record { types = []; values = x ∷ parts (more gone (more (number 0) none)) ∷ number a ∷ [] }
-
-sum_runs : (table : Table) (before a fuel left : ℕ) (x : Val)
-    → with_fuel table (suc (suc (suc fuel))) (sum_in with_type before) (taken x a) (suc (suc (suc (suc (suc left))))) ≡ gives (number (next before a)) left
-unfolding with_fuel operated_both
-sum_runs table before a fuel left x = refl
-
 -- what follows the subject, where the field that is taken stands at this position
 abbrev follows : Tree Note → Tree Note
 follows (term note (take_field e at p q k)) = k
@@ -56,7 +46,8 @@ after table fuel before x p v rest = with_fuel table fuel (follows (core_behind 
 
 body_runs : (table : Table) (before fuel start : ℕ) (x : Val)
     → with_fuel table (suc fuel) (core_behind before) (only [] x) (suc start)
-    ≡ bind (with_fuel table fuel (subject_in with_type before) (only [] x) start) (after table fuel before x (position (codes "val") (type_at (subject_in with_type before))))
+    ≡ bind (with_fuel table fuel (subject_in with_type before) (only [] x) start)
+    (after table fuel before x (position (codes "val") (type_at (subject_in with_type before))))
 unfolding with_fuel body_in
 body_runs table before fuel start x = refl
 
@@ -86,7 +77,8 @@ unfolding with_fuel subject_in
 first_subject table fuel left x = refl
 
 later_subject : (table : Table) (before fuel left : ℕ) (x : Val)
-    → with_fuel table (suc (suc fuel)) (subject_in with_type (suc before)) (only [] x) (suc (suc (suc left))) ≡ enter table (with_fuel table (suc fuel)) before x left (table.body before [])
+    → with_fuel table (suc (suc fuel)) (subject_in with_type (suc before)) (only [] x) (suc (suc (suc left)))
+    ≡ enter table (with_fuel table (suc fuel)) before x left (table.body before [])
 unfolding with_fuel subject_in
 later_subject table before fuel left x = refl
 
@@ -109,16 +101,19 @@ next_is : (before : ℕ) → next before (number_after before) ≡ number_after 
 next_is before = mod-add-mod (number_after before * 3) (2 ^ 32) (before + 1)
 
 runs : (table : Table) (before spare left : ℕ) → HasBodies table before
-    → with_fuel table (suc (four (deep before spare))) (core_behind before) (only [] (cell 0)) (paid before left) ≡ gives (cell (number_after (suc before))) left
+    → with_fuel table (suc (four (deep before spare))) (core_behind before) (only [] (cell 0)) (paid before left)
+    ≡ gives (cell (number_after (suc before))) left
 unfolding deep paid
 runs table zero spare left has =
-    from_subject table 0 0 spare (suc (eight left)) left (cell 0) (first_subject table (suc (suc (suc spare))) (eight left) (cell 0)) ∙ ap (λ a. gives (cell a) left) (next_is 0)
+    from_subject table 0 0 spare (suc (eight left)) left (cell 0) (first_subject table (suc (suc (suc spare))) (eight left) (cell 0))
+    ∙ ap (λ a. gives (cell a) left) (next_is 0)
 runs table (suc before) spare left has =
     let called : table.body before [] ≡ Some (record { term = core_behind before; types = [] }) = has before (omega arith) in
     let subject = later_subject table before (four (deep before spare)) (paid before (eight left)) (cell 0)
-            ∙ ap (enter table (with_fuel table (suc (four (deep before spare)))) before (cell 0) (paid before (eight left))) called
-            ∙ runs table before spare (eight left) (λ i lt. has i (omega arith)) in
-    from_subject table (suc before) (number_after (suc before)) (suc (suc (deep before spare))) (suc (suc (suc (paid before (eight left))))) left (cell 0) subject
+    ∙ ap (enter table (with_fuel table (suc (four (deep before spare)))) before (cell 0) (paid before (eight left))) called
+    ∙ runs table before spare (eight left) (λ i lt. has i (omega arith)) in
+    let start = suc (suc (suc (paid before (eight left)))) in
+    from_subject table (suc before) (number_after (suc before)) (suc (suc (deep before spare))) start left (cell 0) subject
     ∙ ap (λ a. gives (cell a) left) (next_is (suc before))
 
 deep_is : (before spare : ℕ) → deep before spare ≡ 2 * before + spare
@@ -149,7 +144,8 @@ evaluates : (table : Table) (before steps : ℕ) → HasBodies table before → 
     → evaluate table (core_behind before) (only [] (cell 0)) steps ≡ gives (cell_after (suc before)) (steps - cost_of (before + 1))
 unfolding evaluate
 evaluates table before steps has enough =
-    at_sizes table before steps steps (steps - (2 * before + 5)) (steps - cost_of (before + 1)) has (enough_fuel before steps enough) (enough_budget before steps enough)
+    let spare = steps - (2 * before + 5) in let left = steps - cost_of (before + 1) in
+    at_sizes table before steps steps spare left has (enough_fuel before steps enough) (enough_budget before steps enough)
 
 costs : (steps cost : ℕ) → cost ≤ steps → steps - (steps - cost) ≡ cost
 costs steps cost within = omega arith
@@ -173,10 +169,13 @@ cores_number zero = refl
 cores_number (suc n) = length-append (cores n) (Some (core_behind n) ∷ []) ∙ ap (λ m. m + 1) (cores_number n) ∙ omega arith
 
 -- each function has its core
-core_next : (n i : ℕ) → ((i < n) → slice_get (cores n) i ≡ Some (Some (core_behind i))) → (i < n) ⊎ (i ≡ n) → slice_get (cores n ++ Some (core_behind n) ∷ []) i ≡ Some (Some (core_behind i))
+core_next : (n i : ℕ) → ((i < n) → slice_get (cores n) i ≡ Some (Some (core_behind i))) → (i < n) ⊎ (i ≡ n)
+    → slice_get (cores n ++ Some (core_behind n) ∷ []) i ≡ Some (Some (core_behind i))
 core_next n i has (inl less) = get_front (cores n) (Some (core_behind n) ∷ []) i (Some (core_behind i)) (has less)
 core_next n i has (inr e) =
-    ap (slice_get (cores n ++ Some (core_behind n) ∷ [])) (e ∙ sym (cores_number n)) ∙ get_last (cores n) (Some (core_behind n)) ∙ ap (λ k. Some (Some (core_behind k))) (sym e)
+    ap (slice_get (cores n ++ Some (core_behind n) ∷ [])) (e ∙ sym (cores_number n))
+    ∙ get_last (cores n) (Some (core_behind n))
+    ∙ ap (λ k. Some (Some (core_behind k))) (sym e)
 
 core_at : (n i : ℕ) → i < n → slice_get (cores n) i ≡ Some (Some (core_behind i))
 unfolding cores

@@ -13,11 +13,12 @@ use Rattle.cg_gen.specs.Generated.{heap}
 use Rattle.cg_gen_def.specs.Kernels.{cell_type, cores, functions}
 use Rattle.cg_gen_def.specs.Results.{cell_after, cost_of}
 
--- The last of so many functions, on the cell of the heap file, gives the cell with its number at cost 12 n - 2, over any table of abstract functions and
--- within any steps that are as many.
+-- The last of so many functions, on the cell of the heap file, gives the cell with its number at cost 12 n - 2, over any table of abstract
+-- functions and within any steps that are as many.
 abbrev pub EvaluationGives : Type 0
 EvaluationGives = (x : Foreign) (before steps : ℕ) → cost_of (before + 1) ≤ steps
-    → evaluation (table_over x (functions (before + 1)) (λ i. kept_at (cores (before + 1)) i)) steps (function (User before) []) (cell_after 0) ≡ Some (cell_after (before + 1), cost_of (before + 1))
+    → evaluation (table_over x (functions (before + 1)) (λ i. kept_at (cores (before + 1)) i)) steps (function (User before) []) (cell_after 0)
+    ≡ Some (cell_after (before + 1), cost_of (before + 1))
 
 -- The first costs 10.
 abbrev pub FirstCosts : Type 0
