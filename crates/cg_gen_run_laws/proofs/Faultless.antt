@@ -115,9 +115,9 @@ no_large p is = by is.large
     by (inl last) = let low = slice_get_within held.entries is.i is.entry is.there in absurd (omega (arith, low, last))
     by (inr many) = holds_at (λ e. HasMany e.cell → ⊥) held.entries is.i is.entry ((λ x. x), tt) is.there many
 
-pub is_held : HeapIsHeld
+pub heap_is_held : HeapIsHeld
 unfolding scalars scalars_all value value_all events events_all
-is_held = record {
+heap_is_held = record {
   heap = held;
   spells = spells;
   sound = ((no_second, no_absent, no_misfit, no_over, no_alias), no_large);

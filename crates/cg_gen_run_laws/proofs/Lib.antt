@@ -1,3 +1,3 @@
-mod Faultless
+pub mod Faultless
 mod Held
-mod Running
+pub mod Running

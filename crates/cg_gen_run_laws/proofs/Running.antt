@@ -19,7 +19,7 @@ use Rattle.cg_typing.specs.Rules.{type_at}
 use Rattle.cg_typing.specs.Holds.{joined, kept_at}
 use Rattle.cg_gen_def.specs.Kernels.{body_in, subject_in, core_behind, cores, functions, with_type}
 use Rattle.cg_gen_def.specs.Results.{number_after, cell_after, cost_of}
-use Rattle.cg_gen_run_laws.specs.Laws.{EvaluationGives}
+use Rattle.cg_gen_run_laws.specs.Laws.{EvaluationGives, StepsAreEnough}
 
 -- so many more
 abbrev four : ℕ → ℕ
@@ -193,3 +193,6 @@ evaluation_gives x before steps enough =
     let table = table_over x (functions (before + 1)) (λ i. kept_at (cores (before + 1)) i) in
     calls table before steps (λ i lt. has_bodies x (before + 1) i (omega arith)) enough
     ∙ ap (λ n. Some (cell_after n, cost_of (before + 1))) (one_more before)
+
+pub steps_are_enough : StepsAreEnough
+steps_are_enough n few = omega arith
