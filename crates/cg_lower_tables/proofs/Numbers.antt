@@ -16,7 +16,7 @@ use Rattle.cg_lower_tables.specs.Plain.{plain}
 use Rattle.cg_lower_tables.specs.Tables.{IsPlainAt, table_of}
 use Rattle.cg_lower_tables.proofs.Plains.{same_plain}
 use Rattle.cg_graphs.proofs.Standing.{are_equal as equal_is}
-use Rattle.cg_graphs.proofs.BucketSteps.{is_equal as equal_to}
+use Rattle.cg_base.proofs.Counts.{is_equal as equal_to}
 
 -- ---- a struct's number is its place among keys
 

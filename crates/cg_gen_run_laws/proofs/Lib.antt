@@ -1,0 +1,3 @@
+pub mod Faultless
+mod Held
+pub mod Running
