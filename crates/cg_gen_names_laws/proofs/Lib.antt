@@ -1,0 +1,3 @@
+mod Entry
+mod Lists
+mod Names
