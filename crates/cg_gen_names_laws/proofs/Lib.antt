@@ -1,3 +1,7 @@
+mod Body
 mod Entry
+mod Kernel
+mod Known
 mod Lists
+mod Looks
 mod Names
