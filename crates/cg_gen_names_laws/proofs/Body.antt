@@ -32,7 +32,7 @@ function_with i t b = record { at = at (type_row i) 1 (name (i + 1)); vars = [];
 
 module _ (entries : List Entry) (n : ℕ) (known : Known entries n) where
   -- the name of the type
-  cell_named : (p : Place) → type_in entries [] (types.named p (codes "Cell") types.no_types) ≡ cell_type
+  pub cell_named : (p : Place) → type_in entries [] (types.named p (codes "Cell") types.no_types) ≡ cell_type
   unfolding subst
   cell_named p = ap (applied_as (codes "Cell") [] None) known.body
 

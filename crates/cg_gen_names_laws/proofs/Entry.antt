@@ -8,7 +8,7 @@ use Rattle.cg_core.specs.Kernels.{Function}
 use Rattle.cg_gen.specs.Generated.{name}
 use Rattle.cg_gen_def.specs.Kernels.{function_behind, functions}
 use Rattle.cg_gen_names_laws.specs.Laws.{EntryIsLast}
-use Rattle.cg_gen_names_laws.proofs.Lists.{functions_are, one_function, spread}
+use Rattle.cg_gen_names_laws.proofs.Lists.{functions_are, one_function, so_many, spread}
 use Rattle.cg_gen_names_laws.proofs.Names.{apart}
 
 -- whether a function has this name
@@ -35,10 +35,6 @@ all_before i (suc k) t same small =
   where
     next : (j : ℕ) → 1 + j ≡ suc j
     next j = omega arith
-
-so_many : (i k : ℕ) → length (spread one_function i k) ≡ k
-so_many i zero = refl
-so_many i (suc k) = ap suc (so_many (suc i) k)
 
 below : (k : ℕ) → nat_lt k (suc k) ≡ true
 below k = grind (arith, nat_tests)

@@ -13,7 +13,7 @@ use Rattle.cg_gen_names_laws.proofs.Lists.{functions_are, one_function, spread, 
 
 module _ (entries : List Entry) (n : ℕ) (known : Known entries n) where
   -- the functions of some items
-  some_made : (i k : ℕ) → i + k ≤ n → filter_map (function_of_entry entries) (spread two_items i k) ≡ spread one_function i k
+  pub some_made : (i k : ℕ) → i + k ≤ n → filter_map (function_of_entry entries) (spread two_items i k) ≡ spread one_function i k
   some_made i zero within = refl
   some_made i (suc k) within =
       let rest : List Function = filter_map (function_of_entry entries) (spread two_items (suc i) k) in

@@ -1,5 +1,5 @@
 -- The items and the functions of a program, from the first one on.
-use Rattle.std.proofs.Common.{◌≡◌, ℕ, zero, suc, ◌+◌, List, [], ◌∷◌, ◌++◌, refl, sym, ap, ◌∙◌, append_assoc, append-nil, arith}
+use Rattle.std.proofs.Common.{◌≡◌, ℕ, zero, suc, ◌+◌, List, [], ◌∷◌, ◌++◌, length, refl, sym, ap, ◌∙◌, append_assoc, append-nil, arith}
 use Rattle.cg_core.specs.Kernels.{Function}
 use Rattle.cg_surface.specs.Programs.{Entry}
 use Rattle.cg_gen_def.specs.Kernels.{function_behind, functions}
@@ -39,3 +39,8 @@ pub functions_are : (n : ℕ) → functions n ≡ spread one_function 0 n
 unfolding functions
 functions_are zero = refl
 functions_are (suc n) = one_more one_function (functions n) n (functions_are n)
+
+-- they are so many
+pub so_many : (i k : ℕ) → length (spread one_function i k) ≡ k
+so_many i zero = refl
+so_many i (suc k) = ap suc (so_many (suc i) k)
