@@ -19,7 +19,7 @@ use Rattle.cg_gen_names_laws.proofs.Lists.{one_function, so_many, spread, two_it
 use Rattle.cg_gen_names_laws.proofs.Looks.{definition}
 
 -- the type of a function
-abbrev its_type : ℕ → Written
+abbrev pub its_type : ℕ → Written
 its_type i = types.arrow (place (type_row i) (width i + 4)) (plain (type_row i) (width i + 4) (codes "Cell")) (plain (type_row i) (width i + 12) (codes "Cell"))
 
 -- ---- of a function, and of its two items
@@ -68,7 +68,7 @@ module _ (entries : List Entry) where
   unfolding type_item
   type_written i = refl
 
-  nothing_written : (i : ℕ) → written_in entries (body_item i) ≡ []
+  pub nothing_written : (i : ℕ) → written_in entries (body_item i) ≡ []
   unfolding body_item subject_of
   nothing_written zero = refl
   nothing_written (suc b) = refl

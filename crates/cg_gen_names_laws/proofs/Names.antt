@@ -1,12 +1,12 @@
 -- Names of functions are apart, and none is a variable of a body or a function of the library.
-use Rattle.std.proofs.Common.{◌≡◌, ℕ, suc, ◌+◌, ◌*◌, ◌^◌, ◌<◌, false, List, ◌∷◌, ◌++◌, codes, decimal, None, refl, sym, ap, ◌∙◌, subst, arith, drop}
+use Rattle.std.proofs.Common.{◌≡◌, ℕ, suc, ◌+◌, ◌*◌, ◌^◌, ◌<◌, false, List, ◌∷◌, ◌++◌, codes, decimal, map, None, refl, sym, ap, ◌∙◌, subst, arith, drop}
 use Rattle.std.specs.Fmt.{digits}
 use Rattle.std.specs.Str.Parse.{AllDigits, digits_value}
 use Rattle.std.proofs.lemmas.Fmt.{decimal_is_IsNumeral_wide}
 use Rattle.std.proofs.lemmas.Str.Parse.{digit_from_value}
 use Rattle.std.specs.Str.{bytes_eq}
 use Rattle.cg_base.proofs.Sequences.{same_unless}
-use Rattle.cg_resolve_def.specs.Declared.{looked_up, library}
+use Rattle.cg_resolve_def.specs.Declared.{is_among, library, looked_up}
 use Rattle.cg_gen.specs.Generated.{name}
 
 decimal_apart : (i j : ℕ) → i < 10 ^ 64 → j < 10 ^ 64 → decimal i ≡ decimal j → i ≡ j
@@ -33,6 +33,10 @@ no_free i small = same_unless (decimal i) (codes "ree") (λ e. omega (arith, dig
 pub is_no_library : (i : ℕ) → i < 10 ^ 64 → looked_up library (name i) ≡ None
 unfolding name
 is_no_library i small = rw (no_free i small) refl
+
+pub is_no_other : (i : ℕ) → i < 10 ^ 64 → is_among (map (λ line. line.0) library) (name i) ≡ false
+unfolding name
+is_no_other i small = rw (no_free i small) refl
 
 -- far beyond, two functions have one name
 pub twice : name (10 ^ 64) ≡ name (2 * 10 ^ 64)
