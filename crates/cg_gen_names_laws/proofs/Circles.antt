@@ -1,5 +1,5 @@
 -- Every item mentions earlier ones alone, so that none is on a circle.
-use Rattle.std.proofs.Common.{◌≡◌, ℕ, zero, suc, ◌+◌, ◌*◌, ◌<◌, ◌≤◌, ◌||◌, false, cond, List, [], ◌∷◌, ◌++◌, map, length, slice_get, Contains, Option, Some, codes, refl, sym, ap, ◌∙◌, subst, arith}
+use Rattle.std.proofs.Common.{◌≡◌, ℕ, zero, suc, ◌+◌, ◌*◌, ◌<◌, ◌≤◌, ◌||◌, false, cond, List, [], ◌∷◌, ◌++◌, map, slice_get, Some, codes, refl, sym, ap, ◌∙◌, subst, arith}
 use Rattle.std.proofs.lemmas.List.Elements.{All-cons, All-contains, All-nil}
 use Rattle.std.specs.List.{All}
 use Rattle.std.specs.Prelude.{⊤}
@@ -7,7 +7,7 @@ use Rattle.cg_graphs.specs.Circles.{Mentions, NoCircle, Reaches, mentioned, onwa
 use Rattle.cg_surface.specs.Programs.{Entry}
 use Rattle.cg_resolve_def.specs.Declared.{definition_named}
 use Rattle.cg_resolve_def.specs.Faults.{bound}
-use Rattle.cg_resolve_def.specs.Mentions.{all_of, defined_mentions, entry_mentions, expr_mentions, mentions, signature_from, synonym_from}
+use Rattle.cg_resolve_def.specs.Mentions.{all_of, defined_mentions, entry_mentions, expr_mentions, mentions, signature_from}
 use Rattle.cg_gen.specs.Generated.{name}
 use Rattle.cg_gen_def.specs.Programs.{body_item, cell_item, subject_of, type_item}
 use Rattle.cg_gen_names_laws.proofs.Known.{Known}
@@ -90,9 +90,10 @@ module _ (entries : List Entry) (n : ℕ) (known : Known entries n) where
 
   items_below : (i k p : ℕ) → i + k ≤ n → p ≡ i * 2 + 1 → AreBelow p (map (entry_mentions entries) (spread two_items i k))
   items_below i zero p within stands = tt
-  items_below i (suc k) p within stands =
-      (subst (Below p) (sym (type_mentions i (omega arith))) (before_below i p (omega arith) stands),
-      (subst (Below (suc p)) (sym (item_mentions i)) (All-nil (λ j. j < suc p)), items_below (suc i) k (suc (suc p)) (omega arith) (omega arith)))
+  items_below i (suc k) p within stands = (
+    subst (Below p) (sym (type_mentions i (omega arith))) (before_below i p (omega arith) stands),
+    (subst (Below (suc p)) (sym (item_mentions i)) (All-nil (λ j. j < suc p)), items_below (suc i) k (suc (suc p)) (omega arith) (omega arith)),
+  )
 
   cell_mentions : entry_mentions entries cell_item ≡ []
   cell_mentions j = known.words j ++ (known.bytes j ++ [])

@@ -1,7 +1,7 @@
 -- The function of the last name is the last.
-use Rattle.std.proofs.Common.{◌≡◌, ℕ, zero, suc, ◌+◌, ◌^◌, ◌<◌, Bool, true, false, cond, List, length, Some, None, nat_lt, not, refl, sym, ap, ◌∙◌, subst, arith}
+use Rattle.std.proofs.Common.{◌≡◌, ℕ, zero, suc, ◌+◌, ◌^◌, ◌<◌, Bool, true, false, cond, List, length, Some, None, nat_lt, not, sym, ap, ◌∙◌, arith}
 use Rattle.std.proofs.lemmas.Bool.Decides.{nat_tests}
-use Rattle.std.specs.List.{position, position_or_len, prefix_len}
+use Rattle.std.specs.List.{position, position_or_len}
 use Rattle.std.specs.Str.{bytes_eq}
 use Rattle.cg_base.proofs.Sequences.{same_when}
 use Rattle.cg_core.specs.Kernels.{Function}
@@ -12,10 +12,10 @@ use Rattle.cg_gen_names_laws.proofs.Lists.{functions_are, one_function, so_many,
 use Rattle.cg_gen_names_laws.proofs.Names.{apart}
 
 -- whether a function has this name
-abbrev is_named : ℕ → Function → Bool
+abbrev pub is_named : ℕ → Function → Bool
 is_named t f = bytes_eq f.at.name (name t)
 
-is_here : (i t : ℕ) → t ≡ i + 1 → is_named t (function_behind i) ≡ true
+pub is_here : (i t : ℕ) → t ≡ i + 1 → is_named t (function_behind i) ≡ true
 unfolding function_behind
 is_here i t same = same_when (name (i + 1)) (name t) (ap name (sym same))
 

@@ -1,20 +1,18 @@
 -- No name of the program is at fault.
-use Rattle.std.proofs.Common.{◌≡◌, ℕ, zero, suc, ◌+◌, ◌^◌, ◌<◌, ◌≤◌, ◌||◌, false, cond, List, [], ◌∷◌, ◌++◌, map, length, Option, codes, refl, sym, ap, ◌∙◌, arith}
+use Rattle.std.proofs.Common.{◌≡◌, ℕ, zero, suc, ◌+◌, ◌^◌, ◌<◌, ◌≤◌, ◌||◌, false, cond, List, [], ◌∷◌, ◌++◌, length, Option, codes, refl, ap, ◌∙◌, arith}
 use Rattle.std.specs.Option.{option_map}
-use Rattle.std.specs.Str.{bytes_eq}
 use Rattle.cg_base.specs.declared.place.Place.{Place}
-use Rattle.cg_surface.specs.Exprs.{Expr}
 use Rattle.cg_surface.specs.Programs.{Entry}
 use Rattle.cg_surface.specs.Written as types
 use Rattle.cg_resolve_def.specs.Declared.{Declared, OfProgram, function_named, is_among, library, looked_up}
-use Rattle.cg_resolve_def.specs.Faults.{Before, NameFault, again, beforehand, bound, declared_with, entry_faults, expr_faults, faults_from, function_faults, mention_faults, pattern_faults, program_faults, twice, type_faults, type_name_faults, unsigned, user_faults, vars_named}
+use Rattle.cg_resolve_def.specs.Faults.{Before, again, beforehand, bound, declared_with, entry_faults, expr_faults, faults_from, function_faults, mention_faults, program_faults, twice, type_faults, type_name_faults, unsigned, user_faults, vars_named}
 use Rattle.cg_gen.specs.Generated.{name}
-use Rattle.cg_gen_def.specs.Programs.{at, body_item, body_row, cell_item, place, plain, put_of, subject_of, taken, type_item, type_row, width}
+use Rattle.cg_gen_def.specs.Programs.{body_item, body_row, cell_item, place, subject_of, type_item, type_row, width}
 use Rattle.cg_gen_names_laws.proofs.Body.{function_known}
 use Rattle.cg_gen_names_laws.proofs.Known.{Known}
 use Rattle.cg_gen_names_laws.proofs.Limits.{its_type}
 use Rattle.cg_gen_names_laws.proofs.Lists.{spread, two_items}
-use Rattle.cg_gen_names_laws.proofs.Looks.{definition, function_at}
+use Rattle.cg_gen_names_laws.proofs.Looks.{definition}
 use Rattle.cg_gen_names_laws.proofs.Names.{apart, is_no_c, is_no_library, is_no_other}
 
 -- ---- names behind so many functions

@@ -1,11 +1,11 @@
 -- The kernel of the program is that of its functions.
-use Rattle.std.proofs.Common.{◌≡◌, ℕ, zero, suc, ◌+◌, ◌^◌, ◌<◌, ◌≤◌, List, [], ◌∷◌, ◌++◌, refl, sym, ap, ◌∙◌, arith}
+use Rattle.std.proofs.Common.{◌≡◌, ℕ, zero, suc, ◌+◌, ◌≤◌, List, ◌∷◌, refl, sym, ap, ◌∙◌, arith}
 use Rattle.std.specs.List.{cons_option, filter_map}
 use Rattle.cg_core.specs.Kernels.{Function}
 use Rattle.cg_surface.specs.Programs.{Entry}
 use Rattle.cg_resolve_def.specs.Desugar.{function_of_entry, functions_of}
 use Rattle.cg_gen_def.specs.Kernels.{function_behind}
-use Rattle.cg_gen_def.specs.Programs.{body_item, cell_item, type_item}
+use Rattle.cg_gen_def.specs.Programs.{body_item, cell_item}
 use Rattle.cg_gen_names_laws.specs.Laws.{KernelIsMade}
 use Rattle.cg_gen_names_laws.proofs.Body.{function_made, nothing_made}
 use Rattle.cg_gen_names_laws.proofs.Known.{Known, known, program_is}

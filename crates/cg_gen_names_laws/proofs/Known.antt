@@ -1,17 +1,15 @@
 -- What is known of the items of a program by their names.
-use Rattle.std.proofs.Common.{◌≡◌, ℕ, zero, suc, ◌+◌, ◌*◌, ◌^◌, ◌<◌, true, List, [], ◌∷◌, length, Some, None, codes, refl, sym, ap, ◌∙◌, arith}
-use Rattle.std.specs.Str.{bytes_eq}
+use Rattle.std.proofs.Common.{◌≡◌, ℕ, ◌+◌, ◌*◌, ◌^◌, ◌<◌, true, List, [], ◌∷◌, Some, codes, refl, ap, arith}
 use Rattle.cg_base.specs.Types as kernel
-use Rattle.cg_kinds.specs.Kinds.{subst}
 use Rattle.cg_surface.specs.Programs.{Entry}
 use Rattle.cg_surface.specs.Written as types
 use Rattle.cg_surface.specs.Written.{Written}
-use Rattle.cg_resolve_def.specs.Declared.{Declared, definition_named, function_from, function_named, type_named}
+use Rattle.cg_resolve_def.specs.Declared.{Declared, definition_named, function_named, type_named}
 use Rattle.cg_resolve_def.specs.Expand.{bodies, bodies_to}
 use Rattle.cg_resolve_def.specs.Mentions.{signature_from, synonym_from}
 use Rattle.cg_gen.specs.Generated.{name}
 use Rattle.cg_gen_def.specs.Kernels.{cell_type}
-use Rattle.cg_gen_def.specs.Programs.{at, cell_item, items, place, plain, program}
+use Rattle.cg_gen_def.specs.Programs.{at, cell_item, place, plain, program}
 use Rattle.cg_gen_names_laws.proofs.Lists.{items_are, spread, two_items}
 use Rattle.cg_gen_names_laws.proofs.Looks.{definition, definition_found, function_at, function_found, no_synonym, signature_found}
 

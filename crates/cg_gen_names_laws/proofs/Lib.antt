@@ -9,3 +9,4 @@ mod Lists
 mod Looks
 mod Names
 mod Order
+mod Wide

@@ -1,22 +1,20 @@
 -- The program is within the limits.
-use Rattle.std.proofs.Common.{◌≡◌, ℕ, zero, suc, ◌+◌, ◌^◌, ◌<◌, ◌≤◌, max, List, [], ◌∷◌, ◌++◌, map, length, codes, refl, sym, ap, ◌∙◌, subst, arith}
+use Rattle.std.proofs.Common.{◌≡◌, ℕ, zero, suc, ◌+◌, ◌≤◌, max, List, [], ◌∷◌, ◌++◌, length, codes, refl, sym, ap, ◌∙◌, subst, arith}
 use Rattle.cg_base.specs.Types as kernel
 use Rattle.cg_base.specs.Types.{arrow}
-use Rattle.cg_core.specs.Kernels.{Function}
 use Rattle.cg_surface.specs.Programs.{Entry, entry_depth, program_depth}
 use Rattle.cg_surface.specs.Written as types
 use Rattle.cg_surface.specs.Written.{Written}
 use Rattle.cg_resolve_def.specs.Desugar.{WithinLimits, body_depth, deepest_body, functions_of}
 use Rattle.cg_resolve_def.specs.Expand.{bodies}
-use Rattle.cg_resolve_def.specs.Takes.{largest, largest_from, largest_type, nodes, types_in, widest_entry, widest_part, with_vars, written_from, written_in}
-use Rattle.cg_gen_def.specs.Kernels.{body_in, function_behind, functions, subject_in}
-use Rattle.cg_gen_def.specs.Programs.{body_item, cell_item, place, plain, program, subject_of, type_item, type_row, width}
+use Rattle.cg_resolve_def.specs.Takes.{largest, largest_from, nodes, widest_entry, widest_part, with_vars, written_from, written_in}
+use Rattle.cg_gen_def.specs.Kernels.{body_in, function_behind, subject_in}
+use Rattle.cg_gen_def.specs.Programs.{body_item, cell_item, place, plain, subject_of, type_item, type_row, width}
 use Rattle.cg_gen_names_laws.specs.Laws.{LimitsAreKept}
 use Rattle.cg_gen_names_laws.proofs.Body.{cell_named}
 use Rattle.cg_gen_names_laws.proofs.Kernel.{some_made}
 use Rattle.cg_gen_names_laws.proofs.Known.{Known, cell_body, known, program_is}
 use Rattle.cg_gen_names_laws.proofs.Lists.{one_function, so_many, spread, two_items}
-use Rattle.cg_gen_names_laws.proofs.Looks.{definition}
 
 -- the type of a function
 abbrev pub its_type : ℕ → Written
@@ -100,9 +98,15 @@ limits_of : (n : ℕ) → n ≤ 4096 → WithinLimits (cell_item ∷ spread two_
 limits_of n within =
     let entries : List Entry = cell_item ∷ spread two_items 0 n in
     let knows : Known entries n = known n (omega arith) in
-    let made : functions_of entries ≡ spread one_function 0 n = some_made entries n knows 0 n (omega arith) in
-    ((subst (λ fs. length fs ≤ 4096) (sym made) (omega (arith, so_many 0 n)), omega (arith, items_width 0 n), omega (arith, cell_large entries, items_large entries n knows 0 n),
-    subst (λ fs. deepest_body fs ≤ 512) (sym made) (omega (arith, functions_depth 0 n))), omega (arith, items_depth 0 n))
+    let made : functions_of entries ≡ spread one_function 0 n = some_made entries n knows 0 n (omega arith) in (
+      (
+        subst (λ fs. length fs ≤ 4096) (sym made) (omega (arith, so_many 0 n)),
+        omega (arith, items_width 0 n),
+        omega (arith, cell_large entries, items_large entries n knows 0 n),
+        subst (λ fs. deepest_body fs ≤ 512) (sym made) (omega (arith, functions_depth 0 n)),
+      ),
+      omega (arith, items_depth 0 n),
+    )
 
 pub limits_are_kept : LimitsAreKept
 limits_are_kept n within = subst (λ es. WithinLimits es × (program_depth es ≤ 1024)) (sym (program_is n)) (limits_of n within)

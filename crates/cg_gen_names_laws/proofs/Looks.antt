@@ -1,10 +1,9 @@
 -- What is found by the name of a function, and by the name of the type.
-use Rattle.std.proofs.Common.{◌≡◌, ℕ, zero, suc, ◌+◌, ◌*◌, ◌^◌, ◌<◌, Bool, true, false, cond, List, [], ◌∷◌, length, Option, Some, None, codes, refl, sym, ap, ◌∙◌, arith}
+use Rattle.std.proofs.Common.{◌≡◌, ℕ, zero, suc, ◌+◌, ◌*◌, ◌^◌, ◌<◌, true, false, cond, List, [], ◌∷◌, Some, codes, refl, ap, ◌∙◌, arith}
 use Rattle.std.specs.Str.{bytes_eq}
 use Rattle.cg_base.proofs.Sequences.{same_when}
 use Rattle.cg_surface.specs.Exprs as exprs
 use Rattle.cg_surface.specs.Patterns as patterns
-use Rattle.cg_surface.specs.Programs.{Entry}
 use Rattle.cg_resolve_def.specs.Declared.{Defined, OfProgram, definition_named, function_from}
 use Rattle.cg_resolve_def.specs.Mentions.{signature_from, synonym_from}
 use Rattle.cg_gen.specs.Generated.{name}

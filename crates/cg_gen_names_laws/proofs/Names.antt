@@ -1,6 +1,5 @@
 -- Names of functions are apart, and none is a variable of a body or a function of the library.
-use Rattle.std.proofs.Common.{◌≡◌, ℕ, suc, ◌+◌, ◌*◌, ◌^◌, ◌<◌, false, List, ◌∷◌, ◌++◌, codes, decimal, map, None, refl, sym, ap, ◌∙◌, subst, arith, drop}
-use Rattle.std.specs.Fmt.{digits}
+use Rattle.std.proofs.Common.{◌≡◌, ℕ, ◌^◌, ◌<◌, false, codes, decimal, map, None, refl, sym, ap, ◌∙◌, subst, arith, drop}
 use Rattle.std.specs.Str.Parse.{AllDigits, digits_value}
 use Rattle.std.proofs.lemmas.Fmt.{decimal_is_IsNumeral_wide}
 use Rattle.std.proofs.lemmas.Str.Parse.{digit_from_value}
@@ -37,8 +36,3 @@ is_no_library i small = rw (no_free i small) refl
 pub is_no_other : (i : ℕ) → i < 10 ^ 64 → is_among (map (λ line. line.0) library) (name i) ≡ false
 unfolding name
 is_no_other i small = rw (no_free i small) refl
-
--- far beyond, two functions have one name
-pub twice : name (10 ^ 64) ≡ name (2 * 10 ^ 64)
-unfolding name digits
-twice = refl

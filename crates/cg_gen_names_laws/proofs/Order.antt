@@ -8,7 +8,7 @@ use Rattle.cg_gen_def.specs.Programs.{cell_item}
 use Rattle.cg_gen_names_laws.specs.Laws.{NamesAreInOrder}
 use Rattle.cg_gen_names_laws.proofs.Circles.{none_in_circles}
 use Rattle.cg_gen_names_laws.proofs.Faultless.{faultless}
-use Rattle.cg_gen_names_laws.proofs.Known.{Known, known, program_is}
+use Rattle.cg_gen_names_laws.proofs.Known.{known, program_is}
 use Rattle.cg_gen_names_laws.proofs.Limits.{two_written}
 use Rattle.cg_gen_names_laws.proofs.Lists.{spread, two_items}
 
