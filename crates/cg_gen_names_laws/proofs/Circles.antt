@@ -75,7 +75,9 @@ module _ (entries : List Entry) (n : ℕ) (known : Known entries n) where
   item_mentions i = refl
 
   type_mentions : (i : ℕ) → i < n → entry_mentions entries (type_item i) ≡ all_of (signature_from 0 entries) (one_before i ++ [])
-  type_mentions i lt = type_opened i ∙ ap (λ d. all_of (signature_from 0 entries) (defined_mentions d)) (known.definitions i lt) ∙ ap (all_of (signature_from 0 entries)) (function_mentions i)
+  type_mentions i lt =
+      type_opened i ∙ ap (λ d. all_of (signature_from 0 entries) (defined_mentions d)) (known.definitions i lt)
+      ∙ ap (all_of (signature_from 0 entries)) (function_mentions i)
 
   signature_of : (b : ℕ) → b < n → signature_from 0 entries (name (suc b)) ≡ (b * 2 + 1) ∷ []
   signature_of b lt =

@@ -5,12 +5,11 @@ use Rattle.cg_base.specs.declared.place.Place.{Place}
 use Rattle.cg_surface.specs.Programs.{Entry}
 use Rattle.cg_surface.specs.Written as types
 use Rattle.cg_resolve_def.specs.Declared.{Declared, OfProgram, function_named, is_among, library, looked_up}
-use Rattle.cg_resolve_def.specs.Faults.{Before, again, beforehand, bound, declared_with, entry_faults, expr_faults, faults_from, function_faults, mention_faults, program_faults, twice, type_faults, type_name_faults, unsigned, user_faults, vars_named}
+use Rattle.cg_resolve_def.specs.Faults.{Before, NameFault, again, beforehand, bound, declared_with, entry_faults, expr_faults, faults_from, function_faults, mention_faults, program_faults, twice, type_faults, type_name_faults, unsigned, user_faults, vars_named}
 use Rattle.cg_gen.specs.Generated.{name}
 use Rattle.cg_gen_def.specs.Programs.{body_item, body_row, cell_item, place, subject_of, type_item, type_row, width}
 use Rattle.cg_gen_names_laws.proofs.Body.{function_known}
-use Rattle.cg_gen_names_laws.proofs.Known.{Known}
-use Rattle.cg_gen_names_laws.proofs.Limits.{its_type}
+use Rattle.cg_gen_names_laws.proofs.Known.{Known, its_type}
 use Rattle.cg_gen_names_laws.proofs.Lists.{spread, two_items}
 use Rattle.cg_gen_names_laws.proofs.Looks.{definition}
 use Rattle.cg_gen_names_laws.proofs.Names.{apart, is_no_c, is_no_library, is_no_other}
@@ -47,7 +46,8 @@ module _ (entries : List Entry) (n : ℕ) (known : Known entries n) where
   type_stands : (i : ℕ) → type_faults entries [] (its_type i) ≡ []
   type_stands i j = cell_stands (place (type_row i) (width i + 4)) j ++ cell_stands (place (type_row i) (width i + 12)) j
 
-  type_opened : (i : ℕ) → entry_faults entries (behind i) (type_item i) ≡ (again (behind i).signatures (place (type_row i) 1) (name (i + 1)) ++ []) ++ type_faults entries [] (its_type i)
+  type_opened : (i : ℕ)
+      → entry_faults entries (behind i) (type_item i) ≡ (again (behind i).signatures (place (type_row i) 1) (name (i + 1)) ++ []) ++ type_faults entries [] (its_type i)
   unfolding type_item
   type_opened i = refl
 
@@ -55,7 +55,8 @@ module _ (entries : List Entry) (n : ℕ) (known : Known entries n) where
   type_faultless i lt =
       type_opened i
       ∙ ap (λ fs. (fs ++ []) ++ type_faults entries [] (its_type i))
-      (not_again (behind i).signatures (place (type_row i) 1) (name (i + 1)) (is_new i (i + 1) beforehand.signatures (omega arith) (omega (arith, known.small)) (is_no_other (i + 1) (omega (arith, known.small)))))
+      (not_again (behind i).signatures (place (type_row i) 1) (name (i + 1))
+      (is_new i (i + 1) beforehand.signatures (omega arith) (omega (arith, known.small)) (is_no_other (i + 1) (omega (arith, known.small)))))
       ∙ type_stands i
 
   -- ---- its definition
@@ -78,15 +79,20 @@ module _ (entries : List Entry) (n : ℕ) (known : Known entries n) where
   body_stands : (i : ℕ) → i < n → expr_faults entries [] (bound (definition i).param) (definition i).body ≡ []
   body_stands i lt = body_opened i ∙ ap (λ fs. (fs ++ []) ++ []) (subject_stands i lt)
 
-  item_opened : (i : ℕ) (f : Option OfProgram) → function_named entries (name (i + 1)) ≡ f
-      → entry_faults entries (behind i) (body_item i)
-      ≡ (unsigned (place (body_row i) 1) f ++ again (behind i).definitions (place (body_row i) 1) (name (i + 1)) ++ []) ++ expr_faults entries (vars_named f) (bound (definition i).param) (definition i).body
+  -- its faults, where this is found by its name
+  abbrev faults_with : ℕ → Option OfProgram → List NameFault
+  faults_with i f =
+      (unsigned (place (body_row i) 1) f ++ again (behind i).definitions (place (body_row i) 1) (name (i + 1)) ++ [])
+      ++ expr_faults entries (vars_named f) (bound (definition i).param) (definition i).body
+
+  item_opened : (i : ℕ) → entry_faults entries (behind i) (body_item i) ≡ faults_with i (function_named entries (name (i + 1)))
   unfolding body_item definition
-  item_opened i f e = ap (λ g. (unsigned (place (body_row i) 1) g ++ again (behind i).definitions (place (body_row i) 1) (name (i + 1)) ++ []) ++ expr_faults entries (vars_named g) (bound (definition i).param) (definition i).body) e
+  item_opened i = refl
 
   item_faultless : (i : ℕ) → i < n → entry_faults entries (behind i) (body_item i) ≡ []
   item_faultless i lt =
-      item_opened i _ (known.functions i lt)
+      item_opened i
+      ∙ ap (faults_with i) (known.functions i lt)
       ∙ ap (λ fs. (fs ++ []) ++ expr_faults entries [] (bound (definition i).param) (definition i).body)
       (not_again (behind i).definitions (place (body_row i) 1) (name (i + 1)) (is_new i (i + 1) [] (omega arith) (omega (arith, known.small)) refl))
       ∙ body_stands i lt
@@ -100,8 +106,9 @@ module _ (entries : List Entry) (n : ℕ) (known : Known entries n) where
   items_faultless : (i k : ℕ) → i + k ≤ n → faults_from entries (behind i) (spread two_items i k) ≡ []
   items_faultless i zero within = refl
   items_faultless i (suc k) within =
-      let two : Before = declared_with (declared_with (behind i) (type_item i)) (body_item i) in
-      ap (λ fs. fs ++ (entry_faults entries (declared_with (behind i) (type_item i)) (body_item i) ++ faults_from entries two (spread two_items (suc i) k))) (type_faultless i (omega arith))
+      let one : Before = declared_with (behind i) (type_item i) in
+      let two : Before = declared_with one (body_item i) in
+      ap (λ fs. fs ++ (entry_faults entries one (body_item i) ++ faults_from entries two (spread two_items (suc i) k))) (type_faultless i (omega arith))
       ∙ ap (λ fs. fs ++ faults_from entries two (spread two_items (suc i) k)) (item_later i ∙ item_faultless i (omega arith))
       ∙ ap (λ b. faults_from entries b (spread two_items (suc i) k)) (one_behind i)
       ∙ items_faultless (suc i) k (omega arith)

@@ -9,16 +9,21 @@ use Rattle.cg_resolve_def.specs.Expand.{bodies, bodies_to}
 use Rattle.cg_resolve_def.specs.Mentions.{signature_from, synonym_from}
 use Rattle.cg_gen.specs.Generated.{name}
 use Rattle.cg_gen_def.specs.Kernels.{cell_type}
-use Rattle.cg_gen_def.specs.Programs.{at, cell_item, place, plain, program}
+use Rattle.cg_gen_def.specs.Programs.{at, cell_item, place, plain, program, type_row, width}
 use Rattle.cg_gen_names_laws.proofs.Lists.{items_are, spread, two_items}
 use Rattle.cg_gen_names_laws.proofs.Looks.{definition, definition_found, function_at, function_found, no_synonym, signature_found}
 
 -- the type, as it is written
 abbrev pub cell_body : Written
-cell_body = types.fields (place 1 13) true (types.and_field (types.and_field types.no_fields (at 1 14 (codes "val")) (plain 1 20 (codes "U32"))) (at 1 25 (codes "tag")) (plain 1 31 (codes "U8")))
+cell_body = types.fields (place 1 13) true
+    (types.and_field (types.and_field types.no_fields (at 1 14 (codes "val")) (plain 1 20 (codes "U32"))) (at 1 25 (codes "tag")) (plain 1 31 (codes "U8")))
 
 abbrev pub cell_declared : Declared
 cell_declared = record { params = []; body = Some cell_body }
+
+-- the type of a function
+abbrev pub its_type : ℕ → Written
+its_type i = types.arrow (place (type_row i) (width i + 4)) (plain (type_row i) (width i + 4) (codes "Cell")) (plain (type_row i) (width i + 12) (codes "Cell"))
 
 pub record Known (entries : List Entry) (n : ℕ) : Type 0 where
   pub cell : type_named entries (codes "Cell") ≡ Some cell_declared

@@ -1,24 +1,18 @@
 -- The program is within the limits.
-use Rattle.std.proofs.Common.{◌≡◌, ℕ, zero, suc, ◌+◌, ◌≤◌, max, List, [], ◌∷◌, ◌++◌, length, codes, refl, sym, ap, ◌∙◌, subst, arith}
+use Rattle.std.proofs.Common.{◌≡◌, ℕ, zero, suc, ◌+◌, ◌≤◌, max, List, [], ◌∷◌, ◌++◌, length, refl, sym, ap, ◌∙◌, subst, arith}
 use Rattle.cg_base.specs.Types as kernel
 use Rattle.cg_base.specs.Types.{arrow}
 use Rattle.cg_surface.specs.Programs.{Entry, entry_depth, program_depth}
-use Rattle.cg_surface.specs.Written as types
-use Rattle.cg_surface.specs.Written.{Written}
 use Rattle.cg_resolve_def.specs.Desugar.{WithinLimits, body_depth, deepest_body, functions_of}
 use Rattle.cg_resolve_def.specs.Expand.{bodies}
 use Rattle.cg_resolve_def.specs.Takes.{largest, largest_from, nodes, widest_entry, widest_part, with_vars, written_from, written_in}
 use Rattle.cg_gen_def.specs.Kernels.{body_in, function_behind, subject_in}
-use Rattle.cg_gen_def.specs.Programs.{body_item, cell_item, place, plain, subject_of, type_item, type_row, width}
+use Rattle.cg_gen_def.specs.Programs.{body_item, cell_item, place, subject_of, type_item, type_row, width}
 use Rattle.cg_gen_names_laws.specs.Laws.{LimitsAreKept}
 use Rattle.cg_gen_names_laws.proofs.Body.{cell_named}
 use Rattle.cg_gen_names_laws.proofs.Kernel.{some_made}
-use Rattle.cg_gen_names_laws.proofs.Known.{Known, cell_body, known, program_is}
+use Rattle.cg_gen_names_laws.proofs.Known.{Known, cell_body, its_type, known, program_is}
 use Rattle.cg_gen_names_laws.proofs.Lists.{one_function, so_many, spread, two_items}
-
--- the type of a function
-abbrev pub its_type : ℕ → Written
-its_type i = types.arrow (place (type_row i) (width i + 4)) (plain (type_row i) (width i + 4) (codes "Cell")) (plain (type_row i) (width i + 12) (codes "Cell"))
 
 -- ---- of a function, and of its two items
 

@@ -31,15 +31,21 @@ is_later i t later small = apart t (i + 1) small (omega arith) (λ e. omega arit
 
 -- ---- two items more
 
-function_of_two : (i k j t : ℕ) → function_from j (spread two_items i (suc k)) (name t) ≡ cond (bytes_eq (name t) (name (i + 1))) (Some (function_at j)) (function_from (j + 1) (spread two_items (suc i) k) (name t))
+function_of_two : (i k j t : ℕ)
+    → function_from j (spread two_items i (suc k)) (name t)
+    ≡ cond (bytes_eq (name t) (name (i + 1))) (Some (function_at j)) (function_from (j + 1) (spread two_items (suc i) k) (name t))
 unfolding type_item body_item
 function_of_two i k j t = refl
 
-definition_of_two : (i k t : ℕ) → definition_named (spread two_items i (suc k)) (name t) ≡ cond (bytes_eq (name t) (name (i + 1))) (Some (definition i)) (definition_named (spread two_items (suc i) k) (name t))
+definition_of_two : (i k t : ℕ)
+    → definition_named (spread two_items i (suc k)) (name t)
+    ≡ cond (bytes_eq (name t) (name (i + 1))) (Some (definition i)) (definition_named (spread two_items (suc i) k) (name t))
 unfolding type_item body_item definition
 definition_of_two i k t = refl
 
-signature_of_two : (i k j t : ℕ) → signature_from j (spread two_items i (suc k)) (name t) ≡ cond (bytes_eq (name t) (name (i + 1))) (j ∷ []) (signature_from (j + 1 + 1) (spread two_items (suc i) k) (name t))
+signature_of_two : (i k j t : ℕ)
+    → signature_from j (spread two_items i (suc k)) (name t)
+    ≡ cond (bytes_eq (name t) (name (i + 1))) (j ∷ []) (signature_from (j + 1 + 1) (spread two_items (suc i) k) (name t))
 unfolding type_item body_item
 signature_of_two i k j t = refl
 
@@ -53,7 +59,8 @@ pub function_found : (i k j m t p : ℕ) → m < k → t ≡ i + m + 1 → t < 1
 function_found i zero j m t p lt same small stands = absurd (omega arith)
 function_found i (suc k) j zero t p lt same small stands =
     let here : j ≡ p = omega arith in
-    function_of_two i k j t ∙ ap (λ b. cond b (Some (function_at j)) (function_from (j + 1) (spread two_items (suc i) k) (name t))) (is_here i t (omega arith)) ∙ ap (λ q. Some (function_at q)) here
+    function_of_two i k j t ∙ ap (λ b. cond b (Some (function_at j)) (function_from (j + 1) (spread two_items (suc i) k) (name t))) (is_here i t (omega arith))
+    ∙ ap (λ q. Some (function_at q)) here
 function_found i (suc k) j (suc m) t p lt same small stands =
     function_of_two i k j t ∙ ap (λ b. cond b (Some (function_at j)) (function_from (j + 1) (spread two_items (suc i) k) (name t))) (is_later i t (omega arith) small)
     ∙ function_found (suc i) k (j + 1) m t p (omega arith) (omega arith) small (omega arith)
@@ -62,7 +69,8 @@ pub definition_found : (i k m t p : ℕ) → m < k → t ≡ i + m + 1 → t < 1
 definition_found i zero m t p lt same small stands = absurd (omega arith)
 definition_found i (suc k) zero t p lt same small stands =
     let here : i ≡ p = omega arith in
-    definition_of_two i k t ∙ ap (λ b. cond b (Some (definition i)) (definition_named (spread two_items (suc i) k) (name t))) (is_here i t (omega arith)) ∙ ap (λ q. Some (definition q)) here
+    definition_of_two i k t ∙ ap (λ b. cond b (Some (definition i)) (definition_named (spread two_items (suc i) k) (name t))) (is_here i t (omega arith))
+    ∙ ap (λ q. Some (definition q)) here
 definition_found i (suc k) (suc m) t p lt same small stands =
     definition_of_two i k t ∙ ap (λ b. cond b (Some (definition i)) (definition_named (spread two_items (suc i) k) (name t))) (is_later i t (omega arith) small)
     ∙ definition_found (suc i) k m t p (omega arith) (omega arith) small (omega arith)
@@ -71,7 +79,8 @@ pub signature_found : (i k j m t p : ℕ) → m < k → t ≡ i + m + 1 → t < 
 signature_found i zero j m t p lt same small stands = absurd (omega arith)
 signature_found i (suc k) j zero t p lt same small stands =
     let here : j ≡ p = omega arith in
-    signature_of_two i k j t ∙ ap (λ b. cond b (j ∷ []) (signature_from (j + 1 + 1) (spread two_items (suc i) k) (name t))) (is_here i t (omega arith)) ∙ ap (λ q. q ∷ []) here
+    signature_of_two i k j t ∙ ap (λ b. cond b (j ∷ []) (signature_from (j + 1 + 1) (spread two_items (suc i) k) (name t))) (is_here i t (omega arith))
+    ∙ ap (λ q. q ∷ []) here
 signature_found i (suc k) j (suc m) t p lt same small stands =
     signature_of_two i k j t ∙ ap (λ b. cond b (j ∷ []) (signature_from (j + 1 + 1) (spread two_items (suc i) k) (name t))) (is_later i t (omega arith) small)
     ∙ signature_found (suc i) k (j + 1 + 1) m t p (omega arith) (omega arith) small (omega arith)

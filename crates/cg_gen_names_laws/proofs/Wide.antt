@@ -25,13 +25,15 @@ not_later : (i k m t : ℕ) → m < k → name (i + m + 1) ≡ name t → positi
 not_later i zero m t lt same = absurd (omega arith)
 not_later i (suc k) zero t lt same =
     let here : i + 0 + 1 ≡ i + 1 = omega arith in
-    let none : position_or_len (is_named t) (spread one_function i (suc k)) ≡ 0 = ap (λ b. cond (not b) (1 + position_or_len (is_named t) (spread one_function (suc i) k)) 0) (is_here i t (subst (λ j. name j ≡ name t) here same)) in
+    let none : position_or_len (is_named t) (spread one_function i (suc k)) ≡ 0 =
+    ap (λ b. cond (not b) (1 + position_or_len (is_named t) (spread one_function (suc i) k)) 0) (is_here i t (subst (λ j. name j ≡ name t) here same)) in
     omega (arith, none)
 not_later i (suc k) (suc m) t lt same =
     let there : i + suc m + 1 ≡ suc i + m + 1 = omega arith in
     pick (is_named t (function_behind i)) (not_later (suc i) k m t (omega arith) (subst (λ j. name j ≡ name t) there same))
   where
-    pick : (b : Bool) → position_or_len (is_named t) (spread one_function (suc i) k) ≤ m → cond (not b) (1 + position_or_len (is_named t) (spread one_function (suc i) k)) 0 ≤ suc m
+    pick : (b : Bool) → position_or_len (is_named t) (spread one_function (suc i) k) ≤ m
+        → cond (not b) (1 + position_or_len (is_named t) (spread one_function (suc i) k)) 0 ≤ suc m
     pick true h = omega arith
     pick false h = omega arith
 
