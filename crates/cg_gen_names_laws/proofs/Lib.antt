@@ -1,0 +1,11 @@
+mod Body
+mod Circles
+mod Entry
+mod Faultless
+mod Kernel
+mod Known
+mod Limits
+mod Lists
+mod Looks
+mod Names
+mod Order
