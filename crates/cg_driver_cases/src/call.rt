@@ -121,6 +121,7 @@ fn words_text(alloc: Global, words: &[String]) -> Result<String, AllocError> {
                 },
             ),
         ) => Ok(format!(in alloc; "run {file} {entry} {heap} {steps}\n")?),
+        Ok(Some(Command::Gen { number })) => Ok(format!(in alloc; "gen {number}\n")?),
         Err(_) => String::from_str(alloc, "no memory\n"),
     }
 }
