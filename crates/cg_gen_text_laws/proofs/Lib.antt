@@ -1,0 +1,5 @@
+mod Fronts
+mod Lines
+mod Names
+mod Sources
+mod Steps
