@@ -74,9 +74,11 @@ lines (suc before) rest h =
     let l = lines before (function before ++ rest) (omega (arith, h)) in
     let end = reach before + (48 + length (decimal (before + 1))) in
     let row : body_row before ≡ suc before * 2 + 1 = omega arith in
-    let d = one_by_one (tokens before) (function_tokens before) _ _ _ l.1 (function_divided before l.0 rest (omega (arith, h))) in
-    (end, subst (λ (x : List ℕ). Divided (cursor (10 ∷ x) 1 34) (tokens (suc before)) (cursor (10 ∷ rest) (suc before * 2 + 1) end)) (sym (one_more before rest))
-    (subst (λ (r : ℕ). Divided (cursor (10 ∷ (functions before ++ (function before ++ rest))) 1 34) (tokens (suc before)) (cursor (10 ∷ rest) r end)) row d))
+    let d = one_by_one (tokens before) (function_tokens before) _ _ _ l.1 (function_divided before l.0 rest (omega (arith, h))) in (
+      end,
+      subst (λ (x : List ℕ). Divided (cursor (10 ∷ x) 1 34) (tokens (suc before)) (cursor (10 ∷ rest) (suc before * 2 + 1) end)) (sym (one_more before rest))
+          (subst (λ (r : ℕ). Divided (cursor (10 ∷ (functions before ++ (function before ++ rest))) 1 34) (tokens (suc before)) (cursor (10 ∷ rest) r end)) row d),
+    )
 
 -- the source is these tokens
 abbrev pub source_tokens : ℕ → List Lexeme
