@@ -1,15 +1,13 @@
 -- The tokens of each line of a generated source.
-use Rattle.std.proofs.Common.{◌≡◌, ℕ, zero, suc, ◌+◌, ◌*◌, ◌≤◌, ◌<◌, ◌^◌, Bool, true, false, List, [], ◌∷◌, ◌++◌, length, codes, decimal, Some, refl, sym, ap, ◌∙◌, subst, arith, append_assoc, length-append}
-use Rattle.std.specs.Prelude.{nat_le}
-use Rattle.cg_lexer.specs.declared.token.TokenKind.{TokenKind}
+use Rattle.std.proofs.Common.{◌≡◌, ℕ, zero, suc, ◌+◌, ◌*◌, ◌≤◌, ◌<◌, List, [], ◌∷◌, ◌++◌, length, codes, decimal, Some, refl, sym, ap, ◌∙◌, subst, arith, append_assoc, length-append}
 use Rattle.cg_lexer.specs.declared.token.TokenKind.TheVariants.{Lower, Upper, Number, Word, Sign}
-use Rattle.cg_lexer.specs.Tokens.{Lexeme, Cursor}
+use Rattle.cg_lexer.specs.Tokens.{Lexeme}
 use Rattle.cg_lexer.specs.Front.{sign_length}
 use Rattle.cg_gen.specs.Generated.{name, subject, sum_text, type_line, body_line, function}
-use Rattle.cg_gen_def.specs.Programs.{place, type_row, body_row, width, reach}
+use Rattle.cg_gen_def.specs.Programs.{type_row, body_row, width, reach}
 use Rattle.cg_gen_text_laws.proofs.Fronts.{splits, alone}
 use Rattle.cg_gen_text_laws.proofs.Names.{name_length, name_inline, name_splits, number_splits, number_inline, number_length_is}
-use Rattle.cg_gen_text_laws.proofs.Steps.{cursor, token, apart, joined, leading, Divided, done, then_leading, then_apart, then_joined, one_by_one, known, word, mark}
+use Rattle.cg_gen_text_laws.proofs.Steps.{cursor, apart, joined, leading, Divided, done, then_leading, then_apart, then_joined, one_by_one, known, word, mark}
 
 -- ---- the type of a function
 
@@ -94,7 +92,8 @@ subject_tokens (suc before) =
     ∷ apart Lower (codes "c") (body_row (suc before)) (reach (suc before) + 24)
     ∷ []
 
-first_subject : (rest : List ℕ) → Divided (cursor (32 ∷ (subject 0 ++ 32 ∷ rest)) (body_row 0) (width 0 + 24)) (subject_tokens 0) (cursor (32 ∷ rest) (body_row 0) (reach 0 + 25))
+first_subject : (rest : List ℕ)
+    → Divided (cursor (32 ∷ (subject 0 ++ 32 ∷ rest)) (body_row 0) (width 0 + 24)) (subject_tokens 0) (cursor (32 ∷ rest) (body_row 0) (reach 0 + 25))
 unfolding subject
 first_subject rest =
     let low : width 0 ≤ 1000 = omega (arith, low_name 0 (omega arith)) in
@@ -116,7 +115,8 @@ further_subject before rest h =
     (then_apart Lower (codes "c") (32 ∷ rest) r (reach (suc before) + 23) (reach (suc before) + 24) (reach (suc before) + 25) (splits (codes "c") (32 ∷ rest) refl refl refl) (refl, tt) (omega arith) (omega arith) (omega (arith, long, low, low'))
     (done (cursor (32 ∷ rest) r (reach (suc before) + 25)))))
 
-subject_divided : (before : ℕ) (rest : List ℕ) → before < 4096 → Divided (cursor (32 ∷ (subject before ++ 32 ∷ rest)) (body_row before) (width before + 24)) (subject_tokens before) (cursor (32 ∷ rest) (body_row before) (reach before + 25))
+subject_divided : (before : ℕ) (rest : List ℕ) → before < 4096
+    → Divided (cursor (32 ∷ (subject before ++ 32 ∷ rest)) (body_row before) (width before + 24)) (subject_tokens before) (cursor (32 ∷ rest) (body_row before) (reach before + 25))
 subject_divided zero rest h = first_subject rest
 subject_divided (suc before) rest h = further_subject before rest h
 

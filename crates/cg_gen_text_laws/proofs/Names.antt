@@ -1,7 +1,6 @@
 -- The names of generated functions, and their numbers, as texts of tokens.
-use Rattle.std.proofs.Common.{◌≡◌, ℕ, ◌+◌, ◌-◌, ◌*◌, ◌<◌, ◌≤◌, ◌^◌, ◌%◌, Bool, true, false, List, [], ◌∷◌, ◌++◌, length, codes, decimal, Option, Some, refl, sym, ap, ◌∙◌, subst, arith, rules}
-use Rattle.std.specs.Prelude.{◌==◌, ◌&&◌, ◌||◌, not}
-use Rattle.std.specs.List.{prefix_len, list_all}
+use Rattle.std.proofs.Common.{◌≡◌, ℕ, ◌+◌, ◌-◌, ◌*◌, ◌<◌, ◌≤◌, ◌^◌, ◌%◌, Bool, true, false, List, [], ◌∷◌, ◌++◌, length, decimal, Some, refl, sym, ap, ◌∙◌, arith}
+use Rattle.std.specs.Prelude.{◌==◌}
 use Rattle.std.proofs.lemmas.Bool.Decides.{nat_tests}
 use Rattle.std.proofs.lemmas.Fmt.{decimal_by_steps, decimal_nonempty, length-decimal-le, digits_value-decimal}
 use Rattle.cg_base.specs.Bytes.{digit, Each, Starts, Stops}
@@ -12,8 +11,7 @@ use Rattle.cg_base.proofs.Spans.{spans}
 use Rattle.cg_lexer.specs.declared.token.TokenKind.TheVariants.{Lower, Number}
 use Rattle.cg_lexer.specs.Bytes.{part_of_name, inline, digit_of, digit_value}
 use Rattle.cg_lexer.specs.Numbers.{number_from, value_of, IsNumber}
-use Rattle.cg_lexer.specs.Gaps.{opens}
-use Rattle.cg_lexer.specs.Front.{piece_length, letter, front_length, number_base, number_length, token_length, length_in}
+use Rattle.cg_lexer.specs.Front.{piece_length, letter, front_length, number_base, number_length, length_in}
 use Rattle.cg_gen.specs.Generated.{name}
 use Rattle.cg_gen_text_laws.proofs.Fronts.{Splits, splits, longest}
 

@@ -1,9 +1,9 @@
 -- The tokens of a whole generated source, and how long it is.
-use Rattle.std.proofs.Common.{◌≡◌, ℕ, zero, suc, ◌+◌, ◌*◌, ◌≤◌, ◌<◌, Bool, true, false, List, [], ◌∷◌, ◌++◌, length, codes, decimal, refl, sym, ap, ◌∙◌, subst, arith, append_assoc, length-append}
+use Rattle.std.proofs.Common.{◌≡◌, ℕ, zero, suc, ◌+◌, ◌*◌, ◌≤◌, ◌<◌, true, false, List, [], ◌∷◌, ◌++◌, length, codes, decimal, refl, sym, ap, subst, arith, append_assoc, length-append}
 use Rattle.std.proofs.lemmas.List.{append-nil}
 use Rattle.cg_lexer.specs.declared.token.TokenKind.TheVariants.{Lower, Upper, Word, Sign}
-use Rattle.cg_lexer.specs.Gaps.{blank, IsSpace}
-use Rattle.cg_lexer.specs.Tokens.{Lexeme, Cursor, start, Takes, Divides, Lexes}
+use Rattle.cg_lexer.specs.Gaps.{blank}
+use Rattle.cg_lexer.specs.Tokens.{Lexeme, start, Takes, Divides, Lexes}
 use Rattle.cg_gen.specs.Generated.{name, subject, sum_text, type_line, body_line, function, functions, source}
 use Rattle.cg_gen_def.specs.Programs.{body_row, reach}
 use Rattle.cg_gen_text_laws.proofs.Fronts.{splits}

@@ -1,9 +1,8 @@
 -- Tokens on one line behind each other, with at most a blank between two, and the places at which they stand.
 use Rattle.std.proofs.Common.{◌≡◌, ℕ, ◌+◌, ◌≤◌, Bool, true, false, List, [], ◌∷◌, ◌++◌, length, min, refl, sym, ap, ◌∙◌, subst, arith}
-use Rattle.std.specs.Prelude.{◌==◌, ◌&&◌, ◌||◌, not, nat_le}
+use Rattle.std.specs.Prelude.{◌==◌, ◌&&◌, nat_le}
 use Rattle.std.specs.List.{list_all}
 use Rattle.std.proofs.lemmas.Bool.Decides.{nat_tests}
-use Rattle.cg_base.specs.declared.place.Place.{Place}
 use Rattle.cg_base.specs.Bytes.{Each}
 use Rattle.cg_base.specs.Places.{most, place_past, place_after}
 use Rattle.cg_lexer.specs.declared.token.TokenKind.{TokenKind}
@@ -23,7 +22,8 @@ one_past row column b h le =
     rw (feed, least) refl
 
 -- a text of one line leads to as many columns on
-pub place_on : (row column : ℕ) (text : List ℕ) → Each inline text → column + length text ≤ 2000 → place_after (place row column) text ≡ place row (column + length text)
+pub place_on : (row column : ℕ) (text : List ℕ) → Each inline text → column + length text ≤ 2000
+    → place_after (place row column) text ≡ place row (column + length text)
 place_on row column [] all le = ap (place row) (omega arith)
 place_on row column (b ∷ text) all le =
     ap (λ p. place_after p text) (one_past row column b all.0 (omega (arith, le)))
@@ -62,7 +62,8 @@ takes_joined : (kind : TokenKind) (text rest : List ℕ) (row column end : ℕ) 
 takes_joined kind text rest row column end s all e le =
     record { gap = []; parts = refl; space = tt; fits = s.0; longest = s.1; stands = refl; first = refl; joined = refl; next = ends row column end text all e le; behind = refl }
 
-takes_apart : (kind : TokenKind) (text rest : List ℕ) (row from column end : ℕ) → Splits kind text rest → Each inline text → column ≡ from + 1 → end ≡ column + length text → end ≤ 2000
+takes_apart : (kind : TokenKind) (text rest : List ℕ) (row from column end : ℕ) → Splits kind text rest → Each inline text → column ≡ from + 1
+    → end ≡ column + length text → end ≤ 2000
     → Takes (cursor (32 ∷ (text ++ rest)) row from) (apart kind text row column) (cursor rest row end)
 takes_apart kind text rest row from column end s all d e le =
     record {
@@ -78,7 +79,8 @@ takes_apart kind text rest row from column end s all d e le =
       behind = refl;
     }
 
-takes_leading : (kind : TokenKind) (text rest : List ℕ) (above row from end : ℕ) → Splits kind text rest → Each inline text → row ≡ above + 1 → end ≡ 1 + length text → row ≤ 10000 → end ≤ 2000
+takes_leading : (kind : TokenKind) (text rest : List ℕ) (above row from end : ℕ) → Splits kind text rest → Each inline text → row ≡ above + 1
+    → end ≡ 1 + length text → row ≤ 10000 → end ≤ 2000
     → Takes (cursor (10 ∷ (text ++ rest)) above from) (leading kind text row) (cursor rest row end)
 takes_leading kind text rest above row from end s all d e low le =
     record {
@@ -145,7 +147,8 @@ pub record IsKnown (text rest : List ℕ) : Type 0 where
   pub on_line : list_all inline text ≡ true
 
 -- by computing
-pub known : (text rest : List ℕ) → piece_length (text ++ rest) ≡ 0 → front_length (text ++ rest) ≡ length text → (length text == 0) ≡ false → list_all inline text ≡ true → IsKnown text rest
+pub known : (text rest : List ℕ) → piece_length (text ++ rest) ≡ 0 → front_length (text ++ rest) ≡ length text → (length text == 0) ≡ false
+    → list_all inline text ≡ true → IsKnown text rest
 known text rest clear long some on_line = record { clear = clear; long = long; some = some; on_line = on_line }
 
 known_splits : (text rest : List ℕ) → IsKnown text rest → Splits (kind_of text) text rest
@@ -154,13 +157,15 @@ known_splits text rest k = splits text rest k.clear k.long k.some
 module _ {after : Cursor} {ts : List Lexeme} (text rest : List ℕ) (known : IsKnown text rest) (row base : ℕ) (low : base ≤ 1000) where
   -- the text at so many columns behind a base, behind a blank and behind nothing
   pub word : (k : ℕ) → nat_le (k + 1 + length text) 900 ≡ true
-      → Divided (cursor rest row (base + (k + 1 + length text))) ts after → Divided (cursor (32 ∷ (text ++ rest)) row (base + k)) (apart (kind_of text) text row (base + (k + 1)) ∷ ts) after
+      → Divided (cursor rest row (base + (k + 1 + length text))) ts after
+      → Divided (cursor (32 ∷ (text ++ rest)) row (base + k)) (apart (kind_of text) text row (base + (k + 1)) ∷ ts) after
   word k le =
       let fits : k + 1 + length text ≤ 900 = grind (arith, nat_tests) in
       then_apart (kind_of text) text rest row (base + k) (base + (k + 1)) (base + (k + 1 + length text)) (known_splits text rest known) (each inline text known.on_line) (omega arith) (omega arith) (omega (arith, fits, low))
 
   pub mark : (k : ℕ) → nat_le (k + length text) 900 ≡ true
-      → Divided (cursor rest row (base + (k + length text))) ts after → Divided (cursor (text ++ rest) row (base + k)) (joined (kind_of text) text row (base + k) ∷ ts) after
+      → Divided (cursor rest row (base + (k + length text))) ts after
+      → Divided (cursor (text ++ rest) row (base + k)) (joined (kind_of text) text row (base + k) ∷ ts) after
   mark k le =
       let fits : k + length text ≤ 900 = grind (arith, nat_tests) in
       then_joined (kind_of text) text rest row (base + k) (base + (k + length text)) (known_splits text rest known) (each inline text known.on_line) (omega arith) (omega (arith, fits, low))

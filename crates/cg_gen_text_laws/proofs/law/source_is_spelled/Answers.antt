@@ -1,4 +1,3 @@
-use Rattle.cg_gen.specs.Generated.{source}
 use Rattle.cg_gen_text_laws.proofs.Sources.{source_tokens, lexes}
 use Rattle.cg_gen_text_laws.proofs.Readings.{source_read}
 use Rattle.cg_gen_text_laws.proofs.law.source_is_spelled.Goals as goal
