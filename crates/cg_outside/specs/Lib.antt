@@ -4,3 +4,5 @@ pub mod Calls
 pub mod Failures
 pub mod Entries
 pub mod Memory
+pub mod Cuts
+pub mod Torn
