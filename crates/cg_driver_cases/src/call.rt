@@ -11,7 +11,7 @@ use crate::store::store_text;
 use cg_base::{Name, Place};
 use cg_driver::cogent;
 use cg_driver_words::{Command, read_words};
-use cg_outside::{MemoryFiles, MemorySink};
+use cg_outside::{TornFiles, TornSink};
 use cg_parser::{ParseFault, parse};
 use cg_resolve::{Fault, resolve};
 use cg_resolve_declared::Declarations;
@@ -21,7 +21,7 @@ use std::alloc::{AllocError, Global};
 /// What a call answers: a text, and the files afterwards, where the call may change any.
 pub struct Answer {
     pub text: Vec<u8>,
-    pub files: Option<MemoryFiles>,
+    pub files: Option<TornFiles>,
 }
 
 impl Drop for Answer {
@@ -162,8 +162,8 @@ fn called(
 fn held(
     alloc: Global,
     files: &[(Name, Vec<u8>)],
-    failing: &[u64],
-) -> Result<MemoryFiles, AllocError> {
+    failing: &[(u64, usize)],
+) -> Result<TornFiles, AllocError> {
     let mut held = Vec::new(alloc);
     for (name, bytes) in files {
         let Ok(name) = Name::new(alloc, name.bytes()) else {
@@ -171,7 +171,7 @@ fn held(
         };
         held.push((name, bytes.as_slice().to_vec(alloc)?))?;
     }
-    Ok(MemoryFiles::new(alloc, held, failing.to_vec(alloc)?))
+    Ok(TornFiles::new(alloc, held, failing.to_vec(alloc)?))
 }
 
 // The status and what was printed, as a case has them.
@@ -190,7 +190,7 @@ fn answered(alloc: Global, code: u8, printed: &[u8]) -> Result<Vec<u8>, AllocErr
 // What the program answers on words: its status, and what it prints.
 fn commanded(alloc: Global, words: &[String], case: &Case) -> Result<Answer, AllocError> {
     let mut files = held(alloc, case.files.as_slice(), case.failing.as_slice())?;
-    let mut out = MemorySink::new(alloc, case.unwritten.as_slice().to_vec(alloc)?);
+    let mut out = TornSink::new(alloc, case.unwritten.as_slice().to_vec(alloc)?);
     let code = cogent(alloc, words, &mut files, &mut out).code();
     let text = answered(alloc, code, out.bytes())?;
     Ok(Answer {

@@ -19,15 +19,15 @@ pub enum Part {
 }
 
 /// A case: the line that it begins on, what is called, the name of the file that the first lines of text are, the files before, the
-/// calls of files and of the output that fail, by their number, the answer that is wanted, and the files that are wanted afterwards
-/// (others stay as they were).
+/// calls of files and of the output that fail, by their number, each after so many bytes, the answer that is wanted, and the files that
+/// are wanted afterwards (others stay as they were).
 pub struct Case {
     pub line: u64,
     pub called: Called,
     first: Option<Name>,
     pub files: Vec<(Name, Vec<u8>)>,
-    pub failing: Vec<u64>,
-    pub unwritten: Vec<u64>,
+    pub failing: Vec<(u64, usize)>,
+    pub unwritten: Vec<(u64, usize)>,
     pub wanted: Vec<u8>,
     pub after: Vec<(Name, Vec<u8>)>,
     pub part: Part,
@@ -70,6 +70,17 @@ fn words_of(alloc: Global, line: &[u8]) -> Result<Vec<String>, TextFault> {
         }
     }
     Ok(words)
+}
+
+// A call that fails: its number and, behind a colon, after how many bytes; after none where that isn't said.
+fn torn_call(word: &[u8]) -> Option<(u64, usize)> {
+    match word.iter().position(|byte| *byte == b':') {
+        Some(at) => {
+            let count = literal(&word[at + 1..])?;
+            Some((literal(&word[..at])?, count as usize))
+        }
+        None => Some((literal(word)?, 0)),
+    }
 }
 
 // The file that a command's first lines of text are: the one that its second word names.
@@ -167,18 +178,18 @@ impl Case {
         }
     }
 
-    // The numbers of the calls that fail: of files, or of the output.
+    // The calls that fail: of files, or of the output.
     fn push_failing(&mut self, line: &[u8]) -> Result<(), TextFault> {
         let mut words = line.split(|byte| *byte == b' ');
         let of_output = words.next() == Some(b"output".as_slice());
         for word in words {
-            let Some(number) = literal(word) else {
+            let Some(call) = torn_call(word) else {
                 return Err(TextFault::Escape);
             };
             if of_output {
-                self.unwritten.push(number)?;
+                self.unwritten.push(call)?;
             } else {
-                self.failing.push(number)?;
+                self.failing.push(call)?;
             }
         }
         Ok(())
