@@ -40,7 +40,7 @@ slot_in_kind form.Slots i x ws e =
 slot_in_kind form.Words i x ws e = absurd (search rules)
 slot_in_kind form.Answers i x ws e = absurd (search rules)
 
-is_cond : (b : Bool) (c : Cell) → is_some (cond b (Some c) None) ≡ b
+pub is_cond : (b : Bool) (c : Cell) → is_some (cond b (Some c) None) ≡ b
 is_cond true c = refl
 is_cond false c = refl
 
