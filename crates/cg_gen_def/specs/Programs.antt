@@ -37,7 +37,7 @@ plain line column n = types.named (place line column) n types.no_types
 
 abbrev pub cell_item : Entry
 cell_item = synonym (at 1 6 (codes "Cell")) []
-  (types.fields (place 1 13) true (types.and_field (types.and_field types.no_fields (at 1 14 (codes "val")) (plain 1 20 (codes "U32"))) (at 1 25 (codes "tag")) (plain 1 31 (codes "U8"))))
+    (types.fields (place 1 13) true (types.and_field (types.and_field types.no_fields (at 1 14 (codes "val")) (plain 1 20 (codes "U32"))) (at 1 25 (codes "tag")) (plain 1 31 (codes "U8"))))
 
 -- a function's type
 unfoldable pub type_item : ℕ → Entry
