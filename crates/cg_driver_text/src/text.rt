@@ -51,8 +51,9 @@ fn program_run(
         writes,
     };
     let mut store = FlatStore::new(alloc);
-    if fill(rest, &mut store).is_err() {
-        return Err(TextFault::Memory);
+    match fill(rest, &mut store) {
+        Ok(()) => {}
+        Err(_) => return Err(TextFault::Memory),
     }
     match run_c(alloc, program, function, &arg, &mut store, budget) {
         Ok(ran) => Ok((ran, store)),
