@@ -1,4 +1,4 @@
-//! Stage: command. The typing rules derive the kernel of the generated source, its cores are those, and its instances are within the limits.
+//! Stage: command. The typing rules derive the kernel and the cores of a generated source, and its instances are within the limits.
 //! Role: laws.
 //! Promises: `cores_are_derived`, `kernel_is_accepted`, `types_are_small`, `instances_are_within`.
 //! May cite: definitions, laws and public crates below; no code above.
