@@ -1,4 +1,6 @@
-use Rattle.std.proofs.Common.{map}
+use Rattle.std.proofs.Common.{◌≡◌, Err, map}
+use Rattle.cg_driver_text.specs.declared.text.TextFault.TheVariants.{Budget, Stuck, Text}
+use Rattle.cg_driver_text.specs.Texts.{TextRuns}
 use Rattle.cg_base.specs.Types.{type_of}
 use Rattle.cg_cmachine.specs.Answers.{EndsAs}
 use Rattle.cg_cmachine_def.specs.Outcomes.{needs, stuck}
@@ -21,13 +23,16 @@ returns-in-Ok c program value spelled g =
     c.read_back.result c.read_back.ensures value g
 
 pub unreachable-requires : goal.unreachable-requires
-unreachable-requires c = c.in-Err-Text.ensures.4 c.requires.ends.0 c.requires.ends.2
+unreachable-requires c =
+    let m = filled (map pair_of c.args.start.cells) no_cells in
+    let r : TextRuns c.args.bytes.now c.args.function.now c.args.start.arg m (budget c.args.cost) (Err (Text c.in-Err-Text.field-0-0)) = rw c.in-Err-Text.field-0-is at c.in-Err-Text.ensures in
+    r.4 c.requires.ends.0 c.requires.ends.2
 
 pub unreachable-requires-in-Err-Stuck : goal.unreachable-requires-in-Err-Stuck
 unreachable-requires-in-Err-Stuck c =
     let m = filled (map pair_of c.args.start.cells) no_cells in
     let ends = c.requires.ends in
-    let r = c.in-Err-Stuck.ensures in
+    let r : TextRuns c.args.bytes.now c.args.function.now c.args.start.arg m (budget c.args.cost) (Err (Stuck c.in-Err-Stuck.field-0-0)) = rw c.in-Err-Stuck.field-0-is at c.in-Err-Stuck.ensures in
     not_stuck (unlinked ends.0) c.args.function.now c.args.start.arg m (type_of c.args.ty.now) c.args.cost c.in-Err-Stuck.field-0-0 (ends.1, ends.3)
     (of_spelled c.args.bytes.now r.program ends.0 r.only ends.2 (λ l. (after : Stored) × (crun l (budget c.args.cost) c.args.function.now c.args.start.arg m ≡ stuck c.in-Err-Stuck.field-0-0 after)) r.runs)
 
@@ -35,6 +40,6 @@ pub unreachable-requires-in-Err-Budget : goal.unreachable-requires-in-Err-Budget
 unreachable-requires-in-Err-Budget c =
     let m = filled (map pair_of c.args.start.cells) no_cells in
     let ends = c.requires.ends in
-    let r = c.in-Err-Budget.ensures in
+    let r : TextRuns c.args.bytes.now c.args.function.now c.args.start.arg m (budget c.args.cost) (Err Budget) = rw c.in-Err-Budget.field-0-is at c.in-Err-Budget.ensures in
     not_short (unlinked ends.0) c.args.function.now c.args.start.arg m (type_of c.args.ty.now) c.args.cost (ends.1, ends.3)
     (of_spelled c.args.bytes.now r.program ends.0 r.only ends.2 (λ l. (after : Stored) × (crun l (budget c.args.cost) c.args.function.now c.args.start.arg m ≡ needs after)) r.runs)

@@ -21,8 +21,8 @@ returns-in-Ok-Ends c =
     (made c.args.number) c.judge.result c.in-Ok-Ends.report (c.in-Ok-Ends.is ∙ ap Ok c.in-Ok-Ends.field-0-is)
     (source_judged made_name c.deref.result.now (made c.args.number) (sym (c.deref.ensures.value ∙ c.in_ok-source.ensures)) c.judge.result c.judge.ensures)
 
-pub returns-in-Ok-Goes : goal.returns-in-Ok-Goes
-returns-in-Ok-Goes c =
+pub returns : goal.returns
+returns c =
     rules_follow Judges (λ checked next. Keeps checked next × (next.heap ≡ (made c.args.number).heap)) (IsMade no_extern) (source_rules made_name)
     (entry_rules made_name (made_entry c.args.number) ++ instanced ∷ certifiable ∷ run_rules no_extern made_name default_steps)
     (made c.args.number) c.judge.result c.in-Ok-Goes.checked c.enter_made.result (c.in-Ok-Goes.is ∙ ap Ok c.in-Ok-Goes.field-0-is)
