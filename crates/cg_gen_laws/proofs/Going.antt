@@ -3,6 +3,7 @@ use Rattle.std.proofs.Common.{◌≡◌, inl, inr, ℕ, ◌+◌, ◌-◌, ◌^�
 use Rattle.cg_base.specs.Types.{Tau}
 use Rattle.cg_cert.specs.Certificates.{certificate}
 use Rattle.cg_cert.specs.Texts.{text as text_of}
+use Rattle.cg_core.specs.Kernels.{Function}
 use Rattle.cg_check_def.specs.Kept.{function_tree}
 use Rattle.cg_heap.specs.declared.cell.Cell.TheVariants.{Slots}
 use Rattle.cg_heap.specs.declared.cell.Scalar.TheVariants.{Address, Word}
@@ -22,14 +23,12 @@ use Rattle.cg_gen_run_laws.specs.Laws.{EvaluationGives, HeapIsHeld, StepsAreEnou
 use Rattle.cg_gen_typing_laws.specs.Laws.{CoresAreDerived, InstancesAreWithin, KernelIsAccepted, TypesAreSmall}
 use Rattle.cg_gen_typing_laws.proofs.Kernel.{functions_as_many}
 use Rattle.cg_driver.specs.Accepted.{IsAcceptedSource}
-use Rattle.cg_driver.specs.Commands.{HoldsArgument, Judges, certifiable, entry_at, entry_rules, instanced, made, made_name, made_rules, run_rules, script_of, source_rules}
+use Rattle.cg_driver.specs.Commands.{HoldsArgument, Judges, Judgement, certifiable, entry_at, entry_rules, instanced, made, made_name, made_rules, run_rules, script_of, source_rules}
 use Rattle.cg_driver.specs.Entered.{argument_type, is_entry}
 use Rattle.cg_driver.specs.Externs.{Extern}
 use Rattle.cg_driver.specs.Found.{Argument, Found, certificate_limit, functions as functions_found, heap_limit, with_argument, with_copies, with_entry, with_program, with_value}
 use Rattle.cg_driver.specs.Instanced.{HasInstances, certified_text}
 use Rattle.cg_driver.specs.Run.{Evaluates}
-use Rattle.cg_driver.proofs.Judging.{single}
-use Rattle.cg_driver.proofs.Saying.{accepted_settles}
 use Rattle.cg_gen_laws.specs.Laws.{GenGoes, GenIsNeverRefused, GivesMade}
 use Rattle.cg_gen_laws.proofs.Entered.{allowed, argument_is, concrete}
 use Rattle.cg_gen_laws.proofs.Listed.{as_many, copies, evaluates, has_instances, is_accepted}
@@ -120,7 +119,8 @@ few_names n few = omega (arith, few)
 few_numbers : (n : ℕ) → n ≤ 4096 → n < 2 ^ 32
 few_numbers n few = omega (arith, few)
 
-module _ (spelled : (n : ℕ) → n ≤ 4096 → Spells (source n) (program n)) (short : (n : ℕ) → n ≤ 4096 → length (source n) ≤ 1048576)
+module _ (accepted_settles : (file bytes : List ℕ) (fs : List Function) (a : IsAcceptedSource bytes fs) (f : Found) → f.source ≡ bytes → Settles Judges (source_rules file) f (goes (with_program a.accepted.program f)))
+    (spelled : (n : ℕ) → n ≤ 4096 → Spells (source n) (program n)) (short : (n : ℕ) → n ≤ 4096 → length (source n) ≤ 1048576)
     (brief : (n : ℕ) → n ≤ 4096 → length (text_of (certificate (functions n) (map (function_tree (functions n)) (functions n)))) ≤ 67108864)
     (names : NamesAreInOrder) (made_kernel : KernelIsMade) (limits : LimitsAreKept) (entry : EntryIsLast)
     (derived : CoresAreDerived) (typed : KernelIsAccepted) (types : TypesAreSmall) (within : InstancesAreWithin)
@@ -195,8 +195,8 @@ module _ (spelled : (n : ℕ) → n ≤ 4096 → Spells (source n) (program n)) 
 
 -- ---- nothing else
 
-pub never_refused : GenGoes → GenIsNeverRefused
-never_refused go table n some few old new outcome r =
+pub never_refused : ((j : Judgement) (f : Found) (o o' : Outcome Found) → Judges j f o → Judges j f o' → o ≡ o') → GenGoes → GenIsNeverRefused
+never_refused single go table n some few old new outcome r =
     let g = go table n some few old in
     let wanted = settled Judges (made_rules table n) (made n) old old (goes g.0) g.1 in
     let came = settled Judges (made_rules table n) (made n) old new outcome r in

@@ -1,6 +1,7 @@
 // What the command `gen` comes to.
 ghost use Rattle.cg_gen_laws.specs.Laws.{GenGoes, GenIsNeverRefused};
 
+use cg_driver::one_outcome;
 use cg_gen_names_laws::{entry_is_last, kernel_is_made, limits_are_kept, names_are_in_order};
 use cg_gen_run_laws::{evaluation_gives, heap_is_held, steps_are_enough};
 use cg_gen_typing_laws::{
@@ -29,5 +30,6 @@ pub fn gen_goes()
 pub fn gen_is_never_refused()
     ensures { GenIsNeverRefused }
 {
+    one_outcome();
     gen_goes();
 }
