@@ -1,6 +1,5 @@
 -- A hole that is put in by its place among the others.
-use Rattle.std.proofs.Common.{rules, zero, suc, ◌≡◌, ℕ, ◌+◌, ◌-◌, ◌<◌, ◌≤◌, min, Bool, true, false, cond, nat_lt, ◌⊎◌, ⊎_elim, List, [], ◌∷◌, length, get_or, set, refl, sym, ap, ◌∙◌, arith}
-use Rattle.std.proofs.lemmas.Bool.Decides.{nat_tests}
+use Rattle.std.proofs.Common.{rules, zero, suc, ◌≡◌, ℕ, ◌+◌, ◌-◌, ◌<◌, ◌≤◌, min, Bool, true, false, cond, nat_lt, ◌⊎◌, ⊎_elim, List, [], ◌∷◌, length, get_or, set, refl, sym, ap, ◌∙◌, arith, lt-ltb, le-ltb, ltb-true, ltb-false}
 use Rattle.std.specs.List.{insert, remove}
 use Rattle.std.specs.List.Sorted.{IsPartitionPoint, IsPartitionedBy}
 use Rattle.cg_flat.specs.Around.{AreAround}
@@ -8,31 +7,19 @@ use Rattle.cg_flat.specs.declared.span.Hole.{Hole}
 use Rattle.cg_flat.specs.Flat.{AreApart, joined, with_hole}
 use Rattle.cg_flat.proofs.Gaps.{from_apart}
 
-lt_true : (m n : ℕ) → m < n → nat_lt m n ≡ true
-lt_true m n low = grind (arith, nat_tests)
-
-lt_false : (m n : ℕ) → n ≤ m → nat_lt m n ≡ false
-lt_false m n high = grind (arith, nat_tests)
-
-true_lt : (m n : ℕ) → nat_lt m n ≡ true → m < n
-true_lt m n e = grind (arith, nat_tests)
-
-false_lt : (m n : ℕ) → nat_lt m n ≡ false → n ≤ m
-false_lt m n e = grind (arith, nat_tests)
-
 -- ---- the first of the others
 
 passed : (x h : Hole) (hs : List Hole) → h.start + h.count < x.start → with_hole x (h ∷ hs) ≡ h ∷ with_hole x hs
-passed x h hs low = ap (λ b. cond b (h ∷ with_hole x hs) (cond (nat_lt (x.start + x.count) h.start) (x ∷ h ∷ hs) (with_hole (joined x h) hs))) (lt_true (h.start + h.count) x.start low)
+passed x h hs low = ap (λ b. cond b (h ∷ with_hole x hs) (cond (nat_lt (x.start + x.count) h.start) (x ∷ h ∷ hs) (with_hole (joined x h) hs))) (lt-ltb (h.start + h.count) x.start low)
 
 stopped : (x h : Hole) (hs : List Hole) → x.start ≤ h.start + h.count → with_hole x (h ∷ hs) ≡ cond (nat_lt (x.start + x.count) h.start) (x ∷ h ∷ hs) (with_hole (joined x h) hs)
-stopped x h hs high = ap (λ b. cond b (h ∷ with_hole x hs) (cond (nat_lt (x.start + x.count) h.start) (x ∷ h ∷ hs) (with_hole (joined x h) hs))) (lt_false (h.start + h.count) x.start high)
+stopped x h hs high = ap (λ b. cond b (h ∷ with_hole x hs) (cond (nat_lt (x.start + x.count) h.start) (x ∷ h ∷ hs) (with_hole (joined x h) hs))) (le-ltb (h.start + h.count) x.start high)
 
 put_first : (x h : Hole) (hs : List Hole) → x.start ≤ h.start + h.count → x.start + x.count < h.start → with_hole x (h ∷ hs) ≡ x ∷ h ∷ hs
-put_first x h hs high low = stopped x h hs high ∙ ap (λ b. cond b (x ∷ h ∷ hs) (with_hole (joined x h) hs)) (lt_true (x.start + x.count) h.start low)
+put_first x h hs high low = stopped x h hs high ∙ ap (λ b. cond b (x ∷ h ∷ hs) (with_hole (joined x h) hs)) (lt-ltb (x.start + x.count) h.start low)
 
 joins : (x h : Hole) (hs : List Hole) → x.start ≤ h.start + h.count → h.start ≤ x.start + x.count → with_hole x (h ∷ hs) ≡ with_hole (joined x h) hs
-joins x h hs high low = stopped x h hs high ∙ ap (λ b. cond b (x ∷ h ∷ hs) (with_hole (joined x h) hs)) (lt_false (x.start + x.count) h.start low)
+joins x h hs high low = stopped x h hs high ∙ ap (λ b. cond b (x ∷ h ∷ hs) (with_hole (joined x h) hs)) (le-ltb (x.start + x.count) h.start low)
 
 hole_is : (a b m n : ℕ) → a ≡ b → m ≡ n → ◌≡◌ {A = Hole} (record { start = a; count = m }) (record { start = b; count = n })
 hole_is a b m n e f = λ i. record { start = e i; count = f i }
@@ -110,9 +97,9 @@ ordered n (h ∷ hs) apart (suc k) (suc l) d less low = ordered (h.start + h.cou
 -- holes in order are those that start before a place, and then the others
 pub parted : (n place : ℕ) (hs : List Hole) → AreApart n hs → IsPartitionedBy (λ h. nat_lt h.start place) hs
 parted n place hs apart i j d le low e =
-    let there : (get_or hs j d).start < place = true_lt (get_or hs j d).start place e in
+    let there : (get_or hs j d).start < place = ltb-true (get_or hs j d).start place e in
     ⊎_elim (λ (same : i ≡ j). ap (λ k. nat_lt (get_or hs k d).start place) same ∙ e)
-    (λ less. let far = ordered n hs apart i j d less low in lt_true (get_or hs i d).start place (omega arith)) (here i j le)
+    (λ less. let far = ordered n hs apart i j d less low in lt-ltb (get_or hs i d).start place (omega arith)) (here i j le)
   where
     here : (i j : ℕ) → i ≤ j → (i ≡ j) ⊎ (i < j)
     here i j le = grind arith
@@ -121,12 +108,12 @@ module _ (x : Hole) (hs : List Hole) (i : ℕ) (some : 1 ≤ x.count) (apart : A
     (point : IsPartitionPoint (λ h. nat_lt h.start x.start ≡ true) (λ h. nat_lt h.start x.start ≡ false) hs i) where
   pub ends_low : (k : ℕ) (d : Hole) → k < i → (get_or hs k d).start + (get_or hs k d).count ≤ x.start
   ends_low k d low =
-      let start : (get_or hs k d).start < x.start = true_lt (get_or hs k d).start x.start (point.0 k d (omega arith) low) in
+      let start : (get_or hs k d).start < x.start = ltb-true (get_or hs k d).start x.start (point.0 k d (omega arith) low) in
       ⊎_elim (λ clear. clear) (λ clear. absurd (omega arith)) (around k d (omega arith))
 
   pub starts_high : (k : ℕ) (d : Hole) → i ≤ k → k < length hs → x.start + x.count ≤ (get_or hs k d).start
   starts_high k d high low =
-      let start : x.start ≤ (get_or hs k d).start = false_lt (get_or hs k d).start x.start (point.1 k d high low) in
+      let start : x.start ≤ (get_or hs k d).start = ltb-false (get_or hs k d).start x.start (point.1 k d high low) in
       let there = from_apart 0 hs apart k d low in
       let one : 1 ≤ (get_or hs k d).count = there.1 in
       ⊎_elim (λ clear. absurd (omega arith)) (λ clear. clear) (around k d low)

@@ -4,6 +4,7 @@ mod Counts
 mod Gaps
 mod Gives
 mod Laid
+mod Lent
 mod Looks
 mod Loops
 mod Maps

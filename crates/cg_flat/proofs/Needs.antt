@@ -99,4 +99,5 @@ kept_nothing ws es hs room words entries holes =
     (record {
       flat = flat_nothing;
       room = omega arith;
+      short = λ p s here kind. absurd (search (rules, nowhere p, here));
     })

@@ -1,5 +1,5 @@
 -- Room for new words: the first hole that has it, and else the end.
-use Rattle.std.proofs.Common.{rules, zero, suc, ◌≡◌, ℕ, ◌+◌, ◌-◌, ◌<◌, ◌≤◌, Bool, true, false, cond, nat_eq, nat_le, nat_lt, ◌⊎◌, inl, inr, ⊎_elim, List, [], ◌∷◌, length, get_or, set, refl, sym, ap, ◌∙◌, arith}
+use Rattle.std.proofs.Common.{rules, zero, suc, ◌≡◌, ℕ, ◌+◌, ◌-◌, ◌<◌, ◌≤◌, Bool, true, false, cond, nat_eq, nat_le, nat_lt, ◌⊎◌, inl, inr, ⊎_elim, List, [], ◌∷◌, length, get_or, set, refl, sym, ap, ◌∙◌, arith, lt-ltb, le-ltb, leb-true, leb-false, eq-eqb, ne_eqb}
 use Rattle.std.proofs.lemmas.Bool.Decides.{nat_tests}
 use Rattle.std.proofs.lemmas.List.Elements.{All-head, All-tail}
 use Rattle.std.proofs.lemmas.List.Quantifiers.{position-Some}
@@ -62,24 +62,18 @@ cond_cons : (b : Bool) (h : Hole) (xs ys : List Hole) → h ∷ cond b xs ys ≡
 cond_cons true h xs ys = refl
 cond_cons false h xs ys = refl
 
-few : (m n : ℕ) → m < n → nat_lt m n ≡ true
-few m n low = grind (arith, nat_tests)
-
-enough : (m n : ℕ) → n ≤ m → nat_lt m n ≡ false
-enough m n high = grind (arith, nat_tests)
-
 pub fit_at : (n end : ℕ) (hs : List Hole) (i : ℕ) (d : Hole) → i < length hs → n ≤ (get_or hs i d).count → ((k : ℕ) → k < i → (get_or hs k d).count < n) → first_fit n hs end ≡ (get_or hs i d).start
 fit_at n end [] i d low room small = absurd (omega arith)
-fit_at n end (h ∷ hs) zero d low room small = ap (λ b. cond b (first_fit n hs end) h.start) (enough h.count n room)
+fit_at n end (h ∷ hs) zero d low room small = ap (λ b. cond b (first_fit n hs end) h.start) (le-ltb h.count n room)
 fit_at n end (h ∷ hs) (suc i) d low room small =
-    ap (λ b. cond b (first_fit n hs end) h.start) (few h.count n (small 0 (omega arith))) ∙ fit_at n end hs i d (omega arith) room (λ k below. small (suc k) (omega arith))
+    ap (λ b. cond b (first_fit n hs end) h.start) (lt-ltb h.count n (small 0 (omega arith))) ∙ fit_at n end hs i d (omega arith) room (λ k below. small (suc k) (omega arith))
 
 pub filled_at : (n : ℕ) (hs : List Hole) (i : ℕ) (d : Hole) → i < length hs → n ≤ (get_or hs i d).count → ((k : ℕ) → k < i → (get_or hs k d).count < n)
     → first_filled n hs ≡ cond (nat_eq (get_or hs i d).count n) (remove hs i) (set hs i (record { start = (get_or hs i d).start + n; count = (get_or hs i d).count - n }))
 filled_at n [] i d low room small = absurd (omega arith)
-filled_at n (h ∷ hs) zero d low room small = ap (λ b. cond b (h ∷ first_filled n hs) (without_front n h hs)) (enough h.count n room)
+filled_at n (h ∷ hs) zero d low room small = ap (λ b. cond b (h ∷ first_filled n hs) (without_front n h hs)) (le-ltb h.count n room)
 filled_at n (h ∷ hs) (suc i) d low room small =
-    ap (λ b. cond b (h ∷ first_filled n hs) (without_front n h hs)) (few h.count n (small 0 (omega arith)))
+    ap (λ b. cond b (h ∷ first_filled n hs) (without_front n h hs)) (lt-ltb h.count n (small 0 (omega arith)))
     ∙ ap (λ l. h ∷ l) (filled_at n hs i d (omega arith) room (λ k below. small (suc k) (omega arith)))
     ∙ cond_cons (nat_eq (get_or hs i d).count n) h (remove hs i) (set hs i (record { start = (get_or hs i d).start + n; count = (get_or hs i d).count - n }))
 
@@ -99,27 +93,21 @@ filled_none n (h ∷ hs) small =
 
 -- ---- the hole that a search found
 
-le_true : (m n : ℕ) → nat_le m n ≡ true → m ≤ n
-le_true m n e = grind (arith, nat_tests)
-
-le_false : (m n : ℕ) → nat_le m n ≡ false → n < m
-le_false m n e = grind (arith, nat_tests)
-
 pub fit_found : (n end : ℕ) (hs : List Hole) (i : ℕ) (d : Hole) → position (λ h. nat_le n h.count) hs ≡ Some i → first_fit n hs end ≡ (get_or hs i d).start
 fit_found n end hs i d e =
     let found = position-Some (λ (h : Hole). nat_le n h.count) hs i d e in
-    fit_at n end hs i d found.0 (le_true n (get_or hs i d).count found.1) (λ k low. le_false n (get_or hs k d).count (found.2 k low))
+    fit_at n end hs i d found.0 (leb-true n (get_or hs i d).count found.1) (λ k low. leb-false n (get_or hs k d).count (found.2 k low))
 
 pub filled_found : (n : ℕ) (hs : List Hole) (i : ℕ) (d : Hole) → position (λ h. nat_le n h.count) hs ≡ Some i
     → first_filled n hs ≡ cond (nat_eq (get_or hs i d).count n) (remove hs i) (set hs i (record { start = (get_or hs i d).start + n; count = (get_or hs i d).count - n }))
 filled_found n hs i d e =
     let found = position-Some (λ (h : Hole). nat_le n h.count) hs i d e in
-    filled_at n hs i d found.0 (le_true n (get_or hs i d).count found.1) (λ k low. le_false n (get_or hs k d).count (found.2 k low))
+    filled_at n hs i d found.0 (leb-true n (get_or hs i d).count found.1) (λ k low. leb-false n (get_or hs k d).count (found.2 k low))
 
 pub found_room : (n : ℕ) (hs : List Hole) (i : ℕ) (d : Hole) → position (λ h. nat_le n h.count) hs ≡ Some i → (i < length hs) × (n ≤ (get_or hs i d).count)
 found_room n hs i d e =
     let found = position-Some (λ (h : Hole). nat_le n h.count) hs i d e in
-    (found.0, le_true n (get_or hs i d).count found.1)
+    (found.0, leb-true n (get_or hs i d).count found.1)
 
 cond_none : (b : Bool) (n : ℕ) → cond b (Some n) None ≡ None → b ≡ false
 cond_none true n e = absurd (search rules)
@@ -134,23 +122,17 @@ none_found n hs e k d low =
 
 -- ---- what taking its front leaves
 
-eq_true : (m n : ℕ) → m ≡ n → nat_eq m n ≡ true
-eq_true m n e = grind (arith, nat_tests)
-
-eq_false : (m n : ℕ) → (m ≡ n → ⊥) → nat_eq m n ≡ false
-eq_false m n e = grind (arith, nat_tests)
-
 pub whole_taken : (n : ℕ) (hs : List Hole) (i : ℕ) (h : Hole) → position (λ g. nat_le n g.count) hs ≡ Some i → h ≡ get_or hs i h → h.count ≡ n → remove hs i ≡ first_filled n hs
 whole_taken n hs i h found read same =
     let count : h.count ≡ (get_or hs i h).count = ap (λ g. g.count) read in
-    let test = eq_true (get_or hs i h).count n (omega arith) in
+    let test = eq-eqb (get_or hs i h).count n (omega arith) in
     sym (filled_found n hs i h found ∙ ap (λ b. cond b (remove hs i) (set hs i (record { start = (get_or hs i h).start + n; count = (get_or hs i h).count - n }))) test)
 
 pub part_taken : (n : ℕ) (hs : List Hole) (i : ℕ) (h : Hole) → position (λ g. nat_le n g.count) hs ≡ Some i → h ≡ get_or hs i h → (h.count ≡ n → ⊥)
     → set hs i (record { start = h.start + n; count = h.count - n }) ≡ first_filled n hs
 part_taken n hs i h found read apart =
     let count : h.count ≡ (get_or hs i h).count = ap (λ g. g.count) read in
-    let test = eq_false (get_or hs i h).count n (λ same. apart (count ∙ same)) in
+    let test = ne_eqb (get_or hs i h).count n (λ same. apart (count ∙ same)) in
     ap (λ (g : Hole). set hs i (record { start = g.start + n; count = g.count - n })) read
     ∙ sym (filled_found n hs i h found ∙ ap (λ b. cond b (remove hs i) (set hs i (record { start = (get_or hs i h).start + n; count = (get_or hs i h).count - n }))) test)
 

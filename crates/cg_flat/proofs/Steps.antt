@@ -1,6 +1,5 @@
 -- What each call leaves of a flat store.
-use Rattle.std.proofs.Common.{rules, ◌≡◌, ℕ, ◌+◌, ◌-◌, ◌*◌, ◌/◌, ◌<◌, ◌≤◌, Bool, true, false, cond, nat_lt, List, [], ◌∷◌, ◌++◌, length, get_or, replicate, slice_set, refl, sym, ap, subst, ◌∙◌, arith}
-use Rattle.std.proofs.lemmas.Bool.Decides.{nat_tests}
+use Rattle.std.proofs.Common.{rules, ◌≡◌, ℕ, ◌+◌, ◌-◌, ◌*◌, ◌/◌, ◌<◌, ◌≤◌, Bool, true, false, cond, nat_lt, List, [], ◌∷◌, ◌++◌, length, get_or, replicate, slice_set, refl, sym, ap, subst, ◌∙◌, arith, ltb-true}
 use Rattle.std.specs.FinMap as table
 use Rattle.std.specs.FinMap.{FinMap}
 use Rattle.std.specs.Option.{is_some}
@@ -23,9 +22,6 @@ use Rattle.cg_flat.proofs.Wordy.{length_span, span_written, written_grown}
 
 -- ---- one cell's words
 
-test_lt : (m n : ℕ) → nat_lt m n ≡ true → m < n
-test_lt m n e = grind (arith, nat_tests)
-
 tested : (b : Bool) (c : Cell) → is_some (cond b (Some c) None) ≡ true → b ≡ true
 tested true c e = refl
 tested false c e = absurd (search rules)
@@ -37,14 +33,14 @@ pub slot_in_kind : (k : Form) (i : ℕ) (x : Scalar) (ws : List ℕ) → is_some
     → (2 * i + 1 < length ws) × (with_slot i x (cell_in k ws) ≡ Some (cell_in k (written (2 * i) (scalar_words x) ws)))
 slot_in_kind form.Slots i x ws e =
     let test = tested (nat_lt i (length (slots_in ws))) (Slots (slice_set (slots_in ws) i x)) e in
-    let low = test_lt i (length (slots_in ws)) test in
+    let low = ltb-true i (length (slots_in ws)) test in
     let both = slots_length_by ws in
     let fits : 2 * i + 1 < length ws = omega arith in
     (fits, opened (nat_lt i (length (slots_in ws))) (Slots (slice_set (slots_in ws) i x)) (Slots (slots_in (written (2 * i) (scalar_words x) ws))) test (ap Slots (sym (slot_put i x ws fits))))
 slot_in_kind form.Words i x ws e = absurd (search rules)
 slot_in_kind form.Answers i x ws e = absurd (search rules)
 
-is_cond : (b : Bool) (c : Cell) → is_some (cond b (Some c) None) ≡ b
+pub is_cond : (b : Bool) (c : Cell) → is_some (cond b (Some c) None) ≡ b
 is_cond true c = refl
 is_cond false c = refl
 
@@ -68,7 +64,7 @@ pub element_in_kind : (k : Form) (i n : ℕ) (ws : List ℕ) → is_some (with_e
 element_in_kind form.Slots i n ws e = absurd (search rules)
 element_in_kind form.Words i n ws e =
     let test = tested (nat_lt i (length ws)) (Words (slice_set ws i n)) e in
-    let low = test_lt i (length ws) test in
+    let low = ltb-true i (length ws) test in
     (low, opened (nat_lt i (length ws)) (Words (slice_set ws i n)) (Words (written i (n ∷ []) ws)) test (ap Words (sym (element_put i n ws low))))
 element_in_kind form.Answers i n ws e = absurd (search rules)
 

@@ -70,7 +70,7 @@ other_kept f p q s t at ws flat here low high apart there =
 
 -- ---- words written in one cell's span
 
-stored_written : (f : Flat) (p : ℕ) (s : Span) (at : ℕ) (ws : List ℕ) (d : Cell) → IsFlat f → table.get f.spans p ≡ Some s → s.start ≤ at → at + length ws ≤ s.start + s.count
+pub stored_written : (f : Flat) (p : ℕ) (s : Span) (at : ℕ) (ws : List ℕ) (d : Cell) → IsFlat f → table.get f.spans p ≡ Some s → s.start ≤ at → at + length ws ≤ s.start + s.count
     → cell_of (written at ws f.words) s ≡ d → stored_of (over at ws f) ≡ in_place p (Some d) (stored_of f)
 stored_written f p s at ws d flat here low high is =
     ap (λ m. record { cells = m; top = f.top })

@@ -110,6 +110,21 @@ span_laid ws all s long within =
     let below : k < s.count = omega arith in
     part_at s.start s.count (written s.start ws all) k below ∙ inside s.start ws all k (omega arith) (omega arith))
 
+-- a span of words that are elsewhere as before, written over those
+pub written_same : (new all : List ℕ) (s : Span) → length new ≡ length all → s.start + s.count ≤ length all → ((k : ℕ) → (k < s.start) ⊎ (s.start + s.count ≤ k) → get_or new k 0 ≡ get_or all k 0)
+    → written s.start (span_words new s) all ≡ new
+written_same new all s same within out =
+    let long = length_span new s (omega arith) in
+    let whole = length-written s.start (span_words new s) all (omega arith) in
+    ext_get_or 0 _ _ (whole ∙ sym same) (λ k low.
+    ⊎_elim (λ o. outside s.start (span_words new s) all k (omega arith) (rw long o) ∙ sym (out k o))
+    (λ in'.
+    let first : s.start ≤ k = in'.0 in
+    let last : k < s.start + s.count = in'.1 in
+    let back : s.start + (k - s.start) ≡ k = omega arith in
+    inside_at s.start (span_words new s) all k (omega arith) first (omega arith) ∙ part_at s.start s.count new (k - s.start) (omega arith) ∙ ap (λ j. get_or new j 0) back)
+    (where_is s.start s.count k))
+
 -- ---- words written behind one another
 
 abbrev pub zeros : ℕ → List ℕ

@@ -144,6 +144,20 @@ abbrev pub elements_of : Cell → Option (List ℕ)
 elements_of (Words ns) = Some ns
 elements_of _ = None
 
+-- the span where it is one of elements
+abbrev pub of_form : Form → Span → Option Span
+of_form form.Words s = Some s
+of_form _ s = None
+
+abbrev pub of_elements : Option Span → Option Span
+of_elements (Some s) = of_form s.form s
+of_elements None = None
+
+-- what a borrower left in the place of the words that were lent from the place at on. As many come back as were lent, and then it is
+-- `over at ws`; of more than there is room for, those that fit
+abbrev pub words_left : ℕ → List ℕ → Flat → Flat
+words_left at ws f = record { words = take (length f.words) (written at ws f.words); spans = f.spans; holes = f.holes; top = f.top }
+
 -- ---- words taken, and given back
 
 -- the start of the first hole that has room for n words; where there is none, the end

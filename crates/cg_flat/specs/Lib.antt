@@ -1,4 +1,5 @@
 pub mod Around
 pub mod Codes
 pub mod Flat
+pub mod Lends
 pub mod Seen

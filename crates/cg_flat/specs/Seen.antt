@@ -1,6 +1,9 @@
 -- What a store of words, spans and holes is seen as.
-use Rattle.std.specs.Prelude.{ℕ, ◌+◌, ◌≤◌, List, length}
+use Rattle.std.specs.Prelude.{◌≡◌, ℕ, ◌+◌, ◌≤◌, ◌^◌, List, length, Some}
 use Rattle.std.specs.FinMap as table
+use Rattle.std.specs.FinMap.{FinMap}
+use Rattle.std.specs.Ordering.{nat_cmp}
+use Rattle.cg_heap.specs.declared.cell.Form.TheVariants as form
 use Rattle.cg_flat.specs.Flat.{Flat, IsFlat}
 use Rattle.cg_flat.specs.declared.span.Hole.{Hole}
 use Rattle.cg_flat.specs.declared.span.Span.{Span}
@@ -8,7 +11,12 @@ use Rattle.cg_flat.specs.declared.span.Span.{Span}
 abbrev pub seen : List ℕ → List (ℕ × Span) → List Hole → ℕ → Flat
 seen words entries holes top = record { words = words; spans = table.from_entries entries; holes = holes; top = top }
 
--- it is a flat store, and there is room for a hole in the place of each span
+-- a span of answers has at most 2^32 words, whatever stands in them
+abbrev pub AreShort : FinMap nat_cmp Span → Type 0
+AreShort m = (p : ℕ) (s : Span) → table.get m p ≡ Some s → s.form ≡ form.Answers → s.count ≤ 2 ^ 32
+
+-- it is a flat store, there is room for a hole in the place of each span, and answers are few
 pub record IsKept (words : List ℕ) (entries : List (ℕ × Span)) (holes : List Hole) (capacity top : ℕ) : Type 0 where
   pub flat : IsFlat (seen words entries holes top)
   pub room : length entries + length holes ≤ capacity
+  pub short : AreShort (table.from_entries entries)

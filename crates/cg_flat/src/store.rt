@@ -1,10 +1,12 @@
 // The flat store.
-ghost use Rattle.std.specs.Prelude.{◌≡◌, ◌+◌, ◌<◌, ◌≤◌, ◌^◌, [], IfOk, OnOk, OnErr, is_some};
+ghost use Rattle.std.specs.Prelude.{◌≡◌, ℕ, ◌+◌, ◌<◌, ◌≤◌, ◌^◌, List, [], length, IfOk, IsSome, OnOk, OnErr, Some, is_some};
 ghost use Rattle.std.specs.FinMap as map;
+ghost use Rattle.std.specs.Borrow.{sem};
 ghost use Rattle.std.specs.Option.{option_copied, option_map};
 ghost use Rattle.std.specs.Ordering.{nat_cmp};
-ghost use Rattle.cg_heap.specs.Stored.{answer_of, asked_of, cell_at, cell_length, changed, with_cell, with_element, with_fresh, with_slot, without_answer, without_cell};
-ghost use Rattle.cg_flat.specs.Flat.{added, answer_taken, element_written, elements_of, placed, removed, slot_written, stored_of};
+ghost use Rattle.cg_heap.specs.declared.cell.Cell.TheVariants.{Words};
+ghost use Rattle.cg_heap.specs.Stored.{answer_of, asked_of, cell_at, cell_length, changed, in_place, with_cell, with_element, with_fresh, with_slot, without_answer, without_cell};
+ghost use Rattle.cg_flat.specs.Flat.{added, answer_taken, element_written, elements_of, of_elements, over, placed, removed, slot_written, span_words, start_at, stored_of, words_left};
 
 use crate::hole::free;
 use crate::read::{answer_in, length_in, part, slot_in};
@@ -48,6 +50,8 @@ impl Model for FlatStore {
 }
 
 impl FlatStore {
+    ghost use Rattle.cg_flat.specs.Lends.{lends_words};
+
     /// A store without a cell and without a word. It takes no memory.
     pub fn new(alloc: Global) -> FlatStore
         ensures { result ≡ record { words = []; spans = map.empty; holes = []; top = 0 } }
@@ -82,13 +86,32 @@ impl FlatStore {
     pub fn elements(&self, at: u64) -> Option<&[u64]>
         ensures { option_copied result ≡ asked_of elements_of at (stored_of self.now) }
     {
-        match span_at(&self.spans, at) {
-            Some(span) => match span.form {
-                Form::Words => Some(part(self.words.as_slice(), span)),
-                _ => None,
-            },
+        match elements_span(&self.spans, at) {
+            Some(span) => Some(part(self.words.as_slice(), span)),
             None => None,
         }
+    }
+
+    /// The same to be written: what the borrower leaves in it is the cell's list, and all else is as before. There must be such a
+    /// cell; `elements` tells whether there is.
+    pub fn elements_mut(&mut self, at: u64) -> &mut [u64]
+        requires { IsSome (asked_of elements_of at (stored_of self.old)) }
+        ensures* lends { sem 𝓛 (lends_words self.entry (start_at at self.old) result) }
+        ensures value { Some result.now ≡ asked_of elements_of at (stored_of self.old) }
+        ensures left { (ws : List ℕ) → length ws ≡ length result.now → words_left (start_at at self.old) ws self.old ≡ over (start_at at self.old) ws self.old }
+        ensures store { (ws : List ℕ) → length ws ≡ length result.now → stored_of (over (start_at at self.old) ws self.old) ≡ in_place at (Some (Words ws)) (stored_of self.old) }
+    {
+        let span = elements_span(&self.spans, at).unwrap();
+        self.part_mut(span)
+    }
+
+    // A span's words, to be written.
+    fn part_mut(&mut self, span: Span) -> &mut [u64]
+        requires { span.start + span.count ≤ length self.old.words }
+        ensures* lends { sem 𝓛 (lends_words self.entry span.start result) }
+        ensures value { result.now ≡ span_words self.old.words span }
+    {
+        self.words.slice_mut(span.start..span.start + span.count)
     }
 }
 
@@ -97,6 +120,19 @@ fn span_at(spans: &BTreeMap<u64, Span>, at: u64) -> Option<Span>
     ensures { result ≡ map.get (map.from_entries {R = nat_cmp} spans.now.entries) at }
 {
     spans.get(&at).copied()
+}
+
+// The span of the cell of elements at an address; None where there is no such cell.
+fn elements_span(spans: &BTreeMap<u64, Span>, at: u64) -> Option<Span>
+    ensures { result ≡ of_elements (map.get (map.from_entries {R = nat_cmp} spans.now.entries) at) }
+{
+    match span_at(spans, at) {
+        Some(span) => match span.form {
+            Form::Words => Some(span),
+            _ => None,
+        },
+        None => None,
+    }
 }
 
 impl Store for FlatStore {
@@ -150,8 +186,8 @@ impl Store for FlatStore {
         ensures store { stored_of self.new ≡ changed (with_element index value) at (stored_of self.old) }
         ensures flat { self.new ≡ element_written at index value self.old }
     {
-        match span_at(&self.spans, at) {
-            Some(span) => write_element(&mut self.words, span, index, value),
+        match elements_span(&self.spans, at) {
+            Some(span) => write_element(self.part_mut(span), index, value),
             None => false,
         }
     }

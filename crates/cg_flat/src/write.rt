@@ -1,6 +1,6 @@
 // Words that are written for cells.
-ghost use Rattle.std.specs.Prelude.{◌≡◌, ◌+◌, ◌*◌, ◌<◌, ◌≤◌, ◌^◌, ◌∷◌, [], is_some, length, map, replicate, slice_index, if◌then◌else◌};
-ghost use Rattle.cg_heap.specs.Stored.{answer_of, cell_length, fresh_cell, form_of, with_element, with_slot};
+ghost use Rattle.std.specs.Prelude.{◌≡◌, ◌+◌, ◌*◌, ◌<◌, ◌≤◌, ◌^◌, ◌∷◌, [], is_some, length, map, nat_lt, replicate, slice_index, slice_set, if◌then◌else◌};
+ghost use Rattle.cg_heap.specs.Stored.{answer_of, cell_length, fresh_cell, form_of, with_slot};
 ghost use Rattle.cg_flat.specs.Flat.{answer_word, cell_of, cell_words, scalar_words, slot_words, written};
 
 use crate::read::{answer_in, part};
@@ -44,18 +44,14 @@ fn pair_of(value: Scalar) -> (u64, u64)
     }
 }
 
-// Writes an element of a cell of elements; false, and nothing is changed, where there is no such element.
-pub(crate) fn write_element(words: &mut Vec<u64>, span: Span, index: u32, value: u64) -> bool
-    requires { span.start + span.count ≤ length words.old.items }
-    ensures answer { result ≡ is_some (with_element index value (cell_of words.old.items span)) }
-    ensures words { words.new.items ≡ (if result then written (span.start + index) (value ∷ []) words.old.items else words.old.items) }
+// Writes an element; false, and nothing is changed, where there is no such element.
+pub(crate) fn write_element(elements: &mut [u64], index: u32, value: u64) -> bool
+    ensures answer { result ≡ nat_lt index (length elements.old) }
+    ensures elements { elements.new ≡ (if result then slice_set elements.old index value else elements.old) }
 {
-    let has = match span.form {
-        Form::Words => (index as usize) < span.count,
-        _ => false,
-    };
+    let has = (index as usize) < elements.len();
     if has {
-        words[span.start + index as usize] = value;
+        elements[index as usize] = value;
     }
     has
 }

@@ -6,3 +6,5 @@
 
 #[cfg(test)]
 mod random;
+#[cfg(test)]
+mod row;

@@ -5,6 +5,7 @@ use Rattle.cg_flat.specs.Flat.{written}
 use Rattle.cg_flat.specs.Seen.{seen}
 use Rattle.cg_flat.proofs.Cells.{fresh_words}
 use Rattle.cg_flat.proofs.Laid.{holes_within}
+use Rattle.cg_flat.proofs.Lent.{short_put, words_short}
 use Rattle.cg_flat.proofs.Maps.{held_at, put_in}
 use Rattle.cg_flat.proofs.Needs.{absent_above, put_down}
 use Rattle.cg_flat.proofs.store.FlatStoreStore.add.Goals as goal
@@ -31,6 +32,8 @@ invariant_of-self-2 c =
           c.self.invariant.flat (absent_above (seen c.self.inside.words.items c.self.inside.spans.entries c.self.inside.holes.items c.self.inside.top) (c.self.inside.top + 1) c.self.invariant.flat (omega arith)) (omega arith) (omega arith) (omega arith) (let small = c.requires in let top : c.self.inside.top ≡ c.args.self.now.top = ap (λ f. f.top) c.self.view_is in omega arith) c.fresh_shape-form.ensures.short c.fresh_shape-form.ensures.form c.fresh_shape-form.ensures.count c.in_ok-start.ensures.start c.in_ok-start.ensures.words (c.clear.ensures ∙ ap (λ l. written c.in_ok-start.start l c.make_room.new.words.items) (fresh_words c.args.fresh c.fresh_shape-form.result.1 c.fresh_shape-form.ensures.count))
           (put_in c.self.inside.spans c.make_room.new.spans (c.self.inside.top + 1) (record { form = c.fresh_shape-form.result.0; start = c.in_ok-start.start; count = c.fresh_shape-form.result.1 }) c.in_ok-start.ensures.spans) c.in_ok-start.ensures.holes).flat;
       room = c.in_ok-start.ensures.room;
+      short = short_put (table.from_entries c.self.inside.spans.entries) (table.from_entries c.make_room.new.spans.entries) (c.self.inside.top + 1) (record { form = c.fresh_shape-form.result.0; start = c.in_ok-start.start; count = c.fresh_shape-form.result.1 }) (put_in c.self.inside.spans c.make_room.new.spans (c.self.inside.top + 1) (record { form = c.fresh_shape-form.result.0; start = c.in_ok-start.start; count = c.fresh_shape-form.result.1 }) c.in_ok-start.ensures.spans)
+          c.self.invariant.short (λ kind. rw c.fresh_shape-form.ensures.count (words_short (fresh_cell c.args.fresh) c.fresh_shape-form.ensures.short (sym c.fresh_shape-form.ensures.form ∙ kind)));
     }
 
 pub returns-clause-ok : goal.returns-clause-ok

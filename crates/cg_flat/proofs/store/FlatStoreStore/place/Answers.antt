@@ -4,6 +4,7 @@ use Rattle.cg_heap.specs.Stored.{cell_at}
 use Rattle.cg_flat.specs.Flat.{stored_of}
 use Rattle.cg_flat.specs.Seen.{seen}
 use Rattle.cg_flat.proofs.Laid.{holes_within}
+use Rattle.cg_flat.proofs.Lent.{short_put, words_short}
 use Rattle.cg_flat.proofs.Maps.{held_at, put_in}
 use Rattle.cg_flat.proofs.Needs.{absent_held, put_down}
 use Rattle.cg_flat.proofs.store.FlatStoreStore.place.Goals as goal
@@ -27,6 +28,8 @@ invariant_of-self-2 c =
           c.self.invariant.flat (absent_held (seen c.self.inside.words.items c.self.inside.spans.entries c.self.inside.holes.items c.self.inside.top) c.args.at (ap (λ f. cell_at (stored_of f) c.args.at) c.self.view_is ∙ c.requires.absent)) c.requires.least (omega arith) (omega arith) (let most = c.requires.most in let small = c.self.invariant.flat.sound.small in omega arith) c.requires.short c.cell_shape-form.ensures.form c.cell_shape-form.ensures.count c.in_ok-start.ensures.start c.in_ok-start.ensures.words c.write_cell.ensures
           (put_in c.self.inside.spans c.make_room.new.spans c.args.at (record { form = c.cell_shape-form.result.0; start = c.in_ok-start.start; count = c.cell_shape-form.result.1 }) c.in_ok-start.ensures.spans) c.in_ok-start.ensures.holes).flat;
       room = c.in_ok-start.ensures.room;
+      short = short_put (table.from_entries c.self.inside.spans.entries) (table.from_entries c.make_room.new.spans.entries) c.args.at (record { form = c.cell_shape-form.result.0; start = c.in_ok-start.start; count = c.cell_shape-form.result.1 }) (put_in c.self.inside.spans c.make_room.new.spans c.args.at (record { form = c.cell_shape-form.result.0; start = c.in_ok-start.start; count = c.cell_shape-form.result.1 }) c.in_ok-start.ensures.spans)
+          c.self.invariant.short (λ kind. rw c.cell_shape-form.ensures.count (words_short c.args.cell c.requires.short (sym c.cell_shape-form.ensures.form ∙ kind)));
     })
 
 pub returns-clause-ok : goal.returns-clause-ok

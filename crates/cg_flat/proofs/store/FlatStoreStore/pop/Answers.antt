@@ -16,6 +16,7 @@ pub invariant_of-self : goal.invariant_of-self
 invariant_of-self c = record {
   flat = (answer_done (seen c.self.inside.words.items c.self.inside.spans.entries c.self.inside.holes.items c.self.inside.top) c.args.at c.in-Some.span (is_some c.take_answer.result) c.take_answer.new.words.items c.self.invariant.flat (sym c.span_at.ensures ∙ c.in-Some.is) (ap is_some c.take_answer.ensures.answer ∙ same_test c.in-Some.span.form (span_words c.self.inside.words.items c.in-Some.span)) c.take_answer.ensures.words).flat;
   room = c.self.invariant.room;
+  short = c.self.invariant.short;
 }
 
 pub returns-in-Some-clause-store : goal.returns-in-Some-clause-store

@@ -5,6 +5,7 @@ use Rattle.cg_flat.specs.Flat.{IsFlat, stored_of, without_span}
 use Rattle.cg_flat.specs.Seen.{seen}
 use Rattle.cg_flat.proofs.Counts.{within_words}
 use Rattle.cg_flat.proofs.Laid.{flat_removed, holes_around, holes_within, stored_removed}
+use Rattle.cg_flat.proofs.Lent.{short_removed}
 use Rattle.cg_flat.proofs.Maps.{held_at, taken_out}
 use Rattle.cg_flat.proofs.Needs.{bounded, removed_is, stored_without}
 use Rattle.cg_flat.proofs.Stores.{held_none, held_some}
@@ -60,4 +61,5 @@ invariant_of-self c =
           (sym (removed_is (seen c.self.inside.words.items c.self.inside.spans.entries c.self.inside.holes.items c.self.inside.top) c.args.at c.in-Some.span (table.from_entries c.remove.new.self.entries) c.free.new.holes.items (taken_out c.self.inside.spans c.remove.new.self c.args.at c.remove.ensures.updates) c.free.ensures.holes))
           (flat_removed (seen c.self.inside.words.items c.self.inside.spans.entries c.self.inside.holes.items c.self.inside.top) c.args.at c.in-Some.span c.self.invariant.flat (held_at c.self.inside.spans.entries c.args.at ∙ sym c.remove.ensures.value ∙ c.in-Some.is));
       room = omega arith;
+      short = short_removed (table.from_entries c.self.inside.spans.entries) (table.from_entries c.remove.new.self.entries) c.args.at (taken_out c.self.inside.spans c.remove.new.self c.args.at c.remove.ensures.updates) c.self.invariant.short;
     }

@@ -16,6 +16,7 @@ pub invariant_of-self : goal.invariant_of-self
 invariant_of-self c = record {
   flat = (slot_done (seen c.self.inside.words.items c.self.inside.spans.entries c.self.inside.holes.items c.self.inside.top) c.args.at c.args.slot c.args.value c.in-Some.span c.write_slot.result c.write_slot.new.words.items c.self.invariant.flat (sym c.span_at.ensures ∙ c.in-Some.is) c.write_slot.ensures.answer c.write_slot.ensures.words).flat;
   room = c.self.invariant.room;
+  short = c.self.invariant.short;
 }
 
 pub returns-in-Some-clause-store : goal.returns-in-Some-clause-store

@@ -1,0 +1,6 @@
+mod Fronts
+mod Lines
+mod Names
+mod Readings
+mod Sources
+mod Steps
