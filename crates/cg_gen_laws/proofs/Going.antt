@@ -1,13 +1,8 @@
 -- The judgements of `gen` go, one after the other, and so its steps do.
 use Rattle.std.proofs.Common.{◌≡◌, inl, inr, ℕ, ◌+◌, ◌-◌, ◌^◌, ◌<◌, ◌≤◌, true, List, [], ◌∷◌, ◌++◌, Option, Some, length, map, slice_get, refl, sym, ap, ◌∙◌, subst, arith}
 use Rattle.cg_base.specs.Types.{Tau}
-use Rattle.cg_cert.specs.Certificates.{certificate}
-use Rattle.cg_cert.specs.Texts.{text as text_of}
-use Rattle.cg_core.specs.Kernels.{Function}
-use Rattle.cg_check_def.specs.Kept.{function_tree}
 use Rattle.cg_heap.specs.declared.cell.Cell.TheVariants.{Slots}
 use Rattle.cg_heap.specs.declared.cell.Scalar.TheVariants.{Address, Word}
-use Rattle.cg_parser_def.specs.Grammar.{Spells}
 use Rattle.cg_resolve_def.specs.Desugar.{functions_of}
 use Rattle.cg_driver_entry.specs.Entries.{ReachesAbstract}
 use Rattle.cg_driver_steps.proofs.Joining.{judged_runs, then_settles}
@@ -18,6 +13,8 @@ use Rattle.cg_gen.specs.Generated.{name, source, heap as made_heap}
 use Rattle.cg_gen_def.specs.Kernels.{cell_type, functions}
 use Rattle.cg_gen_def.specs.Programs.{program}
 use Rattle.cg_gen_def.specs.Results.{cell_after, cost_of}
+use Rattle.cg_gen_certificate_laws.specs.Laws.{CertificateIsShort}
+use Rattle.cg_gen_text_laws.specs.Laws.{SourceIsShort, SourceIsSpelled}
 use Rattle.cg_gen_names_laws.specs.Laws.{EntryIsLast, KernelIsMade, LimitsAreKept, NamesAreInOrder}
 use Rattle.cg_gen_run_laws.specs.Laws.{EvaluationGives, HeapIsHeld, StepsAreEnough}
 use Rattle.cg_gen_typing_laws.specs.Laws.{CoresAreDerived, InstancesAreWithin, KernelIsAccepted, TypesAreSmall}
@@ -29,6 +26,7 @@ use Rattle.cg_driver.specs.Externs.{Extern}
 use Rattle.cg_driver.specs.Found.{Argument, Found, certificate_limit, functions as functions_found, heap_limit, with_argument, with_copies, with_entry, with_program, with_value}
 use Rattle.cg_driver.specs.Instanced.{HasInstances, certified_text}
 use Rattle.cg_driver.specs.Run.{Evaluates}
+use Rattle.cg_driver.proofs.Saying.{accepted_settles}
 use Rattle.cg_gen_laws.specs.Laws.{GenGoes, GenIsNeverRefused, GivesMade}
 use Rattle.cg_gen_laws.proofs.Entered.{allowed, argument_is, concrete}
 use Rattle.cg_gen_laws.proofs.Listed.{as_many, copies, evaluates, has_instances, is_accepted}
@@ -119,9 +117,7 @@ few_names n few = omega (arith, few)
 few_numbers : (n : ℕ) → n ≤ 4096 → n < 2 ^ 32
 few_numbers n few = omega (arith, few)
 
-module _ (accepted_settles : (file bytes : List ℕ) (fs : List Function) (a : IsAcceptedSource bytes fs) (f : Found) → f.source ≡ bytes → Settles Judges (source_rules file) f (goes (with_program a.accepted.program f)))
-    (spelled : (n : ℕ) → n ≤ 4096 → Spells (source n) (program n)) (short : (n : ℕ) → n ≤ 4096 → length (source n) ≤ 1048576)
-    (brief : (n : ℕ) → n ≤ 4096 → length (text_of (certificate (functions n) (map (function_tree (functions n)) (functions n)))) ≤ 67108864)
+module _ (spelled : SourceIsSpelled) (short : SourceIsShort) (brief : CertificateIsShort)
     (names : NamesAreInOrder) (made_kernel : KernelIsMade) (limits : LimitsAreKept) (entry : EntryIsLast)
     (derived : CoresAreDerived) (typed : KernelIsAccepted) (types : TypesAreSmall) (within : InstancesAreWithin)
     (gives : EvaluationGives) (enough : StepsAreEnough) (held : HeapIsHeld) where

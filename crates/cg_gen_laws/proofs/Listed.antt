@@ -8,6 +8,7 @@ use Rattle.cg_core.specs.Derivations.{Derivation}
 use Rattle.cg_core.specs.Terms.{Note, Tree}
 use Rattle.cg_faults.specs.Fails.{AreTypesWithin}
 use Rattle.cg_inst.specs.Judged.{IsWithin}
+use Rattle.cg_inst_laws.specs.Laws.{entry_of}
 use Rattle.cg_lower.specs.Collected.{Copy}
 use Rattle.cg_parser_def.specs.Grammar.{Spells}
 use Rattle.cg_resolve_def.specs.Desugar.{NamesStand, WithinLimits, functions_of}
@@ -16,7 +17,7 @@ use Rattle.cg_typing.specs.Accepted.{IsAcceptedKernel}
 use Rattle.cg_typing.specs.Instances.{Instance}
 use Rattle.cg_typing.specs.Kept.{AreKept}
 use Rattle.cg_value.specs.Foreign.{Foreign}
-use Rattle.cg_driver_laws.specs.Laws.{copies_over, entry_of}
+use Rattle.cg_driver_laws.specs.Laws.{copies_over}
 use Rattle.cg_gen.specs.Generated.{source}
 use Rattle.cg_gen_def.specs.Kernels.{cores, functions}
 use Rattle.cg_gen_def.specs.Programs.{program}

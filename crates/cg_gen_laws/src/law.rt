@@ -2,8 +2,10 @@
 ghost use Rattle.cg_gen_laws.specs.Laws.{GenGoes, GenIsNeverRefused};
 
 use cg_driver::one_outcome;
+use cg_gen_certificate_laws::certificate_is_short;
 use cg_gen_names_laws::{entry_is_last, kernel_is_made, limits_are_kept, names_are_in_order};
 use cg_gen_run_laws::{evaluation_gives, heap_is_held, steps_are_enough};
+use cg_gen_text_laws::{source_is_short, source_is_spelled};
 use cg_gen_typing_laws::{
     cores_are_derived, instances_are_within, kernel_is_accepted, types_are_small,
 };
@@ -13,6 +15,9 @@ use cg_gen_typing_laws::{
 pub fn gen_goes()
     ensures { GenGoes }
 {
+    source_is_spelled();
+    source_is_short();
+    certificate_is_short();
     names_are_in_order();
     kernel_is_made();
     limits_are_kept();
