@@ -1,0 +1,4 @@
+pub mod Entered
+pub mod Going
+pub mod Listed
+pub mod Once
