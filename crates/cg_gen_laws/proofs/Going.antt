@@ -91,7 +91,7 @@ ran table before f same at heap held ends =
             cost_of (before + 1),
             refl,
             subst (λ fs. Evaluates table.values fs f.at cell.value default_steps (cell_after (before + 1)) (cost_of (before + 1))) (sym same)
-            (subst (λ k. Evaluates table.values (functions (before + 1)) k cell.value default_steps (cell_after (before + 1)) (cost_of (before + 1))) (sym at) ends),
+                (subst (λ k. Evaluates table.values (functions (before + 1)) k cell.value default_steps (cell_after (before + 1)) (cost_of (before + 1))) (sym at) ends),
           ),
           refl,
         ),
@@ -177,12 +177,11 @@ module _ (spelled : SourceIsSpelled) (short : SourceIsShort) (brief : Certificat
       (found : Found) × Runs Judges (script_of table (Some (gen n))).steps (script_of table (Some (gen n))).start world (goes found) world × GivesMade n found
 
   goes_behind : (table : Extern) (world : World) (before : ℕ) → before + 1 ≤ 4096 → Goes table world (before + 1)
-  goes_behind table world before few =
-      (
-        final before,
-        judged_runs Judges (made_rules table (before + 1)) [] (made (before + 1)) (final before) world world (goes (final before)) (all_go table before few) (refl, refl),
-        gives_made before few,
-      )
+  goes_behind table world before few = (
+    final before,
+    judged_runs Judges (made_rules table (before + 1)) [] (made (before + 1)) (final before) world world (goes (final before)) (all_go table before few) (refl, refl),
+    gives_made before few,
+  )
 
   pub gen_goes : GenGoes
   gen_goes table n some few world =
