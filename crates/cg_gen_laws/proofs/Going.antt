@@ -1,5 +1,5 @@
 -- The judgements of `gen` go, one after the other, and so its steps do.
-use Rattle.std.proofs.Common.{◌≡◌, inl, inr, ℕ, ◌+◌, ◌-◌, ◌^◌, ◌<◌, ◌≤◌, true, List, [], ◌∷◌, ◌++◌, Option, Some, length, map, slice_get, refl, sym, ap, ◌∙◌, subst, arith}
+use Rattle.std.proofs.Common.{◌≡◌, inr, ℕ, ◌+◌, ◌-◌, ◌^◌, ◌<◌, ◌≤◌, true, [], ◌∷◌, ◌++◌, Some, length, slice_get, refl, sym, ap, ◌∙◌, subst, arith}
 use Rattle.cg_base.specs.Types.{Tau}
 use Rattle.cg_heap.specs.declared.cell.Cell.TheVariants.{Slots}
 use Rattle.cg_heap.specs.declared.cell.Scalar.TheVariants.{Address, Word}
@@ -68,7 +68,7 @@ listed n f same instances brief =
 heap_fits : length made_heap ≤ heap_limit
 heap_fits = omega arith
 
-holds_at : (fs : Tau) → fs ≡ cell_type → HoldsArgument made_heap cell_type cell → HoldsArgument made_heap fs cell
+holds_at : (t : Tau) → t ≡ cell_type → HoldsArgument made_heap cell_type cell → HoldsArgument made_heap t cell
 holds_at t is held = subst (λ x. HoldsArgument made_heap x cell) (sym is) held
 
 ran : (table : Extern) (before : ℕ) (f : Found) → functions_found f ≡ functions (before + 1) → f.at ≡ before → f.heap ≡ made_heap
@@ -91,7 +91,7 @@ ran table before f same at heap held ends =
             cost_of (before + 1),
             refl,
             subst (λ fs. Evaluates table.values fs f.at cell.value default_steps (cell_after (before + 1)) (cost_of (before + 1))) (sym same)
-            (subst (λ k. Evaluates table.values (functions (before + 1)) k cell.value default_steps (cell_after (before + 1)) (cost_of (before + 1))) (sym at) ends),
+                (subst (λ k. Evaluates table.values (functions (before + 1)) k cell.value default_steps (cell_after (before + 1)) (cost_of (before + 1))) (sym at) ends),
           ),
           refl,
         ),
@@ -177,12 +177,11 @@ module _ (spelled : SourceIsSpelled) (short : SourceIsShort) (brief : Certificat
       (found : Found) × Runs Judges (script_of table (Some (gen n))).steps (script_of table (Some (gen n))).start world (goes found) world × GivesMade n found
 
   goes_behind : (table : Extern) (world : World) (before : ℕ) → before + 1 ≤ 4096 → Goes table world (before + 1)
-  goes_behind table world before few =
-      (
-        final before,
-        judged_runs Judges (made_rules table (before + 1)) [] (made (before + 1)) (final before) world world (goes (final before)) (all_go table before few) (refl, refl),
-        gives_made before few,
-      )
+  goes_behind table world before few = (
+    final before,
+    judged_runs Judges (made_rules table (before + 1)) [] (made (before + 1)) (final before) world world (goes (final before)) (all_go table before few) (refl, refl),
+    gives_made before few,
+  )
 
   pub gen_goes : GenGoes
   gen_goes table n some few world =
