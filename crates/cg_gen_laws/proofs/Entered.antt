@@ -1,5 +1,5 @@
 -- The last function is an entry that may be run, and takes the cell.
-use Rattle.std.proofs.Common.{◌≡◌, ◌<◌, ℕ, ◌+◌, true, length, Option, Some, None, slice_get, sym, refl, ap, ◌∙◌, subst, arith}
+use Rattle.std.proofs.Common.{◌≡◌, ◌<◌, ℕ, ◌+◌, true, Some, None, slice_get, sym, refl, ap, ◌∙◌, arith}
 use Rattle.std.proofs.lemmas.Option.{slice_get_within}
 use Rattle.cg_core.specs.Kernels.{Function}
 use Rattle.cg_driver.specs.Entered.{argument_type, entry_type, is_entry}

@@ -1,5 +1,5 @@
 -- The judgements of `gen` go, one after the other, and so its steps do.
-use Rattle.std.proofs.Common.{◌≡◌, inl, inr, ℕ, ◌+◌, ◌-◌, ◌^◌, ◌<◌, ◌≤◌, true, List, [], ◌∷◌, ◌++◌, Option, Some, length, map, slice_get, refl, sym, ap, ◌∙◌, subst, arith}
+use Rattle.std.proofs.Common.{◌≡◌, inr, ℕ, ◌+◌, ◌-◌, ◌^◌, ◌<◌, ◌≤◌, true, [], ◌∷◌, ◌++◌, Some, length, slice_get, refl, sym, ap, ◌∙◌, subst, arith}
 use Rattle.cg_base.specs.Types.{Tau}
 use Rattle.cg_heap.specs.declared.cell.Cell.TheVariants.{Slots}
 use Rattle.cg_heap.specs.declared.cell.Scalar.TheVariants.{Address, Word}
@@ -68,7 +68,7 @@ listed n f same instances brief =
 heap_fits : length made_heap ≤ heap_limit
 heap_fits = omega arith
 
-holds_at : (fs : Tau) → fs ≡ cell_type → HoldsArgument made_heap cell_type cell → HoldsArgument made_heap fs cell
+holds_at : (t : Tau) → t ≡ cell_type → HoldsArgument made_heap cell_type cell → HoldsArgument made_heap t cell
 holds_at t is held = subst (λ x. HoldsArgument made_heap x cell) (sym is) held
 
 ran : (table : Extern) (before : ℕ) (f : Found) → functions_found f ≡ functions (before + 1) → f.at ≡ before → f.heap ≡ made_heap

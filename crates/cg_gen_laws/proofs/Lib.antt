@@ -1,4 +1,4 @@
-pub mod Entered
-pub mod Going
-pub mod Listed
-pub mod Once
+mod Entered
+mod Going
+mod Listed
+mod Once

@@ -1,11 +1,10 @@
 -- The source is accepted, its instances are its functions, and evaluation of the last gives the cell with its number.
-use Rattle.std.proofs.Common.{◌≡◌, ℕ, ◌+◌, ◌≤◌, List, [], ◌∷◌, Option, Some, length, map, refl, sym, subst, ◌∙◌}
+use Rattle.std.proofs.Common.{◌≡◌, ℕ, ◌+◌, ◌≤◌, List, [], Option, length, map, refl, sym, subst, ◌∙◌}
 use Rattle.std.proofs.lemmas.List.FromFn.{length-map-range_with_len}
 use Rattle.std.proofs.lemmas.List.{length-map}
 use Rattle.std.specs.List.{range_with_len}
 use Rattle.cg_base.specs.declared.fun.Fun.TheVariants.{User}
 use Rattle.cg_core.specs.Derivations.{Derivation}
-use Rattle.cg_core.specs.Terms.{Note, Tree}
 use Rattle.cg_faults.specs.Fails.{AreTypesWithin}
 use Rattle.cg_inst.specs.Judged.{IsWithin}
 use Rattle.cg_inst_laws.specs.Laws.{entry_of}

@@ -1,5 +1,5 @@
 -- Judgements alone come to one outcome and leave the world, where each judgement comes to one at most.
-use Rattle.std.proofs.Common.{◌≡◌, inl, inr, List, [], ◌∷◌, refl, sym, ap, ◌∙◌, subst}
+use Rattle.std.proofs.Common.{◌≡◌, inl, inr, List, [], ◌∷◌, sym, ◌∙◌, subst}
 use Rattle.cg_driver_steps.specs.Steps.{Outcome, goes, IsRefusal, Runs, Settles, judged_first}
 use Rattle.cg_driver_steps.specs.World.{World}
 
