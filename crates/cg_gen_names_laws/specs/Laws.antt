@@ -1,5 +1,5 @@
 -- What holds of the program of each number (docs/LANGUAGE.md, "Generator"). Names of functions are apart as far as `decimal` tells numbers apart,
--- which is below 10 ^ 64 (proofs/Wide.antt).
+-- which is below 10 ^ 64: f<10^64> and f<2 * 10^64> have one name.
 use Rattle.std.specs.Prelude.{◌≡◌, ℕ, ◌+◌, ◌^◌, ◌<◌, ◌≤◌, position, Some}
 use Rattle.std.specs.Str.{bytes_eq}
 use Rattle.cg_surface.specs.Programs.{program_depth}
