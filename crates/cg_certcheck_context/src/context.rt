@@ -79,6 +79,7 @@ fn on_second(mark: Mark, entry: Entry) -> Entry
 }
 
 /// What the marks of a split leave of a context on its first side. Want of memory is its one refusal.
+#[inline(never)]
 pub fn firsts<'a>(
     source: &Source,
     marks: &[Mark],
@@ -95,6 +96,7 @@ pub fn firsts<'a>(
 }
 
 /// What they leave on its second side. Want of memory is its one refusal.
+#[inline(never)]
 pub fn seconds<'a>(
     source: &Source,
     marks: &[Mark],
@@ -139,6 +141,7 @@ fn seconds_lent<'a>(
 }
 
 /// The second side with a new variable of this type. Want of memory is its one refusal.
+#[inline(never)]
 pub fn opened<'a>(
     source: &Source,
     marks: &[Mark],
@@ -153,6 +156,7 @@ pub fn opened<'a>(
 }
 
 /// The second side with two new variables of these types. Want of memory is its one refusal.
+#[inline(never)]
 pub fn opened_twice<'a>(
     source: &Source,
     marks: &[Mark],
@@ -204,6 +208,7 @@ fn found_copy(source: &Source, ty: &Ty, shared: bool) -> Result<Ty, Memory>
 }
 
 /// The type of a variable where it stands; unit, where it isn't present. Want of memory is its one refusal.
+#[inline(never)]
 pub fn type_at(source: &Source, context: &[Entry], var: usize) -> Result<Ty, Memory>
     ensures { IfOk result (λ ty. type_of ty ≡ or_unit (look (context_of (bounds_of source.now.vars.now) context.now) var)) }
 {

@@ -66,6 +66,7 @@ fn find<'a>(source: &Source<'a>, node: Node, at: Cursor) -> Result<&'a [Items<Ma
 
 /// A node of this rule without marks: where the pass stands behind it. C3 with its number where there is no node, C2 with it where the
 /// node is of another rule or has marks; and `Memory` for want of memory.
+#[inline(never)]
 pub fn reach_leaf(source: &Source, node: Node, at: Cursor) -> Result<Cursor, CertFault>
     ensures { Agrees (cursor_of source.now.nodes.now) result (steps.leaf_reached (cursor_of source.now.nodes.now at) node) }
 {
@@ -78,6 +79,7 @@ pub fn reach_leaf(source: &Source, node: Node, at: Cursor) -> Result<Cursor, Cer
 
 /// The same of a leaf of this type, of whose context it is known whether it may end there: C2 with its number also where it may not, or
 /// where the leaf isn't of the type that is checked against, if any is.
+#[inline(never)]
 pub fn test_leaf(
     source: &Source,
     direction: Option<&Ty>,
@@ -97,6 +99,7 @@ pub fn test_leaf(
 }
 
 /// The same of a literal that stands left of its guide: C2 with its number also where a variable of its context may not be dropped.
+#[inline(never)]
 pub fn reach_literal(source: &Source, context: &[Entry], at: Cursor) -> Result<Cursor, CertFault>
     ensures { Agrees (cursor_of source.now.nodes.now) result (steps.literal_reached (bounds_of source.now.vars.now) (context_of (bounds_of source.now.vars.now) context.now) (cursor_of source.now.nodes.now at)) }
 {
@@ -110,6 +113,7 @@ pub fn reach_literal(source: &Source, context: &[Entry], at: Cursor) -> Result<C
 
 /// A node of this rule with one mark string, which splits a context: its marks. C3 with its number where there is no node, C2 with it
 /// where the node is of another rule, or its marks don't split the context; and `Memory` for want of memory.
+#[inline(never)]
 pub fn reach_split<'a>(
     source: &Source<'a>,
     context: &[Entry],
@@ -131,6 +135,7 @@ pub fn reach_split<'a>(
 }
 
 /// The same of a `let!` that observes these variables.
+#[inline(never)]
 pub fn reach_observed<'a>(
     source: &Source<'a>,
     context: &[Entry],
@@ -152,6 +157,7 @@ pub fn reach_observed<'a>(
 }
 
 /// The same of a record, which has a mark string between each field and the later ones.
+#[inline(never)]
 pub fn reach_record<'a>(
     source: &Source<'a>,
     context: &[Entry],

@@ -28,6 +28,7 @@ pub struct Cursor {
 }
 
 /// Behind the node that stands here. Want of memory stands for a number past all that memory can hold.
+#[inline(never)]
 pub fn step(source: &Source, at: Cursor) -> Result<Cursor, Memory>
     ensures { IfOk result (λ behind. cursor_of source.now.nodes.now behind ≡ step_of (cursor_of source.now.nodes.now at)) }
 {

@@ -109,6 +109,7 @@ pub fn splits(source: &Source, context: &[Entry], marks: &[Mark]) -> bool
 }
 
 /// Whether marks split a context where a `let!` observes these. Want of memory is its one refusal.
+#[inline(never)]
 pub fn splits_observed(
     source: &Source,
     context: &[Entry],
@@ -139,6 +140,7 @@ fn split_all(source: &Source, context: &[Entry], strings: &[Items<Mark>]) -> Res
 
 /// Whether mark strings split a context between the fields of a record. Want of memory is its one refusal.
 #[tactic(auto, using(crate::proofs::SplitSteps::field_steps))]
+#[inline(never)]
 pub fn splits_fields(
     source: &Source,
     context: &[Entry],

@@ -15,6 +15,7 @@ use cg_certcheck_context::{Cursor, Entry, Source, firsts, reach_literal};
 use cg_core::Mark;
 
 /// A literal that stands left of its guide: it is reached first.
+#[inline(never)]
 pub fn reach_left(
     source: &Source,
     context: &[Entry],

@@ -60,6 +60,7 @@ pub fn operator_at(number: u64, place: Place, op: Op) -> Operator
 }
 
 /// A part whose type is within the limit.
+#[inline(never)]
 pub fn small(source: &Source, got: Got) -> Result<Got, CertFault>
     ensures { Agrees (got_in source.now.nodes.now) result (test (Beyond OfType) (small_by (got_in source.now.nodes.now got).ty) (Ok (got_in source.now.nodes.now got))) }
 {
@@ -98,6 +99,7 @@ fn operator_type(
 }
 
 /// An operand of a type that the operator takes.
+#[inline(never)]
 pub fn taken_by_sort(source: &Source, operator: Operator, got: Got) -> Result<Got, CertFault>
     ensures { Agrees (got_in source.now.nodes.now) result (row operator.number (takes_by (the_sort operator.sort) (got_in source.now.nodes.now got).ty) (Ok (got_in source.now.nodes.now got))) }
 {
@@ -109,6 +111,7 @@ pub fn taken_by_sort(source: &Source, operator: Operator, got: Got) -> Result<Go
 }
 
 /// An operator with one operand.
+#[inline(never)]
 pub fn end_unary(
     source: &Source,
     direction: Option<&Ty>,
@@ -122,6 +125,7 @@ pub fn end_unary(
 }
 
 /// An operator with two operands, of which the left one was checked first.
+#[inline(never)]
 pub fn end_by_left(
     source: &Source,
     marks: &[Mark],
@@ -147,6 +151,7 @@ fn number_of(term: &Term<Place>) -> Option<u64>
 }
 
 /// The same where the left one is a literal, whose node has this number and was reached before the right one.
+#[inline(never)]
 pub fn end_by_right(
     source: &Source,
     marks: &[Mark],
@@ -166,6 +171,7 @@ pub fn end_by_right(
 }
 
 /// An application.
+#[inline(never)]
 pub fn end_app(
     source: &Source,
     marks: &[Mark],
@@ -185,6 +191,7 @@ pub fn end_app(
 }
 
 /// A match on the last alternative.
+#[inline(never)]
 pub fn end_esac(
     source: &Source,
     direction: Option<&Ty>,
@@ -200,6 +207,7 @@ pub fn end_esac(
 }
 
 /// A record, of the type that is checked against, or of the one that its fields make.
+#[inline(never)]
 pub fn end_struct(
     source: &Source,
     direction: Option<&Ty>,
@@ -216,6 +224,7 @@ pub fn end_struct(
 }
 
 /// The last field of a record.
+#[inline(never)]
 pub fn last_in_front(source: &Source, name: &Name, got: Got) -> Result<Fields, CertFault>
     ensures { Agrees (fields_in source.now.nodes.now) result (Ok (in_front_of name.now (got_in source.now.nodes.now got) (no_fields_at (got_in source.now.nodes.now got).at))) }
 {
@@ -224,6 +233,7 @@ pub fn last_in_front(source: &Source, name: &Name, got: Got) -> Result<Fields, C
 }
 
 /// A member.
+#[inline(never)]
 pub fn end_member(
     source: &Source,
     direction: Option<&Ty>,
@@ -239,6 +249,7 @@ pub fn end_member(
 }
 
 /// A put.
+#[inline(never)]
 pub fn end_put(
     source: &Source,
     marks: &[Mark],
@@ -260,6 +271,7 @@ pub fn end_put(
 }
 
 /// A cast to this type.
+#[inline(never)]
 pub fn end_cast(
     source: &Source,
     wanted: &Ty,
@@ -276,6 +288,7 @@ pub fn end_cast(
 }
 
 /// A term with its type written.
+#[inline(never)]
 pub fn end_annot(
     source: &Source,
     direction: Option<&Ty>,

@@ -44,6 +44,7 @@ fn end_leaf(
 }
 
 /// A variable.
+#[inline(never)]
 pub fn check_var(
     source: &Source,
     context: &[Entry],
@@ -62,6 +63,7 @@ pub fn check_var(
 }
 
 /// Unit.
+#[inline(never)]
 pub fn check_unit(
     source: &Source,
     context: &[Entry],
@@ -77,6 +79,7 @@ pub fn check_unit(
 }
 
 /// A truth value.
+#[inline(never)]
 pub fn check_bool(
     source: &Source,
     context: &[Entry],
@@ -108,6 +111,7 @@ fn literal_of(
 }
 
 /// A literal.
+#[inline(never)]
 pub fn check_literal(
     source: &Source,
     context: &[Entry],
@@ -134,6 +138,7 @@ pub fn check_literal(
 /// A literal that stands left of its guide and was reached before it, of the guide's type: C2 where it isn't in range, and the limit
 /// where the type passes it.
 #[tactic(auto, using(crate::proofs::LeafSteps::leaf_steps), unfolding(cg_certcheck_gots::specs::Held::literal_judged))]
+#[inline(never)]
 pub(crate) fn judge_literal(
     source: &Source,
     place: Place,
@@ -165,6 +170,7 @@ fn are_good(source: &Source, fun: Fun, args: &Items<TyArg>) -> bool
 }
 
 /// A function that is mentioned.
+#[inline(never)]
 pub fn check_mention(
     source: &Source,
     context: &[Entry],

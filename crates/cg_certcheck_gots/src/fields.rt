@@ -84,6 +84,7 @@ fn put_in_front(source: &Source, name: &Name, got: Got, later: &mut Fields) -> R
 }
 
 /// A field in front of the later ones. Want of memory is its one refusal.
+#[inline(never)]
 pub fn in_front(source: &Source, name: &Name, got: Got, later: Fields) -> Result<Fields, CertFault>
     ensures { Agrees (fields_in source.now.nodes.now) result (Ok (in_front_of name.now (got_in source.now.nodes.now got) (fields_in source.now.nodes.now later))) }
 {
@@ -122,6 +123,7 @@ fn record_end(
 }
 
 /// A record of this type, with the mark strings that the certificate lists between its fields. Want of memory is its one refusal.
+#[inline(never)]
 pub fn struct_node(
     source: &Source,
     strings: &[Items<Mark>],
@@ -139,6 +141,7 @@ pub fn struct_node(
 }
 
 /// The same of the type that its fields make. Want of memory is its one refusal.
+#[inline(never)]
 pub fn record_node(
     source: &Source,
     strings: &[Items<Mark>],

@@ -75,6 +75,7 @@ impl End {
 }
 
 /// A whole node. Want of memory is its one refusal.
+#[inline(never)]
 pub fn finished(source: &Source, core: Term<Typed>, end: End) -> Result<Got, CertFault>
     ensures { Agrees (got_in source.now.nodes.now) result (Ok (made_of core.note.place (type_of core.note.ty) (the_core_form core.form) (derivation_of end.tree) (cursor_of source.now.nodes.now end.at))) }
 {
@@ -83,6 +84,7 @@ pub fn finished(source: &Source, core: Term<Typed>, end: End) -> Result<Got, Cer
 }
 
 /// A node of this type and form. Want of memory is its one refusal.
+#[inline(never)]
 pub fn made(
     source: &Source,
     place: Place,
@@ -98,6 +100,7 @@ pub fn made(
 }
 
 /// A leaf. Want of memory is its one refusal.
+#[inline(never)]
 pub fn leaf_of(source: &Source, core: Term<Typed>, node: Node, at: Cursor) -> Result<Got, CertFault>
     ensures { Agrees (got_in source.now.nodes.now) result (Ok (made_of core.note.place (type_of core.note.ty) (the_core_form core.form) (trees.leaf node) (cursor_of source.now.nodes.now at))) }
 {
@@ -106,6 +109,7 @@ pub fn leaf_of(source: &Source, core: Term<Typed>, node: Node, at: Cursor) -> Re
 }
 
 /// Equal marks. Want of memory is its one refusal.
+#[inline(never)]
 pub fn copied_marks(alloc: Global, marks: &[Mark]) -> Result<Items<Mark>, Memory>
     ensures { IfOk result (λ list. list ≡ marks.now) }
 {
@@ -123,6 +127,7 @@ pub struct Single {
 }
 
 /// The one part of a node. Want of memory is its one refusal.
+#[inline(never)]
 pub fn alone(alloc: Global, node: Node, part: Got) -> Result<Single, Memory>
     ensures part { IfOk result (λ s. the_core s.part.value ≡ the_core part.core.value) }
     ensures tree { IfOk result (λ s. derivation_of s.end.tree ≡ trees.one node (derivation_of part.tree)) }
@@ -143,6 +148,7 @@ pub struct Pair {
 }
 
 /// Two parts of a node, with these marks between them. Want of memory is its one refusal.
+#[inline(never)]
 pub fn paired(
     alloc: Global,
     node: Node,
@@ -173,6 +179,7 @@ pub struct Triple {
 }
 
 /// A part of a node and its branches, with these marks between that and them. Want of memory is its one refusal.
+#[inline(never)]
 pub fn branched(
     alloc: Global,
     node: Node,

@@ -31,6 +31,7 @@ fn meets_held(direction: Option<&Ty>, part: Option<&Part>) -> bool
 
 /// What an alternative holds, of a match on it or of a value of it: it is there and not handled before. Else C2 with the number of the node;
 /// and `Memory` for want of memory.
+#[inline(never)]
 pub fn alternative_type(
     source: &Source,
     number: u64,
@@ -48,6 +49,7 @@ pub fn alternative_type(
 
 /// What the last alternative holds: it is there, not handled before, and the only one left, and what it holds is the type that is checked
 /// against, if any is. Else C2 with the number of the node; and `Memory` for want of memory.
+#[inline(never)]
 pub fn last_type(
     source: &Source,
     number: u64,
@@ -72,6 +74,7 @@ pub fn last_type(
 
 /// What a field holds that is read as a member: it is there and left, the record may be shared, and what the field holds is the type
 /// that is checked against, if any is. Else C2 with the number of the node; and `Memory` for want of memory.
+#[inline(never)]
 pub fn member_type(
     source: &Source,
     number: u64,
@@ -96,6 +99,7 @@ pub fn member_type(
 
 /// What a field holds that is taken: it is there and left, in a record that isn't read-only. Else C2 with the number of the node; and
 /// `Memory` for want of memory.
+#[inline(never)]
 pub fn taken_type(source: &Source, number: u64, name: &Name, ty: &Ty) -> Result<Box<Ty>, CertFault>
     ensures { Agrees in_box result (rows.taken_held number name.now (type_of ty.now)) }
 {
@@ -111,6 +115,7 @@ pub fn taken_type(source: &Source, number: u64, name: &Name, ty: &Ty) -> Result<
 
 /// What a field holds that is put: it is there, in a record that isn't read-only, and taken or may be dropped. Else C2 with the number of
 /// the node; and `Memory` for want of memory.
+#[inline(never)]
 pub fn put_type(source: &Source, number: u64, name: &Name, ty: &Ty) -> Result<Box<Ty>, CertFault>
     ensures { Agrees in_box result (rows.put_held (bounds_of source.now.vars.now) number name.now (type_of ty.now)) }
 {

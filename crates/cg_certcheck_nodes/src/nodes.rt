@@ -19,6 +19,7 @@ use cg_check_pieces::{copied, copied_observers, one_operand, two_operands};
 use cg_core::{At, Form, Mark, Node, Op, Seen, TyArg};
 
 /// An operator with one operand, of this type. Want of memory is its one refusal.
+#[inline(never)]
 pub fn operated(
     source: &Source,
     op: Op,
@@ -35,6 +36,7 @@ pub fn operated(
 
 /// An operator with two operands, of this type, with the marks of the split between them; the pass stands where the second operand ends.
 /// Want of memory is its one refusal.
+#[inline(never)]
 pub fn operated_both(
     source: &Source,
     marks: &[Mark],
@@ -52,6 +54,7 @@ pub fn operated_both(
 }
 
 /// An application, of this type, with the marks of the split between the function and the argument. Want of memory is its one refusal.
+#[inline(never)]
 pub fn app_node(
     source: &Source,
     marks: &[Mark],
@@ -67,6 +70,7 @@ pub fn app_node(
 }
 
 /// A `let`, of its body's type, with the marks of the split between the value and the body. Want of memory is its one refusal.
+#[inline(never)]
 pub fn let_node(
     source: &Source,
     marks: &[Mark],
@@ -85,6 +89,7 @@ pub fn let_node(
 
 /// A `let!` that observes these variables, of its body's type, with the marks of the split between the value and the body. Want of
 /// memory is its one refusal.
+#[inline(never)]
 pub fn let_bang_node(
     source: &Source,
     marks: &[Mark],
@@ -105,6 +110,7 @@ pub fn let_bang_node(
 
 /// A conditional, of its first branch's type, with the marks of the split between the test and both branches. Want of memory is its one
 /// refusal.
+#[inline(never)]
 pub fn if_node(
     source: &Source,
     marks: &[Mark],
@@ -126,6 +132,7 @@ pub fn if_node(
 }
 
 /// A value of this variant type, whose alternative of this name holds the part. Want of memory is its one refusal.
+#[inline(never)]
 pub fn con_node(
     source: &Source,
     place: Place,
@@ -143,6 +150,7 @@ pub fn con_node(
 
 /// A match on one alternative, of its first branch's type, with the marks of the split between the value and both branches. Want of
 /// memory is its one refusal.
+#[inline(never)]
 pub fn case_node(
     source: &Source,
     marks: &[Mark],
@@ -168,6 +176,7 @@ pub fn case_node(
 }
 
 /// A match on the last alternative, of this type. Want of memory is its one refusal.
+#[inline(never)]
 pub fn esac_node(
     source: &Source,
     place: Place,
@@ -183,6 +192,7 @@ pub fn esac_node(
 }
 
 /// A member of a record, of this type. Want of memory is its one refusal.
+#[inline(never)]
 pub fn member_node(
     source: &Source,
     place: Place,
@@ -198,6 +208,7 @@ pub fn member_node(
 }
 
 /// A take, of its body's type, with the marks of the split between the record and the body. Want of memory is its one refusal.
+#[inline(never)]
 pub fn take_node(
     source: &Source,
     marks: &[Mark],
@@ -218,6 +229,7 @@ pub fn take_node(
 }
 
 /// A put, of this type, with the marks of the split between the record and the value. Want of memory is its one refusal.
+#[inline(never)]
 pub fn put_node(
     source: &Source,
     marks: &[Mark],
@@ -236,6 +248,7 @@ pub fn put_node(
 }
 
 /// A cast to this type. Want of memory is its one refusal.
+#[inline(never)]
 pub fn cast_node(source: &Source, place: Place, ty: &Ty, part: Got) -> Result<Got, CertFault>
     ensures { Agrees (got_in source.now.nodes.now) result (Ok (forms.cast_node place (type_of ty.now) (got_in source.now.nodes.now part))) }
 {
@@ -245,6 +258,7 @@ pub fn cast_node(source: &Source, place: Place, ty: &Ty, part: Got) -> Result<Go
 }
 
 /// A term with its type written, of which it is. Want of memory is its one refusal.
+#[inline(never)]
 pub fn annot_node(source: &Source, place: Place, arg: &TyArg, part: Got) -> Result<Got, CertFault>
     ensures { Agrees (got_in source.now.nodes.now) result (Ok (forms.annot_node place (arg_of arg.now) (got_in source.now.nodes.now part))) }
 {

@@ -13,6 +13,7 @@ use cg_check_pieces::is_seen_at;
 use std::alloc::Global;
 
 /// Which variables are observed. Want of memory is its one refusal.
+#[inline(never)]
 pub fn flags_of(alloc: Global, context: &[Known]) -> Result<Vec<bool>, Memory>
     ensures { IfOk result (λ flags. flags.items ≡ map (λ (k : Known). k.observed) context.now) }
 {

@@ -24,6 +24,7 @@ use cg_typing_parts::{
 };
 
 /// A rule that has to hold here.
+#[inline(never)]
 pub fn need(rule: Rule, place: Place, holds: bool) -> Result<(), Stop>
     ensures { Agrees itself result (need_of rule place holds (Ok tt)) }
 {
@@ -45,6 +46,7 @@ fn type_held(source: &Source, part: Option<&Part>) -> Result<Ty, Stop>
 }
 
 /// What an alternative holds, which is there (T8) and not handled before (T10).
+#[inline(never)]
 pub fn alternative_type(source: &Source, at: &At, ty: &Ty) -> Result<Ty, Stop>
     ensures { Agrees type_of result (need_of T8 at.now.place (parts.is_there (parts.alternative_in at.now.name (type_of ty.now)))
         (need_of T10 at.now.place (parts.is_left (parts.alternative_in at.now.name (type_of ty.now)))
@@ -61,6 +63,7 @@ pub fn alternative_type(source: &Source, at: &At, ty: &Ty) -> Result<Ty, Stop>
 }
 
 /// What the last alternative holds, which is there (T8), not handled before (T10), and the only one left (T9).
+#[inline(never)]
 pub fn last_type(source: &Source, at: &At, ty: &Ty) -> Result<Ty, Stop>
     ensures { Agrees type_of result (need_of T8 at.now.place (parts.is_there (parts.alternative_in at.now.name (type_of ty.now)))
         (need_of T10 at.now.place (parts.is_left (parts.alternative_in at.now.name (type_of ty.now)))
@@ -81,6 +84,7 @@ pub fn last_type(source: &Source, at: &At, ty: &Ty) -> Result<Ty, Stop>
 }
 
 /// What a field holds that is read as a member: it is there (T5) and left (T6), and the record may be shared (K6).
+#[inline(never)]
 pub fn member_type(source: &Source, at: &At, ty: &Ty) -> Result<Ty, Stop>
     ensures { Agrees type_of result (need_of T5 at.now.place (parts.is_there (parts.field_in at.now.name (type_of ty.now)))
         (need_of T6 at.now.place (parts.is_left (parts.field_in at.now.name (type_of ty.now)))
@@ -101,6 +105,7 @@ pub fn member_type(source: &Source, at: &At, ty: &Ty) -> Result<Ty, Stop>
 }
 
 /// What a field holds that is taken: it is there (T5) in a record that isn't read-only (T7), and left (T6).
+#[inline(never)]
 pub fn taken_type(source: &Source, at: &At, ty: &Ty) -> Result<Ty, Stop>
     ensures { Agrees type_of result (need_of T5 at.now.place (parts.is_there (parts.field_in at.now.name (type_of ty.now)))
         (need_of T7 at.now.place (not (parts.is_read_only (type_of ty.now)))
@@ -121,6 +126,7 @@ pub fn taken_type(source: &Source, at: &At, ty: &Ty) -> Result<Ty, Stop>
 }
 
 /// What a field holds that is put: it is there (T5) in a record that isn't read-only (T7), and taken or may be dropped (K7).
+#[inline(never)]
 pub fn put_type(source: &Source, at: &At, ty: &Ty) -> Result<Ty, Stop>
     ensures { Agrees type_of result (need_of T5 at.now.place (parts.is_there (parts.field_in at.now.name (type_of ty.now)))
         (need_of T7 at.now.place (not (parts.is_read_only (type_of ty.now)))
@@ -141,6 +147,7 @@ pub fn put_type(source: &Source, at: &At, ty: &Ty) -> Result<Ty, Stop>
 }
 
 /// What an alternative holds into which a value goes: the type is a variant type (T1) that has it, not handled (T8).
+#[inline(never)]
 pub fn injected_type(source: &Source, place: Place, name: &Name, ty: &Ty) -> Result<Ty, Stop>
     ensures { Agrees type_of result (need_of T1 place (parts.is_variant (type_of ty.now))
         (need_of T8 place (parts.is_left (parts.alternative_in name.now (type_of ty.now)))

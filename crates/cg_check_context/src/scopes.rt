@@ -46,6 +46,7 @@ pub fn use_before_last(uses: &[Use]) -> Use
 }
 
 /// K3 where the scope of a variable of this type ends, of which the scope gave this.
+#[inline(never)]
 pub fn end(source: &Source, binder: Place, ty: &Ty, given: Use) -> Result<(), Stop>
     ensures { Agrees itself result (pass.leave (map function_of source.now.functions.now) (bounds_of source.now.vars.now) binder (type_of ty.now) given (Ok tt)) }
 {
@@ -53,6 +54,7 @@ pub fn end(source: &Source, binder: Place, ty: &Ty, given: Use) -> Result<(), St
 }
 
 /// K2: whether a value may leave a `let!`.
+#[inline(never)]
 pub fn escape(source: &Source, place: Place, ty: &Ty) -> Result<(), Stop>
     ensures { Agrees itself result (pass.need K2 place (kinds_of_type (bounds_of source.now.vars.now) (type_of ty.now)).escape (Ok tt)) }
 {
@@ -64,6 +66,7 @@ pub fn escape(source: &Source, place: Place, ty: &Ty) -> Result<(), Stop>
 }
 
 /// What was touched before the last part of a `let!`, whose variable is new. Want of memory is its one refusal.
+#[inline(never)]
 pub fn inner_seen(
     alloc: Global,
     seen: &[Option<Place>],
@@ -76,6 +79,7 @@ pub fn inner_seen(
 }
 
 /// What was touched before the last part of a take, whose variables are new. Want of memory is its one refusal.
+#[inline(never)]
 pub fn inner_two(alloc: Global, before: &[bool], uses: &[Use]) -> Result<Vec<bool>, Memory>
     ensures { IfOk result (λ flags. flags.items ≡ push_of (push_of (tables.mark before.now uses.now) false) false) }
 {

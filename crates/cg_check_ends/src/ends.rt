@@ -33,6 +33,7 @@ use cg_typing_parts::{Sort, is_small_enough, takes, widens, with_part};
 use std::alloc::Global;
 
 /// A part whose type is within the limit.
+#[inline(never)]
 pub fn small(place: Place, got: Got) -> Result<Got, Stop>
     ensures { Agrees got_of result (test type_limit place (small_by (got_of got).ty) (Ok (got_of got))) }
 {
@@ -69,6 +70,7 @@ fn operator_type(
 }
 
 /// An operator with one operand.
+#[inline(never)]
 pub fn end_unary(
     alloc: Global,
     direction: Option<&Ty>,
@@ -84,6 +86,7 @@ pub fn end_unary(
 }
 
 /// An operator with two operands, of which the left one was checked first.
+#[inline(never)]
 pub fn end_by_left(
     alloc: Global,
     direction: Option<&Ty>,
@@ -100,6 +103,7 @@ pub fn end_by_left(
 }
 
 /// The same where the right one was.
+#[inline(never)]
 pub fn end_by_right(
     alloc: Global,
     direction: Option<&Ty>,
@@ -116,6 +120,7 @@ pub fn end_by_right(
 }
 
 /// An operand of a type that operators of this sort take (T12).
+#[inline(never)]
 pub fn taken_by_sort(place: Place, sort: Sort, got: Got) -> Result<Got, Stop>
     ensures { Agrees got_of result (need_by T12 place (takes_by (the_sort sort) (got_of got).ty) (Ok (got_of got))) }
 {
@@ -127,6 +132,7 @@ pub fn taken_by_sort(place: Place, sort: Sort, got: Got) -> Result<Got, Stop>
 }
 
 /// An application.
+#[inline(never)]
 pub fn end_app(
     alloc: Global,
     direction: Option<&Ty>,
@@ -142,6 +148,7 @@ pub fn end_app(
 }
 
 /// A conditional, whose branches have these notes.
+#[inline(never)]
 pub fn end_if(
     source: &Source,
     context: &Vec<Known>,
@@ -159,6 +166,7 @@ pub fn end_if(
 }
 
 /// A match on one alternative, whose branches have these notes.
+#[inline(never)]
 pub fn end_case(
     source: &Source,
     context: &Vec<Known>,
@@ -180,6 +188,7 @@ pub fn end_case(
 }
 
 /// A match on the last alternative.
+#[inline(never)]
 pub fn end_esac(
     source: &Source,
     direction: Option<&Ty>,
@@ -195,6 +204,7 @@ pub fn end_esac(
 }
 
 /// A record, of this type or of the one that its fields make.
+#[inline(never)]
 pub fn end_struct(
     alloc: Global,
     direction: Option<&Ty>,
@@ -210,6 +220,7 @@ pub fn end_struct(
 }
 
 /// A member.
+#[inline(never)]
 pub fn end_member(
     source: &Source,
     direction: Option<&Ty>,
@@ -225,6 +236,7 @@ pub fn end_member(
 }
 
 /// A put.
+#[inline(never)]
 pub fn end_put(
     alloc: Global,
     direction: Option<&Ty>,
@@ -241,6 +253,7 @@ pub fn end_put(
 }
 
 /// A cast to this type (T11).
+#[inline(never)]
 pub fn end_cast(alloc: Global, place: Place, wanted: &Ty, part: Got) -> Result<Got, Stop>
     ensures { Agrees got_of result (need_by T11 place (widens_by (got_of part).ty (type_of wanted.now)) (Ok (forms.cast_node place (type_of wanted.now) (got_of part)))) }
 {
@@ -249,6 +262,7 @@ pub fn end_cast(alloc: Global, place: Place, wanted: &Ty, part: Got) -> Result<G
 }
 
 /// A term with its type written.
+#[inline(never)]
 pub fn end_annot(
     alloc: Global,
     direction: Option<&Ty>,

@@ -39,6 +39,7 @@ fn check_leaf(
 }
 
 /// A variable.
+#[inline(never)]
 pub fn check_var(
     source: &Source,
     context: &Vec<Known>,
@@ -61,6 +62,7 @@ pub fn check_var(
 }
 
 /// A truth value.
+#[inline(never)]
 pub fn check_bool(
     source: &Source,
     context: &Vec<Known>,
@@ -76,6 +78,7 @@ pub fn check_bool(
 }
 
 /// Unit.
+#[inline(never)]
 pub fn check_unit(
     source: &Source,
     context: &Vec<Known>,
@@ -90,6 +93,7 @@ pub fn check_unit(
 }
 
 /// A literal.
+#[inline(never)]
 pub fn check_literal(
     source: &Source,
     context: &Vec<Known>,
@@ -112,6 +116,7 @@ pub fn check_literal(
 
 /// A function that is mentioned.
 #[tactic(auto, using(cg_check_context::proofs::ScopeSteps::arguments_go, cg_check_context::proofs::ScopeSteps::arguments_stop))]
+#[inline(never)]
 pub fn check_mention(
     source: &Source,
     context: &Vec<Known>,
@@ -159,6 +164,7 @@ fn bare(alloc: Global, op: Op) -> Form<Typed>
 }
 
 /// An operator that has neither one operand nor two.
+#[inline(never)]
 pub fn check_bare(source: &Source, context: &Vec<Known>, place: Place, op: Op) -> Result<Got, Stop>
     ensures { Agrees got_of result (leaf_by (length (types_in (entries_of context.now.items))) None place unit_type (terms.op op terms.none) nodes.Op) }
 {

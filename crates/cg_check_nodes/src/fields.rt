@@ -117,6 +117,7 @@ fn put_in_front(
 }
 
 /// A field in front of the later ones. Want of memory is its one refusal.
+#[inline(never)]
 pub fn in_front(
     alloc: Global,
     name: &Name,
@@ -132,6 +133,7 @@ pub fn in_front(
 }
 
 /// A record of this type. Want of memory is its one refusal.
+#[inline(never)]
 pub fn struct_node(alloc: Global, place: Place, ty: &Ty, fields: Fields) -> Result<Got, Stop>
     ensures { Agrees got_of result (Ok (forms.struct_node place (type_of ty.now) (fields_of fields))) }
 {
@@ -141,6 +143,7 @@ pub fn struct_node(alloc: Global, place: Place, ty: &Ty, fields: Fields) -> Resu
 }
 
 /// A record of the type that its fields make. Want of memory is its one refusal.
+#[inline(never)]
 pub fn record_node(alloc: Global, place: Place, fields: Fields) -> Result<Got, Stop>
     ensures { Agrees got_of result (Ok (forms.struct_node place (record_of (fields_of fields).parts U) (fields_of fields))) }
 {
@@ -161,6 +164,7 @@ pub fn are_none(fields: &[FieldTerm<Place>]) -> bool
 
 /// What no fields come to, in a context. Want of memory is its one refusal.
 #[tactic(auto, using(crate::proofs::FieldSteps::none_steps))]
+#[inline(never)]
 pub fn no_fields(alloc: Global, context: &Vec<Known>) -> Result<Fields, Stop>
     ensures { Agrees fields_of result (Ok (nothing (length (types_in (entries_of context.now.items))))) }
 {

@@ -53,6 +53,7 @@ impl Got {
 }
 
 /// A whole node. Want of memory is its one refusal.
+#[inline(never)]
 pub fn finished(alloc: Global, core: Term<Typed>, tree: Deriv, uses: Vec<Use>) -> Result<Got, Stop>
     ensures { Agrees got_of result (Ok (made_of core.note.place (type_of core.note.ty) (the_core_form core.form) (derivation_of tree) uses.items)) }
 {
@@ -61,6 +62,7 @@ pub fn finished(alloc: Global, core: Term<Typed>, tree: Deriv, uses: Vec<Use>) -
 }
 
 /// A node of this type and form. Want of memory is its one refusal.
+#[inline(never)]
 pub fn made(
     alloc: Global,
     place: Place,
@@ -77,6 +79,7 @@ pub fn made(
 }
 
 /// A leaf, which does this with each variable. Want of memory is its one refusal.
+#[inline(never)]
 pub fn leaf_of(alloc: Global, core: Term<Typed>, node: Node, uses: Vec<Use>) -> Result<Got, Stop>
     ensures { Agrees got_of result (Ok (made_of core.note.place (type_of core.note.ty) (the_core_form core.form) (derivation node [] done) uses.items)) }
 {
@@ -91,6 +94,7 @@ pub struct Single {
 }
 
 /// The one part of a node. Want of memory is its one refusal.
+#[inline(never)]
 pub fn alone(alloc: Global, node: Node, part: Got) -> Result<Single, Memory>
     ensures part { IfOk result (λ s. the_core s.part.value ≡ (got_of part).core) }
     ensures tree { IfOk result (λ s. derivation_of s.tree ≡ splits.one_part node (got_of part).tree) }
@@ -110,6 +114,7 @@ pub struct Pair {
 }
 
 /// Two parts of a node, with these marks between them and these uses of both. Want of memory is its one refusal.
+#[inline(never)]
 pub fn paired(
     alloc: Global,
     node: Node,
@@ -135,6 +140,7 @@ pub fn paired(
 }
 
 /// Two parts of a node, one after the other. Want of memory is its one refusal.
+#[inline(never)]
 pub fn in_turn(alloc: Global, node: Node, first: Got, second: Got) -> Result<Pair, Memory>
     ensures first { IfOk result (λ p. the_core p.first.value ≡ (got_of first).core) }
     ensures second { IfOk result (λ p. the_core p.second.value ≡ (got_of second).core) }
@@ -186,6 +192,7 @@ fn put_together(
 }
 
 /// A part of a node and then its branches, of which one is taken. Want of memory is its one refusal.
+#[inline(never)]
 pub fn branched(
     alloc: Global,
     node: Node,

@@ -26,6 +26,7 @@ use std::alloc::Global;
 
 /// An operator with one operand.
 #[tactic(auto, using(cg_check_pieces::proofs::CoreSteps::core_steps))]
+#[inline(never)]
 pub fn operated(alloc: Global, op: Op, place: Place, ty: Box<Ty>, part: Got) -> Result<Got, Stop>
     ensures { Agrees got_of result (Ok (operated_of op place (in_box ty) (got_of part))) }
 {
@@ -36,6 +37,7 @@ pub fn operated(alloc: Global, op: Op, place: Place, ty: Box<Ty>, part: Got) -> 
 
 /// An operator with two operands.
 #[tactic(auto, using(cg_check_pieces::proofs::CoreSteps::core_steps))]
+#[inline(never)]
 pub fn operated_both(
     alloc: Global,
     op: Op,
@@ -57,6 +59,7 @@ pub fn operated_both(
 }
 
 /// An application.
+#[inline(never)]
 pub fn app_node(alloc: Global, place: Place, ty: Box<Ty>, fun: Got, arg: Got) -> Result<Got, Stop>
     ensures { Agrees got_of result (Ok (forms.app_node place (in_box ty) (got_of fun) (got_of arg))) }
 {
@@ -97,6 +100,7 @@ fn closed(alloc: Global, at: usize, part: Got) -> Result<Got, Memory>
 }
 
 /// A `let`, in a context of so many variables.
+#[inline(never)]
 pub fn let_node(
     alloc: Global,
     count: usize,
@@ -190,6 +194,7 @@ fn let_bang_pair(
 }
 
 /// A `let!`, in a context of so many variables.
+#[inline(never)]
 pub fn let_bang_node(
     alloc: Global,
     count: usize,
@@ -237,6 +242,7 @@ fn both_beside(alloc: Global, test: Got, first: Got, second: Got) -> Result<Trip
 }
 
 /// A conditional.
+#[inline(never)]
 pub fn if_node(alloc: Global, place: Place, test: Got, first: Got, second: Got) -> Result<Got, Stop>
     ensures { Agrees got_of result (Ok (forms.if_node place (got_of test) (got_of first) (got_of second))) }
 {
@@ -253,6 +259,7 @@ pub fn if_node(alloc: Global, place: Place, test: Got, first: Got, second: Got) 
 }
 
 /// A value of a variant type.
+#[inline(never)]
 pub fn con_node(alloc: Global, place: Place, ty: &Ty, name: &Name, part: Got) -> Result<Got, Stop>
     ensures { Agrees got_of result (Ok (forms.con_node place (type_of ty.now) name.now (got_of part))) }
 {
@@ -298,6 +305,7 @@ fn matched(alloc: Global, at: usize, value: Got, first: Got, second: Got) -> Res
 }
 
 /// A match on one alternative, in a context of so many variables.
+#[inline(never)]
 pub fn case_node(
     alloc: Global,
     count: usize,
@@ -324,6 +332,7 @@ pub fn case_node(
 }
 
 /// A match on the last alternative.
+#[inline(never)]
 pub fn esac_node(alloc: Global, place: Place, ty: Box<Ty>, at: &At, part: Got) -> Result<Got, Stop>
     ensures { Agrees got_of result (Ok (forms.esac_node place (in_box ty) at.now (got_of part))) }
 {
@@ -333,6 +342,7 @@ pub fn esac_node(alloc: Global, place: Place, ty: Box<Ty>, at: &At, part: Got) -
 }
 
 /// A member.
+#[inline(never)]
 pub fn member_node(
     alloc: Global,
     place: Place,
@@ -363,6 +373,7 @@ fn closed_twice(alloc: Global, at: usize, part: Got) -> Result<Got, Memory>
 }
 
 /// A take, in a context of so many variables.
+#[inline(never)]
 pub fn take_node(
     alloc: Global,
     count: usize,
@@ -389,6 +400,7 @@ pub fn take_node(
 }
 
 /// A put.
+#[inline(never)]
 pub fn put_node(
     alloc: Global,
     place: Place,
@@ -410,6 +422,7 @@ pub fn put_node(
 }
 
 /// A cast.
+#[inline(never)]
 pub fn cast_node(alloc: Global, place: Place, ty: &Ty, part: Got) -> Result<Got, Stop>
     ensures { Agrees got_of result (Ok (forms.cast_node place (type_of ty.now) (got_of part))) }
 {
@@ -419,6 +432,7 @@ pub fn cast_node(alloc: Global, place: Place, ty: &Ty, part: Got) -> Result<Got,
 }
 
 /// A term with its type written.
+#[inline(never)]
 pub fn annot_node(alloc: Global, place: Place, arg: &TyArg, part: Got) -> Result<Got, Stop>
     ensures { Agrees got_of result (Ok (forms.annot_node place (arg_of arg.now) (got_of part))) }
 {

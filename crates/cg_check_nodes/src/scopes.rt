@@ -23,6 +23,7 @@ use cg_core::Seen;
 use std::alloc::Global;
 
 /// What was touched before the last part of a `let!`, whose first part may leave it (K2).
+#[inline(never)]
 pub fn behind_observed(
     source: &Source,
     count: usize,
@@ -40,6 +41,7 @@ pub fn behind_observed(
 }
 
 /// One variable more, of an equal type. Want of memory is its one refusal.
+#[inline(never)]
 pub fn enter_copy(alloc: Global, context: &mut Vec<Known>, ty: &Ty) -> Result<(), Memory>
     ensures { IfOk result (λ _. entries_of context.new.items ≡ push_of (entries_of context.old.items) (fresh (type_of ty.now))) }
 {
@@ -48,6 +50,7 @@ pub fn enter_copy(alloc: Global, context: &mut Vec<Known>, ty: &Ty) -> Result<()
 }
 
 /// Two variables more, of equal types. Want of memory is its one refusal.
+#[inline(never)]
 pub fn enter_both(
     alloc: Global,
     context: &mut Vec<Known>,
@@ -61,6 +64,7 @@ pub fn enter_both(
 }
 
 /// What was in the scope of a variable of this type, with K3 at its end.
+#[inline(never)]
 pub fn end_scoped(source: &Source, binder: Place, ty: &Ty, got: Got) -> Result<Got, Stop>
     ensures { Agrees got_of result (scope_end_of (map function_of source.now.functions.now) (bounds_of source.now.vars.now) binder (type_of ty.now) (got_of got)) }
 {
@@ -69,6 +73,7 @@ pub fn end_scoped(source: &Source, binder: Place, ty: &Ty, got: Got) -> Result<G
 }
 
 /// What was in the scope of what is left of a record of this type and of the field that is taken, with K3 at the end of both.
+#[inline(never)]
 pub fn end_taken(
     source: &Source,
     rest: Place,

@@ -37,6 +37,7 @@ pub fn subst(alloc: Global, ty: &Ty, args: &Items<Ty>) -> Result<Ty, Memory>
 }
 
 // A copy of the argument for a variable.
+#[inline(never)]
 fn argument(alloc: Global, args: &Items<Ty>, variable: u32) -> Result<Ty, Memory>
     ensures { IfOk result (λ t. type_of t ≡ or_unit (slice_get (map type_of args.now) variable)) }
 {

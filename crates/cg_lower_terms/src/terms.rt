@@ -24,6 +24,7 @@ use cg_lower_nodes::{
 use std::alloc::Global;
 
 // Where the value of a variable is kept.
+#[inline(never)]
 fn variable(alloc: Global, scope: &Vec<Place>, at: u32) -> Result<Place, Memory>
     ensures { IfOk result (λ place. place_of place ≡ get_or (map place_of scope.now.items) at (places.number 0)) }
 {
@@ -34,6 +35,7 @@ fn variable(alloc: Global, scope: &Vec<Place>, at: u32) -> Result<Place, Memory>
 }
 
 // A term without parts.
+#[inline(never)]
 fn leaf(alloc: Global, state: &mut Lowering, term: &Term<Typed>) -> Result<Place, Memory>
     requires { IsTrue (is_leaf (the_core_form term.now.form)) }
     ensures { IfOk result (λ place. Lowers state.old state.new (the_core term.now) place) }
@@ -69,6 +71,7 @@ pub fn lower_term(alloc: Global, state: &mut Lowering, term: &Term<Typed>) -> Re
 
 // A term of variants or of records, or one without parts.
 #[cycle(lower)]
+#[inline(never)]
 fn lower_data(alloc: Global, state: &mut Lowering, term: &Term<Typed>) -> Result<Place, Memory>
     requires { IsTrue (is_data (the_core_form term.now.form) || is_leaf (the_core_form term.now.form)) }
     ensures { IfOk result (λ place. Lowers state.old state.new (the_core term.now) place) }
@@ -106,6 +109,7 @@ fn lower_within(
 }
 
 #[cycle(lower)]
+#[inline(never)]
 fn lower_let(
     alloc: Global,
     state: &mut Lowering,
@@ -119,6 +123,7 @@ fn lower_let(
 }
 
 #[cycle(lower)]
+#[inline(never)]
 fn lower_con(
     alloc: Global,
     state: &mut Lowering,
@@ -133,6 +138,7 @@ fn lower_con(
 }
 
 #[cycle(lower)]
+#[inline(never)]
 fn lower_esac(
     alloc: Global,
     state: &mut Lowering,
@@ -147,6 +153,7 @@ fn lower_esac(
 }
 
 #[cycle(lower)]
+#[inline(never)]
 fn lower_op(
     alloc: Global,
     state: &mut Lowering,
@@ -165,6 +172,7 @@ fn lower_op(
 }
 
 #[cycle(lower)]
+#[inline(never)]
 fn lower_one(
     alloc: Global,
     state: &mut Lowering,
@@ -180,6 +188,7 @@ fn lower_one(
 }
 
 #[cycle(lower)]
+#[inline(never)]
 fn lower_two(
     alloc: Global,
     state: &mut Lowering,
@@ -197,6 +206,7 @@ fn lower_two(
 }
 
 #[cycle(lower)]
+#[inline(never)]
 fn lower_app(
     alloc: Global,
     state: &mut Lowering,
@@ -215,6 +225,7 @@ fn lower_app(
 
 // A branch, whose value a local gets.
 #[cycle(lower)]
+#[inline(never)]
 fn lower_arm(
     alloc: Global,
     state: &mut Lowering,
@@ -229,6 +240,7 @@ fn lower_arm(
 }
 
 #[cycle(lower)]
+#[inline(never)]
 fn lower_if(
     alloc: Global,
     state: &mut Lowering,
@@ -249,6 +261,7 @@ fn lower_if(
 
 // A branch, in a scope with one variable more.
 #[cycle(lower)]
+#[inline(never)]
 fn lower_arm_within(
     alloc: Global,
     state: &mut Lowering,
@@ -267,6 +280,7 @@ fn lower_arm_within(
 
 // The branches of a choice between the alternative at a place and all others.
 #[cycle(lower)]
+#[inline(never)]
 fn lower_arms(
     alloc: Global,
     state: &mut Lowering,
@@ -285,6 +299,7 @@ fn lower_arms(
 }
 
 #[cycle(lower)]
+#[inline(never)]
 fn lower_case(
     alloc: Global,
     state: &mut Lowering,
@@ -307,6 +322,7 @@ fn lower_case(
 
 // The fields of a record.
 #[cycle(lower)]
+#[inline(never)]
 fn lower_fields(
     alloc: Global,
     state: &mut Lowering,
@@ -323,6 +339,7 @@ fn lower_fields(
 }
 
 #[cycle(lower)]
+#[inline(never)]
 fn lower_struct(
     alloc: Global,
     state: &mut Lowering,
@@ -336,6 +353,7 @@ fn lower_struct(
 }
 
 #[cycle(lower)]
+#[inline(never)]
 fn lower_member(
     alloc: Global,
     state: &mut Lowering,
@@ -353,6 +371,7 @@ fn lower_member(
 }
 
 #[cycle(lower)]
+#[inline(never)]
 fn lower_take(
     alloc: Global,
     state: &mut Lowering,
@@ -373,6 +392,7 @@ fn lower_take(
 }
 
 #[cycle(lower)]
+#[inline(never)]
 fn lower_put(
     alloc: Global,
     state: &mut Lowering,
@@ -390,6 +410,7 @@ fn lower_put(
 }
 
 #[cycle(lower)]
+#[inline(never)]
 fn lower_cast(
     alloc: Global,
     state: &mut Lowering,

@@ -60,6 +60,7 @@ pub fn specialise(
 
 // A core of variants or of records, or one without parts.
 #[cycle(specialise)]
+#[inline(never)]
 fn in_data(alloc: Global, core: &Term<Typed>, types: &Items<Ty>) -> Result<Term<Typed>, Memory>
     requires { IsTrue (is_data (the_core_form core.now.form) || is_leaf (the_core_form core.now.form)) }
     ensures { IfOk result (λ t. the_core t ≡ subst_core (map type_of types.now) (the_core core.now)) }
@@ -99,6 +100,7 @@ fn in_data(alloc: Global, core: &Term<Typed>, types: &Items<Ty>) -> Result<Term<
 }
 
 #[cycle(specialise)]
+#[inline(never)]
 fn in_boxed(
     alloc: Global,
     core: &Term<Typed>,
@@ -114,6 +116,7 @@ fn in_boxed(
 
 // Two terms.
 #[cycle(specialise)]
+#[inline(never)]
 fn in_two(
     alloc: Global,
     first: &Term<Typed>,
@@ -129,6 +132,7 @@ fn in_two(
 
 // Three terms.
 #[cycle(specialise)]
+#[inline(never)]
 fn in_three(
     alloc: Global,
     first: &Term<Typed>,
@@ -144,6 +148,7 @@ fn in_three(
 }
 
 #[cycle(specialise)]
+#[inline(never)]
 fn in_terms(
     alloc: Global,
     terms: &Items<Term<Typed>>,
@@ -165,6 +170,7 @@ fn in_terms(
 }
 
 #[cycle(specialise)]
+#[inline(never)]
 fn in_fields(
     alloc: Global,
     fields: &Items<FieldTerm<Typed>>,
@@ -188,6 +194,7 @@ fn in_fields(
 // ---- what a node comes to once its parts are made
 
 // A node's note.
+#[inline(never)]
 fn in_note(alloc: Global, note: &Typed, types: &Items<Ty>) -> Result<Typed, Memory>
     ensures { IfOk result (λ n. note_of n ≡ subst_note (map type_of types.now) (note_of note.now)) }
 {
@@ -198,6 +205,7 @@ fn in_note(alloc: Global, note: &Typed, types: &Items<Ty>) -> Result<Typed, Memo
 }
 
 // A written type.
+#[inline(never)]
 fn in_written(alloc: Global, arg: &TyArg, types: &Items<Ty>) -> Result<TyArg, Memory>
     ensures { IfOk result (λ a. arg_of a ≡ subst_arg (map type_of types.now) (arg_of arg.now)) }
 {
@@ -208,6 +216,7 @@ fn in_written(alloc: Global, arg: &TyArg, types: &Items<Ty>) -> Result<TyArg, Me
 }
 
 // A node with this form.
+#[inline(never)]
 fn built(
     alloc: Global,
     note: &Typed,
@@ -226,6 +235,7 @@ fn built(
 }
 
 // A core without parts.
+#[inline(never)]
 fn in_leaf(alloc: Global, core: &Term<Typed>, types: &Items<Ty>) -> Result<Term<Typed>, Memory>
     requires { IsTrue (is_leaf (the_core_form core.now.form)) }
     ensures { IfOk result (λ t. the_core t ≡ subst_core (map type_of types.now) (the_core core.now)) }
@@ -241,6 +251,7 @@ fn in_leaf(alloc: Global, core: &Term<Typed>, types: &Items<Ty>) -> Result<Term<
     }
 }
 
+#[inline(never)]
 fn mention(
     alloc: Global,
     note: &Typed,
@@ -254,6 +265,7 @@ fn mention(
     built(alloc, note, Form::Fun(fun, args), types)
 }
 
+#[inline(never)]
 fn let_bang(
     alloc: Global,
     note: &Typed,
@@ -269,6 +281,7 @@ fn let_bang(
     built(alloc, note, Form::LetBang(seen, place, value, body), types)
 }
 
+#[inline(never)]
 fn annotated(
     alloc: Global,
     note: &Typed,
@@ -282,6 +295,7 @@ fn annotated(
     built(alloc, note, Form::Annot(part, ty), types)
 }
 
+#[inline(never)]
 fn alternative(
     alloc: Global,
     note: &Typed,
@@ -295,6 +309,7 @@ fn alternative(
     built(alloc, note, Form::Con(name, value), types)
 }
 
+#[inline(never)]
 fn case(
     alloc: Global,
     note: &Typed,
@@ -311,6 +326,7 @@ fn case(
     built(alloc, note, form, types)
 }
 
+#[inline(never)]
 fn payload(
     alloc: Global,
     note: &Typed,
@@ -324,6 +340,7 @@ fn payload(
     built(alloc, note, Form::Esac(at, subject), types)
 }
 
+#[inline(never)]
 fn member(
     alloc: Global,
     note: &Typed,
@@ -337,6 +354,7 @@ fn member(
     built(alloc, note, Form::Member(whole, at), types)
 }
 
+#[inline(never)]
 fn take(
     alloc: Global,
     note: &Typed,
@@ -353,6 +371,7 @@ fn take(
     built(alloc, note, form, types)
 }
 
+#[inline(never)]
 fn put(
     alloc: Global,
     note: &Typed,
@@ -368,6 +387,7 @@ fn put(
 }
 
 // A field with a term.
+#[inline(never)]
 fn named(alloc: Global, name: &Name, term: Term<Typed>) -> Result<FieldTerm<Typed>, Memory>
     ensures { IfOk result (λ f. (f.name ≡ name.now) × (f.term ≡ term)) }
 {
@@ -377,6 +397,7 @@ fn named(alloc: Global, name: &Name, term: Term<Typed>) -> Result<FieldTerm<Type
     })
 }
 
+#[inline(never)]
 fn in_args(alloc: Global, args: &Items<TyArg>, types: &Items<Ty>) -> Result<Items<TyArg>, Memory>
     ensures { IfOk result (λ made. map arg_of made ≡ map (subst_arg (map type_of types.now)) (map arg_of args.now)) }
 {
@@ -398,6 +419,7 @@ fn in_args(alloc: Global, args: &Items<TyArg>, types: &Items<Ty>) -> Result<Item
     Ok(made)
 }
 
+#[inline(never)]
 fn copy_seen(alloc: Global, seen: &Items<Seen>) -> Result<Items<Seen>, Memory>
     ensures { IfOk result (λ copies. copies ≡ seen.now) }
 {

@@ -24,6 +24,7 @@ use std::alloc::Global;
 /// Binds a term to a pattern, where the first node stands at this place. It answers that the whole is too deep exactly where it
 /// is so whatever goes on at the site; want of memory is its one other refusal.
 #[cycle(bind)]
+#[inline(never)]
 pub fn bound_to<'a>(
     alloc: Global,
     site: &mut Site<'a>,
@@ -186,6 +187,7 @@ fn name_remainder<'a>(scope: &mut Vec<Option<&'a [u8]>>, name: &'a [u8])
 
 /// Binds the variable at a position to a pattern, unless that is a name: then it is bound already. It refuses as `bound_to` does.
 #[cycle(bind)]
+#[inline(never)]
 pub fn bind_later<'a>(
     alloc: Global,
     site: &mut Site<'a>,
@@ -304,6 +306,7 @@ fn bind_remainder<'a>(
 }
 
 /// Observes variables in a term, and makes an entry for it. Want of memory is its one refusal.
+#[inline(never)]
 pub fn push_seen<'a>(
     alloc: Global,
     site: &mut Site<'a>,

@@ -58,6 +58,7 @@ fn one_more(stands: Option<usize>) -> Option<usize>
 }
 
 /// Opens the case of an alternative that isn't the last, with its first branch. Want of memory is its one refusal.
+#[inline(never)]
 pub fn push_case(
     alloc: Global,
     site: &mut Site<'_>,
@@ -92,6 +93,7 @@ fn name_or_empty(alloc: Global, name: &Option<Name>) -> Result<Name, Memory>
 }
 
 /// Binds what a last alternative is for: the payload, where it has a constructor. It refuses as `bound_to` does.
+#[inline(never)]
 pub fn bind_last<'a>(
     alloc: Global,
     site: &mut Site<'a>,
@@ -156,6 +158,7 @@ fn has_two(level: usize, stands: Option<usize>) -> bool
 
 /// The whole term of a site, with this one where the rest goes, which keeps the limit if any does there. It answers that the
 /// whole is too deep exactly where it is; want of memory is its one other refusal.
+#[inline(never)]
 pub fn close_with(
     alloc: Global,
     site: &mut Site<'_>,

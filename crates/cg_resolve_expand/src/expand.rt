@@ -59,6 +59,7 @@ pub fn written_type(
 
 // The same, in a box.
 #[cycle(expand)]
+#[inline(never)]
 fn expand_boxed(
     alloc: Global,
     synonyms: &Synonyms<'_>,
@@ -72,6 +73,7 @@ fn expand_boxed(
 
 // A type that is written by its name.
 #[cycle(expand)]
+#[inline(never)]
 fn expand_name(
     alloc: Global,
     synonyms: &Synonyms<'_>,
@@ -91,6 +93,7 @@ fn expand_name(
 
 // Types, one by one.
 #[cycle(expand)]
+#[inline(never)]
 fn expand_types(
     alloc: Global,
     synonyms: &Synonyms<'_>,
@@ -108,6 +111,7 @@ fn expand_types(
 
 // The components of a tuple.
 #[cycle(expand)]
+#[inline(never)]
 fn expand_tuple(
     alloc: Global,
     synonyms: &Synonyms<'_>,
@@ -129,6 +133,7 @@ fn expand_tuple(
 
 // The fields of a record.
 #[cycle(expand)]
+#[inline(never)]
 fn expand_fields(
     alloc: Global,
     synonyms: &Synonyms<'_>,
@@ -150,6 +155,7 @@ fn expand_fields(
 
 // The alternatives of a variant type, in the order of their names.
 #[cycle(expand)]
+#[inline(never)]
 fn expand_choices(
     alloc: Global,
     synonyms: &Synonyms<'_>,
@@ -172,6 +178,7 @@ fn expand_choices(
 
 // The type of a payload; one that isn't written is the unit type.
 #[cycle(expand)]
+#[inline(never)]
 fn expand_payload(
     alloc: Global,
     synonyms: &Synonyms<'_>,

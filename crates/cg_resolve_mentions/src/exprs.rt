@@ -71,6 +71,7 @@ pub fn push_expr<'a>(
 
 // The same of several expressions, from left to right.
 #[cycle(push_expr)]
+#[inline(never)]
 fn push_exprs<'a>(
     signatures: &Positions<'_>,
     scope: &mut Scope<'a>,
@@ -89,6 +90,7 @@ fn push_exprs<'a>(
 
 // The same of the values of fields.
 #[cycle(push_expr)]
+#[inline(never)]
 fn push_values<'a>(
     signatures: &Positions<'_>,
     scope: &mut Scope<'a>,
@@ -107,6 +109,7 @@ fn push_values<'a>(
 
 // The same of bindings, each among the variables of those before it. Their variables come into scope.
 #[cycle(push_expr)]
+#[inline(never)]
 fn push_binds<'a>(
     signatures: &Positions<'_>,
     scope: &mut Scope<'a>,
@@ -142,6 +145,7 @@ fn push_bind<'a>(
 
 // The same of the alternatives of a match.
 #[cycle(push_expr)]
+#[inline(never)]
 fn push_choices<'a>(
     signatures: &Positions<'_>,
     scope: &mut Scope<'a>,
@@ -177,6 +181,7 @@ fn push_choice<'a>(
 }
 
 // The same of a name: a variable hides a function.
+#[inline(never)]
 fn push_mention(
     signatures: &Positions<'_>,
     scope: &Scope<'_>,
@@ -194,6 +199,7 @@ fn push_mention(
 }
 
 // Brings the variables of a pattern into scope, and hands on the positions.
+#[inline(never)]
 fn push_pattern<'a>(
     scope: &mut Scope<'a>,
     targets: Result<Vec<u32>, Memory>,

@@ -101,6 +101,7 @@ fn in_expr<'a>(
 
 // The same of several expressions, from left to right.
 #[cycle(in_expr)]
+#[inline(never)]
 fn in_exprs<'a>(
     alloc: Global,
     declared: &Declarations<'_>,
@@ -122,6 +123,7 @@ fn in_exprs<'a>(
 
 // The same of the fields of a record, which have to be apart.
 #[cycle(in_expr)]
+#[inline(never)]
 fn in_record<'a>(
     alloc: Global,
     declared: &Declarations<'_>,
@@ -165,6 +167,7 @@ fn in_value<'a>(
 
 // The same of fields that are put, which needn't be apart.
 #[cycle(in_expr)]
+#[inline(never)]
 fn in_puts<'a>(
     alloc: Global,
     declared: &Declarations<'_>,
@@ -186,6 +189,7 @@ fn in_puts<'a>(
 
 // The same of bindings, each among the variables of those before it. Their variables come into scope.
 #[cycle(in_expr)]
+#[inline(never)]
 fn in_binds<'a>(
     alloc: Global,
     declared: &Declarations<'_>,
@@ -229,6 +233,7 @@ fn in_bind<'a>(
 
 // The same of the alternatives of a match.
 #[cycle(in_expr)]
+#[inline(never)]
 fn in_choices<'a>(
     alloc: Global,
     declared: &Declarations<'_>,

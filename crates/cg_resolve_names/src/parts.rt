@@ -23,6 +23,7 @@ use cg_surface::{Pat, STy};
 use std::alloc::Global;
 
 /// A name and its type arguments.
+#[inline(never)]
 pub fn in_name(
     alloc: Global,
     declared: &Declarations<'_>,
@@ -42,6 +43,7 @@ pub fn in_name(
 }
 
 /// A written type.
+#[inline(never)]
 pub fn in_type(
     alloc: Global,
     declared: &Declarations<'_>,
@@ -59,6 +61,7 @@ pub fn in_type(
 }
 
 /// Observed variables.
+#[inline(never)]
 pub fn in_seen(
     scope: &Scope<'_>,
     so_far: Result<(), NamingFault>,
@@ -73,6 +76,7 @@ pub fn in_seen(
 }
 
 /// A pattern, and its variables.
+#[inline(never)]
 pub fn in_pattern<'a>(
     alloc: Global,
     so_far: Result<(), NamingFault>,
@@ -91,6 +95,7 @@ pub fn in_pattern<'a>(
 }
 
 /// Variables, which come into scope.
+#[inline(never)]
 pub fn enter_bound<'a>(
     scope: &mut Scope<'a>,
     so_far: Result<(), NamingFault>,
@@ -106,6 +111,7 @@ pub fn enter_bound<'a>(
 }
 
 /// A pattern, whose variables come into scope.
+#[inline(never)]
 pub fn enter_pattern<'a>(
     alloc: Global,
     scope: &mut Scope<'a>,
@@ -121,6 +127,7 @@ pub fn enter_pattern<'a>(
 }
 
 /// The name of a field, behind those before it, and whether it stands among them. No fault is told before its value is looked at.
+#[inline(never)]
 pub fn enter_field<'a>(
     before: &mut Scope<'a>,
     so_far: Result<(), NamingFault>,
@@ -141,6 +148,7 @@ pub fn enter_field<'a>(
 }
 
 /// A field behind its value, where its name stands among those before it or doesn't.
+#[inline(never)]
 pub fn end_field(
     again: bool,
     place: Place,

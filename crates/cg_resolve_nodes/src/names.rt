@@ -25,6 +25,7 @@ pub struct Names<'a, 'b, 'c, 'd, 's, 'v> {
 }
 
 /// A written type, at its place. Want of memory is its one refusal.
+#[inline(never)]
 pub fn written_arg(alloc: Global, names: &Names, ty: &STy) -> Result<TyArg, Memory>
     requires { AreNames names.now }
     ensures { IfOk result (λ arg. arg_of arg ≡ written_in names.now (written_of ty.now)) }
@@ -48,6 +49,7 @@ fn written_args(alloc: Global, names: &Names, types: &Items<STy>) -> Result<Item
 }
 
 /// The term of a name that is no variable, at its place with the types that it is applied to. Want of memory is its one refusal.
+#[inline(never)]
 pub fn function_term(
     alloc: Global,
     names: &Names,

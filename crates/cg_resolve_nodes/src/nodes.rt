@@ -37,6 +37,7 @@ pub fn mentioned(place: Place, function: Fun, args: Items<TyArg>) -> Term<Place>
 }
 
 /// An operator on one term. Want of memory is its one refusal, and so of all nodes.
+#[inline(never)]
 pub fn unary(
     alloc: Global,
     place: Place,
@@ -54,6 +55,7 @@ pub fn unary(
 }
 
 /// An operator on two terms.
+#[inline(never)]
 pub fn binary(
     alloc: Global,
     place: Place,
@@ -73,6 +75,7 @@ pub fn binary(
 }
 
 /// A call.
+#[inline(never)]
 pub fn application(
     alloc: Global,
     place: Place,
@@ -86,6 +89,7 @@ pub fn application(
 }
 
 /// A condition.
+#[inline(never)]
 pub fn condition(
     alloc: Global,
     place: Place,
@@ -102,6 +106,7 @@ pub fn condition(
 }
 
 /// A constructor of a term.
+#[inline(never)]
 pub fn constructed(
     alloc: Global,
     place: Place,
@@ -116,6 +121,7 @@ pub fn constructed(
 }
 
 /// A member.
+#[inline(never)]
 pub fn member(
     alloc: Global,
     place: Place,
@@ -130,6 +136,7 @@ pub fn member(
 }
 
 /// A term, put into a field of another.
+#[inline(never)]
 pub fn put(
     alloc: Global,
     place: Place,
@@ -146,6 +153,7 @@ pub fn put(
 }
 
 /// A term, cast to a wider type.
+#[inline(never)]
 pub fn widened(alloc: Global, place: Place, operand: Term<Place>) -> Result<Term<Place>, Memory>
     ensures { IfOk result (λ t. the_term t ≡ term place (cast (the_term operand))) }
 {
@@ -154,6 +162,7 @@ pub fn widened(alloc: Global, place: Place, operand: Term<Place>) -> Result<Term
 }
 
 /// A term with its type.
+#[inline(never)]
 pub fn annotated(
     alloc: Global,
     place: Place,

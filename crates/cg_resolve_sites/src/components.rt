@@ -7,6 +7,7 @@ use std::alloc::Global;
 
 /// The name of the component at a position of a tuple, counted from 0 (docs/LANGUAGE.md, "Desugaring"). Want of memory is its
 /// one refusal.
+#[inline(never)]
 pub fn component(alloc: Global, index: usize) -> Result<Name, Memory>
     requires { index < 2 ^ 63 }
     ensures { IfOk result (λ name. name ≡ component index) }

@@ -84,6 +84,7 @@ fn around(alloc: Global, frame: Frame, rest: Term<Place>) -> Result<Term<Place>,
 }
 
 /// A site where nothing is done. Want of memory is its one refusal.
+#[inline(never)]
 pub fn new_site<'a>(
     alloc: Global,
     scope: &[Option<&'a [u8]>],

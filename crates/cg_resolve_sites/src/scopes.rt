@@ -46,6 +46,7 @@ pub fn variable_term(place: Place, at: usize) -> Term<Place>
 }
 
 /// Observed variables, by their positions. Want of memory is its one refusal.
+#[inline(never)]
 pub fn positions(
     alloc: Global,
     scope: &[Option<&[u8]>],

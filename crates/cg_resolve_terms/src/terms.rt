@@ -35,6 +35,7 @@ use std::alloc::Global;
 
 /// The place of an expression's first token.
 #[cycle(first)]
+#[inline(never)]
 fn first_place(expr: &SExpr) -> Place
     ensures { result ≡ first_place (expr_of expr.now) }
 {
@@ -45,6 +46,7 @@ fn first_place(expr: &SExpr) -> Place
 }
 
 // The term of a name: a variable, or a function.
+#[inline(never)]
 fn name_term(
     alloc: Global,
     names: &Names,
@@ -65,6 +67,7 @@ fn name_term(
 }
 
 // A constructor alone, of `()`.
+#[inline(never)]
 fn constructor_alone(
     alloc: Global,
     above: usize,
@@ -147,6 +150,7 @@ fn form_term<'a>(
 }
 
 #[cycle(term)]
+#[inline(never)]
 fn annotation_term<'a>(
     alloc: Global,
     names: &Names,
@@ -167,6 +171,7 @@ fn annotation_term<'a>(
 }
 
 #[cycle(term)]
+#[inline(never)]
 fn app_term<'a>(
     alloc: Global,
     names: &Names,
@@ -187,6 +192,7 @@ fn app_term<'a>(
 }
 
 #[cycle(term)]
+#[inline(never)]
 fn member_term<'a>(
     alloc: Global,
     names: &Names,
@@ -206,6 +212,7 @@ fn member_term<'a>(
 }
 
 #[cycle(term)]
+#[inline(never)]
 fn unary_term<'a>(
     alloc: Global,
     names: &Names,
@@ -225,6 +232,7 @@ fn unary_term<'a>(
 }
 
 #[cycle(term)]
+#[inline(never)]
 fn cast_term<'a>(
     alloc: Global,
     names: &Names,
@@ -243,6 +251,7 @@ fn cast_term<'a>(
 }
 
 #[cycle(term)]
+#[inline(never)]
 fn binary_term<'a>(
     alloc: Global,
     names: &Names,
@@ -264,6 +273,7 @@ fn binary_term<'a>(
 }
 
 #[cycle(term)]
+#[inline(never)]
 fn constructor_term<'a>(
     alloc: Global,
     names: &Names,
@@ -284,6 +294,7 @@ fn constructor_term<'a>(
 
 // A tuple is a record of its components.
 #[cycle(term)]
+#[inline(never)]
 fn tuple_term<'a>(
     alloc: Global,
     names: &Names,
@@ -312,6 +323,7 @@ fn tuple_term<'a>(
 }
 
 #[cycle(term)]
+#[inline(never)]
 fn record_term<'a>(
     alloc: Global,
     names: &Names,
@@ -339,6 +351,7 @@ fn record_term<'a>(
 
 // Puts into a record.
 #[cycle(term)]
+#[inline(never)]
 fn put_term<'a>(
     alloc: Global,
     names: &Names,
@@ -406,6 +419,7 @@ fn put_all<'a>(
 
 // Bindings, and what they are bound in.
 #[cycle(term)]
+#[inline(never)]
 fn let_term<'a>(
     alloc: Global,
     names: &Names,
@@ -426,6 +440,7 @@ fn let_term<'a>(
 }
 
 #[cycle(term)]
+#[inline(never)]
 fn if_term<'a>(
     alloc: Global,
     names: &Names,
@@ -470,6 +485,7 @@ fn branches_term<'a>(
 }
 
 #[cycle(term)]
+#[inline(never)]
 fn match_term<'a>(
     alloc: Global,
     names: &Names,
