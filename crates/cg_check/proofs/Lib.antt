@@ -4,3 +4,4 @@ pub mod FormSteps
 pub mod JudgeSteps
 pub mod OperandSteps
 pub mod PassSteps
+pub mod FieldSteps

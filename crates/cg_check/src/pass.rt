@@ -1,7 +1,7 @@
 // The pass over a term.
 #![tactic(auto, unfolding(cg_check_def::specs::Pass::check, cg_check_pieces::proofs::TermSizes::size), using(crate::proofs::PassSteps::pass_steps))]
 
-ghost use Rattle.std.specs.Prelude.{◌≡◌, IfOk, Ok, map, None, false, true};
+ghost use Rattle.std.specs.Prelude.{◌≡◌, IfOk, Ok, length, map, None, false, true};
 ghost use Rattle.std.specs.Option.{option_copied};
 ghost use Rattle.cg_base.specs.Types.{type_of, part_of, to_parts};
 ghost use Rattle.cg_core.specs.Kernels.{function_of, the_field, the_term};
@@ -15,6 +15,7 @@ ghost use Rattle.cg_typing.specs.Contexts.{push as push_of};
 ghost use Rattle.cg_typing.specs.Rules.{is_literal as literal_of, note_at as note_of};
 ghost use Rattle.cg_check_nodes.specs.Fields.{fields_of};
 ghost use Rattle.cg_check.specs.Forms.{case_by, esac_by, if_by, let_bang_by, let_by, member_by, other_by, put_by, scoped, struct_by, take_by, taken_by};
+ghost use Rattle.cg_check.specs.Gathered.{each, named_of, nameds_of, together};
 ghost use Rattle.cg_check_context.specs.Observed.{see};
 ghost use Rattle.cg_check.specs.Operators.{binary_by, by_left, by_right, first_operand, unary_by};
 ghost use Rattle.cg_check_pieces.specs.Directions.{right_direction};
@@ -37,8 +38,8 @@ use cg_check_ends::{
     end_struct, end_unary, small, taken_by_sort,
 };
 use cg_check_nodes::{
-    Fields, Got, are_none, behind_observed, boxed_tested, con_node, end_scoped, end_taken,
-    enter_both, enter_copy, in_front, let_bang_node, let_node, no_fields, take_node,
+    Fields, Got, behind_observed, boxed_tested, con_node, end_scoped, end_taken, enter_both,
+    enter_copy, in_front, let_bang_node, let_node, no_fields, take_node,
 };
 use cg_check_pieces::{
     boxed, guided_direction, is_by_right, is_literal, later_wanted, may_be_made_of, next_wanted,
@@ -48,6 +49,14 @@ use cg_check_uses::{mark, seen_places};
 use cg_core::{At, FieldTerm, Form, Op, Seen, Term, TyArg};
 use cg_faults::Rule;
 use cg_typing_parts::{Sort, has_word_arrays, is_word, sort_of, with_part};
+use std::alloc::Global;
+
+// What a field comes to, with its name.
+#[derive(Drop)]
+struct NamedGot<'a> {
+    name: &'a Name,
+    got: Got,
+}
 
 /// What a term comes to, in a context and a direction, behind parts that touched some variables: as the pass answers it.
 #[cycle(check)]
@@ -125,6 +134,7 @@ fn check_form(
 
 // An operator.
 #[cycle(check)]
+#[inline(never)]
 fn check_op(
     source: &Source,
     context: &mut Vec<Known>,
@@ -191,6 +201,7 @@ fn check_binary(
 
 // The same, whose left operand is checked first.
 #[cycle(check)]
+#[inline(never)]
 fn check_by_left(
     source: &Source,
     context: &mut Vec<Known>,
@@ -212,6 +223,7 @@ fn check_by_left(
 
 // The same, whose right operand is checked first: the left one is a literal, which touches nothing.
 #[cycle(check)]
+#[inline(never)]
 fn check_by_right(
     source: &Source,
     context: &mut Vec<Known>,
@@ -318,6 +330,7 @@ fn check_behind(
 
 // An application.
 #[cycle(check)]
+#[inline(never)]
 fn check_app(
     source: &Source,
     context: &mut Vec<Known>,
@@ -340,6 +353,7 @@ fn check_app(
 
 // A `let`.
 #[cycle(check)]
+#[inline(never)]
 fn check_let(
     source: &Source,
     context: &mut Vec<Known>,
@@ -370,6 +384,7 @@ fn check_let(
 
 // A `let!`.
 #[cycle(check)]
+#[inline(never)]
 fn check_let_bang(
     source: &Source,
     context: &mut Vec<Known>,
@@ -402,6 +417,7 @@ fn check_let_bang(
 
 // A conditional.
 #[cycle(check)]
+#[inline(never)]
 fn check_if(
     source: &Source,
     context: &mut Vec<Known>,
@@ -433,6 +449,7 @@ fn check_if(
 
 // A value of a variant type.
 #[cycle(check)]
+#[inline(never)]
 fn check_con(
     source: &Source,
     context: &mut Vec<Known>,
@@ -455,6 +472,7 @@ fn check_con(
 
 // A match on one alternative.
 #[cycle(check)]
+#[inline(never)]
 fn check_case(
     source: &Source,
     context: &mut Vec<Known>,
@@ -520,6 +538,7 @@ fn check_other(
 
 // A match on the last alternative.
 #[cycle(check)]
+#[inline(never)]
 fn check_esac(
     source: &Source,
     context: &mut Vec<Known>,
@@ -538,6 +557,7 @@ fn check_esac(
 
 // A record, whose fields are those of the type that is checked against, if any (T1).
 #[cycle(check)]
+#[inline(never)]
 fn check_struct(
     source: &Source,
     context: &mut Vec<Known>,
@@ -572,33 +592,55 @@ fn check_fields(
     ensures answer { Agrees fields_of result (fields_by (map function_of source.now.functions.now) (bounds_of source.now.vars.now) (types_in (entries_of context.old.items)) before.now.items (part_directions (to_parts (map part_of wanted.now))) (to_named (map the_field fields.now))) }
     ensures same { IfOk result (λ _. entries_of context.new.items ≡ entries_of context.old.items) }
 {
-    match fields {
-        [] => no_fields(source.alloc, context),
-        [field, rest @ ..] => check_more_fields(source, context, before, wanted, field, rest),
-    }
+    let gots = check_each(source, context, before, wanted, fields)?;
+    put_together(source.alloc, context, gots)
 }
 
-// A field and the later ones.
+// What each field comes to, one after another, so that a record takes no more of the stack for more fields.
 #[cycle(check)]
-fn check_more_fields(
+fn check_each<'a>(
     source: &Source,
     context: &mut Vec<Known>,
     before: &Vec<bool>,
     wanted: &[Part],
-    field: &FieldTerm<Place>,
-    rest: &[FieldTerm<Place>],
-) -> Result<Fields, Stop>
-    ensures answer { Agrees fields_of result (fields_by (map function_of source.now.functions.now) (bounds_of source.now.vars.now) (types_in (entries_of context.old.items)) before.now.items (part_directions (to_parts (map part_of wanted.now))) (terms.field field.now.name (the_term field.now.term) (to_named (map the_field rest.now)))) }
+    fields: &'a [FieldTerm<Place>],
+) -> Result<Items<NamedGot<'a>>, Stop>
+    ensures answer { Agrees nameds_of result (each (map function_of source.now.functions.now) (bounds_of source.now.vars.now) (types_in (entries_of context.old.items)) before.now.items (part_directions (to_parts (map part_of wanted.now))) (to_named (map the_field fields.now))) }
     ensures same { IfOk result (λ _. entries_of context.new.items ≡ entries_of context.old.items) }
 {
-    let got = check_term(source, context, before, next_wanted(wanted), &field.term)?;
-    let marked = mark(source.alloc, before, &got.uses)?;
-    let later = check_fields(source, context, &marked, later_wanted(wanted), rest)?;
-    in_front(source.alloc, &field.name, got, are_none(rest), later)
+    let mut gots = Items::new(source.alloc);
+    let mut flags = before.clone()?;
+    let mut wanted = wanted;
+    for field in fields {
+        let got = check_term(source, context, &flags, next_wanted(wanted), &field.term)?;
+        flags = mark(source.alloc, &flags, &got.uses)?;
+        wanted = later_wanted(wanted);
+        gots.push(NamedGot {
+            name: &field.name,
+            got,
+        })?;
+    }
+    Ok(gots)
+}
+
+// Fields put together, from the last one on.
+fn put_together(alloc: Global, context: &Vec<Known>, gots: Items<NamedGot>) -> Result<Fields, Stop>
+    ensures { Agrees fields_of result (Ok (together (length (types_in (entries_of context.now.items))) (map named_of gots.entry))) }
+{
+    let mut gots = gots;
+    let mut later = no_fields(alloc, context)?;
+    let mut alone = true;
+    while let Some(field) = gots.pop() {
+        let NamedGot { name, got } = field;
+        later = in_front(alloc, name, got, alone, later)?;
+        alone = false;
+    }
+    Ok(later)
 }
 
 // A member.
 #[cycle(check)]
+#[inline(never)]
 fn check_member(
     source: &Source,
     context: &mut Vec<Known>,
@@ -617,6 +659,7 @@ fn check_member(
 
 // A take.
 #[cycle(check)]
+#[inline(never)]
 fn check_take(
     source: &Source,
     context: &mut Vec<Known>,
@@ -643,6 +686,7 @@ fn check_take(
 
 // A put.
 #[cycle(check)]
+#[inline(never)]
 fn check_put(
     source: &Source,
     context: &mut Vec<Known>,
@@ -664,6 +708,7 @@ fn check_put(
 
 // A cast.
 #[cycle(check)]
+#[inline(never)]
 fn check_cast(
     source: &Source,
     context: &mut Vec<Known>,
@@ -684,6 +729,7 @@ fn check_cast(
 
 // A term with its type written.
 #[cycle(check)]
+#[inline(never)]
 fn check_annot(
     source: &Source,
     context: &mut Vec<Known>,

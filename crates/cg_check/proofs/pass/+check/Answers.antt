@@ -1,4 +1,10 @@
-use Rattle.std.proofs.Common.{rules, ◌≡◌, true, false, arith, ap, length, map, sym, subst}
+use Rattle.std.proofs.Common.{rules, ◌≡◌, true, false, Err, arith, ap, length, map, refl, sym, subst, ◌∙◌}
+use Rattle.std.proofs.lemmas.List.{map-id}
+use Rattle.std.proofs.lemmas.Slice.Zip.{AllZip-map}
+use Rattle.cg_base.specs.Types.{part_of, to_parts}
+use Rattle.cg_check.proofs.FieldSteps.{all_found, fields_come, fields_stop, next_found, none_found, size_at, stop_found}
+use Rattle.cg_check.specs.Gathered.{nameds_of}
+use Rattle.cg_faults.specs.Events.{part_directions}
 use Rattle.std.specs.Option.{option_copied}
 use Rattle.cg_check_context.specs.View.{Agrees, entries_of, types_in}
 use Rattle.cg_check_pieces.specs.View.{bounds_of, way_of}
@@ -13,8 +19,7 @@ use Rattle.cg_check_pieces.specs.Directions.{is_by_right}
 use Rattle.cg_typing.specs.Operators.{sort_of}
 use Rattle.cg_typing.specs.Rules.{is_literal}
 use Rattle.cg_check.proofs.OperandSteps.{other_operands}
-use Rattle.cg_check_pieces.proofs.FieldSteps.{no_named, more_named}
-use Rattle.cg_check_pieces.proofs.TermSizes.{size_more, size_one, size_two, sizes}
+use Rattle.cg_check_pieces.proofs.TermSizes.{size_one, size_two, sizes}
 use Rattle.cg_check.proofs.pass.+check.Goals as goal
 use Rattle.cg_check.proofs.pass.+check.Goals.{check_op-in_default-via-then-as_slice-lt1, check_op-in_default-via-else-as_slice-lt1+else-this-lt2+else-this-lt3}
 use Rattle.cg_core.proofs.Operands.{one_operand, two_operands}
@@ -68,21 +73,6 @@ check_binary-returns-else-is_by_right-clause-answer t c =
     (λ flags way. check (map function_of c.args.source.now.functions.now) (bounds_of c.args.source.now.vars.now) (types_in (entries_of c.args.context.now.items)) flags way (the_term c.args.left.now))
     (λ flags way. check (map function_of c.args.source.now.functions.now) (bounds_of c.args.source.now.vars.now) (types_in (entries_of c.args.context.now.items)) flags way (the_term c.args.right.now)) test in
     rw is (rw (sym c.sort_of-sort.ensures) c.check_by_left.ensures.answer)
-
-pub check_fields-check_more_fields-requires : goal.check_fields-check_more_fields-requires
-check_fields-check_more_fields-requires t c =
-    let e = size_more c.args.fields.now c.field-item.result c.in-len1-up.len_at_least c.field-item.is in
-    omega (arith, e)
-
-pub check_fields-returns-in-empty-clause-answer : goal.check_fields-returns-in-empty-clause-answer
-check_fields-returns-in-empty-clause-answer t c =
-    let e = no_named c.args.fields.now c.in-empty.len_below in
-    rw e c.no_fields.ensures
-
-pub check_fields-returns-in-len1-up-clause-answer : goal.check_fields-returns-in-len1-up-clause-answer
-check_fields-returns-in-len1-up-clause-answer t c =
-    let e = more_named c.args.fields.now c.field-item.result c.in-len1-up.len_at_least c.field-item.is in
-    rw e c.check_more_fields.ensures.answer
 
 pub check_form-returns-in-Let-clause-answer : goal.check_form-returns-in-Let-clause-answer
 check_form-returns-in-Let-clause-answer t c =
@@ -140,3 +130,63 @@ check_form-returns-in-Put-clause-answer t c =
 
 pub check_observed-returns-clause-answer : goal.check_observed-returns-clause-answer
 check_observed-returns-clause-answer t c = search (rules, seen_types)
+
+-- ---- fields
+
+pub check_each-loop-field-init : goal.check_each-loop-field-init
+check_each-loop-field-init t c = (
+  none_found (map function_of c.args.source.now.functions.now) (bounds_of c.args.source.now.vars.now) (types_in (entries_of c.args.context.now.items)) c.args.fields.now c.new-gots.result
+      c.in_ok-flags.flags.items c.args.before.now.items (part_directions (to_parts (map part_of c.args.wanted.now))) c.new-gots.ensures
+      (AllZip-map (λ b. b) _ _ c.in_ok-flags.ensures.cases.0 ∙ map-id _),
+  refl,
+)
+
+pub check_each-check_term-requires : goal.check_each-check_term-requires
+check_each-check_term-requires t c =
+    let e = size_at c.args.fields.now c.loop-field.field-index c.field-item.result c.loop-field-test.true c.field-item.is in
+    omega (arith, e)
+
+pub check_each-returns-in_err-got-clause-answer : goal.check_each-returns-in_err-got-clause-answer
+check_each-returns-in_err-got-clause-answer t c =
+    let gives : c.from_residual-in_err-got.result ≡ Err c.in_err-got.field-0.0 = search rules in
+    let same : entries_of c.loop-field.context.items ≡ entries_of c.args.context.now.items = c.loop-field.invariant.1 in
+    let a = stop_found (map function_of c.args.source.now.functions.now) (bounds_of c.args.source.now.vars.now) (types_in (entries_of c.args.context.now.items)) c.args.fields.now
+    c.loop-field.field-index c.field-item.result (nameds_of c.loop-field.gots) c.loop-field.flags.items (part_directions (to_parts (map part_of c.loop-field.wanted.now))) c.in_err-got.field-0.0
+    c.loop-field-test.true c.field-item.is (rw (sym same, sym c.next_wanted.ensures) c.in_err-got.ensures.answer) in
+    rw (gives, c.loop-field.invariant.0) a
+
+pub check_each-loop-field-preserved : goal.check_each-loop-field-preserved
+check_each-loop-field-preserved t c =
+    let same : entries_of c.loop-field.context.items ≡ entries_of c.args.context.now.items = c.loop-field.invariant.1 in (
+      c.loop-field.invariant.0
+          ∙ next_found (map function_of c.args.source.now.functions.now) (bounds_of c.args.source.now.vars.now) (types_in (entries_of c.args.context.now.items)) c.args.fields.now
+          c.loop-field.field-index c.field-item.result c.loop-field.gots c.push.new.self _ c.loop-field.flags.items c.in_ok-flags-2.flags.items
+          (part_directions (to_parts (map part_of c.loop-field.wanted.now))) (part_directions (to_parts (map part_of c.later_wanted-wanted.result.now)))
+          c.loop-field-test.true c.field-item.is c.in_ok-push.ensures.ok refl (rw (sym same, sym c.next_wanted.ensures) c.in_ok-got.ensures.answer)
+          (cc (c.in_ok-flags-2.ensures, c.deref.ensures.value, c.deref-in-loop-field.ensures.value)) c.later_wanted-wanted.ensures,
+      c.in_ok-got.ensures.same ∙ same,
+    )
+
+pub check_each-returns-clause-answer : goal.check_each-returns-clause-answer
+check_each-returns-clause-answer t c =
+    c.loop-field.invariant.0
+    ∙ all_found (map function_of c.args.source.now.functions.now) (bounds_of c.args.source.now.vars.now) (types_in (entries_of c.args.context.now.items)) c.args.fields.now
+    c.loop-field.field-index (nameds_of c.loop-field.gots) c.loop-field.flags.items (part_directions (to_parts (map part_of c.loop-field.wanted.now)))
+    c.loop-field-test.false
+
+pub check_each-returns-clause-same : goal.check_each-returns-clause-same
+check_each-returns-clause-same t c = c.loop-field.invariant.1
+
+pub check_fields-returns-in_err-gots-clause-answer : goal.check_fields-returns-in_err-gots-clause-answer
+check_fields-returns-in_err-gots-clause-answer t c =
+    let gives : c.from_residual.result ≡ Err c.in_err-gots.field-0.0 = search rules in
+    let a = fields_stop (map function_of c.args.source.now.functions.now) (bounds_of c.args.source.now.vars.now) (types_in (entries_of c.args.context.now.items)) c.args.fields.now
+    c.args.before.now.items (part_directions (to_parts (map part_of c.args.wanted.now))) c.in_err-gots.field-0.0 c.in_err-gots.ensures.answer in
+    rw gives a
+
+pub check_fields-returns-clause-answer : goal.check_fields-returns-clause-answer
+check_fields-returns-clause-answer t c =
+    let same : entries_of c.check_each.new.context.items ≡ entries_of c.args.context.now.items = c.in_ok-gots.ensures.same in
+    let e = fields_come (map function_of c.args.source.now.functions.now) (bounds_of c.args.source.now.vars.now) (types_in (entries_of c.args.context.now.items)) c.args.fields.now
+    c.args.before.now.items (part_directions (to_parts (map part_of c.args.wanted.now))) (nameds_of c.in_ok-gots.gots) c.in_ok-gots.ensures.answer in
+    rw (e, sym same) c.put_together.ensures

@@ -1,7 +1,13 @@
-use Rattle.std.proofs.Common.{◌+◌, ◌*◌, map}
-use Rattle.cg_core.specs.Kernels.{the_field, the_term}
+use Rattle.std.proofs.Common.{◌≡◌, ◌+◌, ◌*◌, map}
+use Rattle.cg_base.specs.Types.{part_of, to_parts}
+use Rattle.cg_check.proofs.FieldSteps.{Rest, found}
+use Rattle.cg_check.specs.Gathered.{each, nameds_of}
+use Rattle.cg_check_context.specs.View.{entries_of, types_in}
+use Rattle.cg_check_pieces.specs.View.{bounds_of}
+use Rattle.cg_core.specs.Kernels.{function_of, the_field, the_term}
 use Rattle.cg_core.specs.Terms.{to_named, to_trees}
 use Rattle.cg_check_pieces.proofs.TermSizes.{size, size_fields, sizes}
+use Rattle.cg_faults.specs.Events.{part_directions}
 use Rattle.cg_check.proofs.pass.+check.Given as goal
 
 abbrev pub decreases-check_term : goal.decreases-check_term
@@ -74,10 +80,19 @@ abbrev pub decreases-check_struct : goal.decreases-check_struct
 decreases-check_struct l = 6 * size_fields (to_named (map the_field l.fields.now)) + 4
 
 abbrev pub decreases-check_fields : goal.decreases-check_fields
-decreases-check_fields l = 6 * size_fields (to_named (map the_field l.fields.now)) + 2
+decreases-check_fields l = 6 * size_fields (to_named (map the_field l.fields.now)) + 3
 
-abbrev pub decreases-check_more_fields : goal.decreases-check_more_fields
-decreases-check_more_fields l = 6 * (size (the_term l.field.now.term) + size_fields (to_named (map the_field l.rest.now))) + 3
+abbrev pub decreases-check_each : goal.decreases-check_each
+decreases-check_each l = 6 * size_fields (to_named (map the_field l.fields.now)) + 2
+
+abbrev pub invariant-check_each-loop-field : goal.invariant-check_each-loop-field
+invariant-check_each-loop-field l =
+    (each (map function_of l.source.functions.now) (bounds_of l.source.vars.now) (types_in (entries_of l.initial.context.items)) l.before.items
+    (part_directions (to_parts (map part_of l.fn.wanted))) (to_named (map the_field l.fields))
+    ≡ found (nameds_of l.gots)
+    (Rest (map function_of l.source.functions.now) (bounds_of l.source.vars.now) (types_in (entries_of l.initial.context.items)) l.fields l.flags.items
+    (part_directions (to_parts (map part_of l.wanted))) l.field-index))
+    × (entries_of l.context.items ≡ entries_of l.initial.context.items)
 
 abbrev pub decreases-check_take : goal.decreases-check_take
 decreases-check_take l = 6 * (size (the_term l.value.now) + size (the_term l.body.now)) + 4
