@@ -1,5 +1,6 @@
 pub mod BodySteps
 pub mod FaultKinds
 pub mod FormSteps
+pub mod FrontSteps
 pub mod JudgeSteps
 pub mod PassSteps

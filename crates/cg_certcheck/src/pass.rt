@@ -6,6 +6,7 @@ ghost use Rattle.std.specs.Option.{option_copied};
 ghost use Rattle.cg_base.specs.Types.{part_of, to_parts, type_of};
 ghost use Rattle.cg_certcheck.specs.Forms as forms;
 ghost use Rattle.cg_certcheck.specs.Operators.{first_operand, guide};
+ghost use Rattle.cg_certcheck.specs.Standings.{all_before, named_with};
 ghost use Rattle.cg_check_pieces.specs.Directions.{right_direction};
 ghost use Rattle.cg_check_pieces.specs.View.{bounds_of, shape_at, way_of};
 ghost use Rattle.cg_certcheck_context.specs.Contexts.{context_of};
@@ -14,11 +15,11 @@ ghost use Rattle.cg_certcheck_context.specs.View.{Agrees, cursor_of};
 ghost use Rattle.cg_core.specs.Kernels.{function_of, the_field, the_term};
 ghost use Rattle.cg_core.specs.Terms as terms;
 ghost use Rattle.cg_core.specs.Terms.{arg_of, to_named, to_trees};
-ghost use Rattle.cg_faults.specs.Events.{later_directions, part_directions};
+ghost use Rattle.cg_faults.specs.Events.{next_direction, part_directions};
 ghost use Rattle.cg_typing_parts.specs.Views.{the_sort};
 ghost use Rattle.cg_certcheck_def.specs.Pass.{check as check_of, check_fields as fields_by};
 ghost use Rattle.cg_typing.specs.Contexts.{first as first_of, push as push_of, second as second_of};
-ghost use Rattle.cg_typing.specs.Trees.{later_marks};
+ghost use Rattle.cg_typing.specs.Trees.{first_marks};
 ghost use Rattle.cg_typing.specs.Rules.{note_at as note_of};
 
 use cg_base::{Items, Name, Part, Place, Ty};
@@ -188,6 +189,7 @@ fn check_taken(
 
 // An operator.
 #[cycle(check)]
+#[inline(never)]
 fn check_op(
     source: &Source,
     context: &[Entry],
@@ -309,6 +311,7 @@ fn check_operands(
 
 // The same, whose first operand is checked first.
 #[cycle(check)]
+#[inline(never)]
 fn check_by_left(
     source: &Source,
     context: &[Entry],
@@ -329,6 +332,7 @@ fn check_by_left(
 
 // The same, whose right operand guides a literal, which is reached before it.
 #[cycle(check)]
+#[inline(never)]
 fn check_by_right(
     source: &Source,
     context: &[Entry],
@@ -373,6 +377,7 @@ fn check_right(
 
 // An application.
 #[cycle(check)]
+#[inline(never)]
 fn check_app(
     source: &Source,
     context: &[Entry],
@@ -403,6 +408,7 @@ fn check_app(
 
 // A `let`.
 #[cycle(check)]
+#[inline(never)]
 fn check_let(
     source: &Source,
     context: &[Entry],
@@ -423,6 +429,7 @@ fn check_let(
 
 // A `let!`.
 #[cycle(check)]
+#[inline(never)]
 fn check_let_bang(
     source: &Source,
     context: &[Entry],
@@ -448,6 +455,7 @@ fn check_let_bang(
 
 // A conditional.
 #[cycle(check)]
+#[inline(never)]
 fn check_if(
     source: &Source,
     context: &[Entry],
@@ -470,6 +478,7 @@ fn check_if(
 
 // A value of a variant type.
 #[cycle(check)]
+#[inline(never)]
 fn check_con(
     source: &Source,
     context: &[Entry],
@@ -492,6 +501,7 @@ fn check_con(
 
 // A match on one alternative.
 #[cycle(check)]
+#[inline(never)]
 fn check_case(
     source: &Source,
     context: &[Entry],
@@ -550,6 +560,7 @@ fn check_other(
 
 // A match on the last alternative.
 #[cycle(check)]
+#[inline(never)]
 fn check_esac(
     source: &Source,
     context: &[Entry],
@@ -568,6 +579,7 @@ fn check_esac(
 
 // A record, whose fields are those of the type that is checked against, if any is.
 #[cycle(check)]
+#[inline(never)]
 fn check_struct(
     source: &Source,
     context: &[Entry],
@@ -602,13 +614,62 @@ fn check_fields(
 ) -> Result<Fields, CertFault>
     ensures { Agrees (fields_in source.now.nodes.now) result (fields_by (map function_of source.now.functions.now) (bounds_of source.now.vars.now) (context_of (bounds_of source.now.vars.now) context.now) (part_directions (to_parts (map part_of wanted.now))) strings.now (cursor_of source.now.nodes.now at) (to_named (map the_field fields.now))) }
 {
-    match fields {
-        [] => Ok(no_fields(source, at)),
-        [field] => check_last_field(source, context, wanted, at, field),
-        [field, rest @ ..] => {
-            check_more_fields(source, context, wanted, strings, at, field, rest)
+    match fields.split_last() {
+        None => Ok(no_fields(source, at)),
+        Some((last, front)) => {
+            let context = context.to_vec(source.alloc)?;
+            check_all_fields(source, context, wanted, strings, at, front, last)
         }
     }
+}
+
+// Fields and a last one behind them: those in front in a loop, each of which leaves a context, directions and mark strings to the later ones.
+#[cycle(check)]
+fn check_all_fields(
+    source: &Source,
+    context: Vec<Entry>,
+    wanted: &[Part],
+    strings: &[Items<Mark>],
+    at: Cursor,
+    front: &[FieldTerm<Place>],
+    last: &FieldTerm<Place>,
+) -> Result<Fields, CertFault>
+    ensures { Agrees (fields_in source.now.nodes.now) result (fields_by (map function_of source.now.functions.now) (bounds_of source.now.vars.now) (context_of (bounds_of source.now.vars.now) context.entry.items) (part_directions (to_parts (map part_of wanted.now))) strings.now (cursor_of source.now.nodes.now at) (named_with front.now last.now)) }
+{
+    let mut context = context;
+    let mut wanted = wanted;
+    let mut strings = strings;
+    let mut at = at;
+    let mut before = Items::new(source.alloc);
+    for field in front {
+        let got = check_next_field(source, &context, wanted, strings, at, field)?;
+        at = got.at;
+        before.push(Checked {
+            name: &field.name,
+            got,
+        })?;
+        context = seconds(source, next_marks(strings), &context)?;
+        wanted = later_wanted(wanted);
+        strings = later_strings(strings);
+    }
+    let made = check_last_field(source, &context, wanted, at, last)?;
+    all_in_front(source, before, made)
+}
+
+// A field that isn't the last, on the first side of the first of the mark strings.
+#[cycle(check)]
+fn check_next_field(
+    source: &Source,
+    context: &[Entry],
+    wanted: &[Part],
+    strings: &[Items<Mark>],
+    at: Cursor,
+    field: &FieldTerm<Place>,
+) -> Result<Got, CertFault>
+    ensures { Agrees (got_in source.now.nodes.now) result (check_of (map function_of source.now.functions.now) (bounds_of source.now.vars.now) (first_of (first_marks strings.now) (context_of (bounds_of source.now.vars.now) context.now)) (next_direction (part_directions (to_parts (map part_of wanted.now)))) (cursor_of source.now.nodes.now at) (the_term field.now.term)) }
+{
+    let marks = next_marks(strings);
+    check_first(source, context, marks, next_wanted(wanted), at, &field.term)
 }
 
 // The last field.
@@ -626,51 +687,29 @@ fn check_last_field(
     last_in_front(source, &field.name, got)
 }
 
-// A field and the later ones, with the first of the mark strings between them.
-#[cycle(check)]
-fn check_more_fields(
-    source: &Source,
-    context: &[Entry],
-    wanted: &[Part],
-    strings: &[Items<Mark>],
-    at: Cursor,
-    field: &FieldTerm<Place>,
-    rest: &[FieldTerm<Place>],
-) -> Result<Fields, CertFault>
-    ensures { Agrees (fields_in source.now.nodes.now) result (forms.more_fields (map function_of source.now.functions.now) (bounds_of source.now.vars.now) (context_of (bounds_of source.now.vars.now) context.now) (part_directions (to_parts (map part_of wanted.now))) strings.now (cursor_of source.now.nodes.now at) field.now.name (the_term field.now.term) (to_named (map the_field rest.now))) }
-{
-    let marks = next_marks(strings);
-    let got = check_first(source, context, marks, next_wanted(wanted), at, &field.term)?;
-    let later = check_later_fields(source, context, marks, wanted, strings, got.at, rest)?;
-    in_front(source, &field.name, got, later)
+// What a field that has another one behind it comes to.
+#[derive(Drop)]
+struct Checked<'a> {
+    name: &'a Name,
+    got: Got,
 }
 
-// The later ones.
-#[cycle(check)]
-fn check_later_fields(
-    source: &Source,
-    context: &[Entry],
-    marks: &[Mark],
-    wanted: &[Part],
-    strings: &[Items<Mark>],
-    at: Cursor,
-    rest: &[FieldTerm<Place>],
-) -> Result<Fields, CertFault>
-    ensures { Agrees (fields_in source.now.nodes.now) result (fields_by (map function_of source.now.functions.now) (bounds_of source.now.vars.now) (second_of marks.now (context_of (bounds_of source.now.vars.now) context.now)) (later_directions (part_directions (to_parts (map part_of wanted.now)))) (later_marks strings.now) (cursor_of source.now.nodes.now at) (to_named (map the_field rest.now))) }
+// Fields in front of the later ones. Want of memory is its one refusal.
+#[inline(never)]
+fn all_in_front(source: &Source, before: Items<Checked>, later: Fields) -> Result<Fields, CertFault>
+    ensures { Agrees (fields_in source.now.nodes.now) result (Ok (all_before source.now.nodes.now before.entry (fields_in source.now.nodes.now later))) }
 {
-    let side = seconds(source, marks, context)?;
-    check_fields(
-        source,
-        side.as_slice(),
-        later_wanted(wanted),
-        later_strings(strings),
-        at,
-        rest,
-    )
+    let mut before = before;
+    let mut later = later;
+    while let Some(Checked { name, got }) = before.pop() {
+        later = in_front(source, name, got, later)?;
+    }
+    Ok(later)
 }
 
 // A member.
 #[cycle(check)]
+#[inline(never)]
 fn check_member(
     source: &Source,
     context: &[Entry],
@@ -689,6 +728,7 @@ fn check_member(
 
 // A take.
 #[cycle(check)]
+#[inline(never)]
 fn check_take(
     source: &Source,
     context: &[Entry],
@@ -715,6 +755,7 @@ fn check_take(
 
 // A put.
 #[cycle(check)]
+#[inline(never)]
 fn check_put(
     source: &Source,
     context: &[Entry],
@@ -739,6 +780,7 @@ fn check_put(
 
 // A cast.
 #[cycle(check)]
+#[inline(never)]
 fn check_cast(
     source: &Source,
     context: &[Entry],
@@ -759,6 +801,7 @@ fn check_cast(
 
 // A term with its type written.
 #[cycle(check)]
+#[inline(never)]
 fn check_annot(
     source: &Source,
     context: &[Entry],

@@ -1,7 +1,14 @@
-use Rattle.std.proofs.Common.{◌+◌, ◌*◌, map}
+use Rattle.std.proofs.Common.{◌≡◌, ◌+◌, ◌*◌, drop, map}
 use Rattle.cg_check_pieces.proofs.TermSizes.{size, size_fields, sizes}
-use Rattle.cg_core.specs.Kernels.{the_field, the_term}
+use Rattle.cg_core.specs.Kernels.{function_of, the_field, the_term}
 use Rattle.cg_core.specs.Terms.{to_named, to_trees}
+use Rattle.cg_base.specs.Types.{part_of, to_parts}
+use Rattle.cg_certcheck.specs.Standings.{ahead, named_with}
+use Rattle.cg_certcheck_context.specs.Contexts.{context_of}
+use Rattle.cg_certcheck_context.specs.View.{cursor_of}
+use Rattle.cg_certcheck_def.specs.Pass.{check_fields}
+use Rattle.cg_check_pieces.specs.View.{bounds_of}
+use Rattle.cg_faults.specs.Events.{part_directions}
 use Rattle.cg_certcheck.proofs.pass.+check.Given as goal
 
 abbrev pub decreases-check_term : goal.decreases-check_term
@@ -94,11 +101,20 @@ decreases-check_struct l = 5 * size_fields (to_named (map the_field l.fields.now
 abbrev pub decreases-check_fields : goal.decreases-check_fields
 decreases-check_fields l = 5 * size_fields (to_named (map the_field l.fields.now)) + 2
 
+abbrev pub decreases-check_all_fields : goal.decreases-check_all_fields
+decreases-check_all_fields l = 5 * size_fields (named_with l.front.now l.last.now) + 1
+
+abbrev pub decreases-check_next_field : goal.decreases-check_next_field
+decreases-check_next_field l = 5 * size (the_term l.field.now.term) + 3
+
 abbrev pub decreases-check_last_field : goal.decreases-check_last_field
 decreases-check_last_field l = 5 * size (the_term l.field.now.term) + 3
 
-abbrev pub decreases-check_more_fields : goal.decreases-check_more_fields
-decreases-check_more_fields l = 5 * (size (the_term l.field.now.term) + size_fields (to_named (map the_field l.rest.now))) + 4
-
-abbrev pub decreases-check_later_fields : goal.decreases-check_later_fields
-decreases-check_later_fields l = 5 * size_fields (to_named (map the_field l.rest.now)) + 3
+-- what all fields come to is what those come to that are left, behind those before
+abbrev pub invariant-check_all_fields-loop-field : goal.invariant-check_all_fields-loop-field
+invariant-check_all_fields-loop-field l =
+    check_fields (map function_of l.source.functions.now) (bounds_of l.source.vars.now) (context_of (bounds_of l.source.vars.now) l.fn.context.items)
+    (part_directions (to_parts (map part_of l.fn.wanted))) l.fn.strings (cursor_of l.source.nodes.now l.fn.at) (named_with l.front l.last)
+    ≡ ahead l.source.nodes.now l.before
+    (check_fields (map function_of l.source.functions.now) (bounds_of l.source.vars.now) (context_of (bounds_of l.source.vars.now) l.context.items)
+    (part_directions (to_parts (map part_of l.wanted))) l.strings (cursor_of l.source.nodes.now l.at) (named_with (drop l.field-index l.front) l.last))
