@@ -1,4 +1,9 @@
 // Programs of the C subset.
+ghost use Rattle.std.specs.Prelude.{◌≡◌, ◌≤◌, []};
+ghost use Rattle.cg_ctree.specs.declared.tree.CCase.{size-CCase};
+ghost use Rattle.cg_ctree.specs.declared.tree.CStmt.{size-CStmt};
+ghost use denote.Param.Weighed.{most};
+
 use cg_base::{Items, Name, Word};
 
 /// A type: an unsigned word, a struct, or a pointer to a struct.
@@ -170,7 +175,8 @@ pub enum CStmt {
 
 impl Drop for CStmt {
     #[cycle(statement)]
-    fn drop(self) {
+    fn drop(mut self) {
+        empty(&mut self);
         match self {
             CStmt::Assign(path, right) => {
                 drop(path);
@@ -195,6 +201,56 @@ impl Drop for CStmt {
             }
             CStmt::Return(operand) => drop(operand),
         }
+    }
+}
+
+// Empties the lists of a statement in place, so that its drop has no depth. A call holds no statement on the stack.
+#[cycle(statement)]
+fn empty(stmt: &mut CStmt)
+    ensures { size-CStmt stmt.new ≤ size-CStmt stmt.old }
+{
+    match stmt {
+        CStmt::If(_operand, yes, no) => {
+            empty_list(yes);
+            empty_list(no);
+        }
+        CStmt::While(_operand, body) => empty_list(body),
+        CStmt::Switch(_operand, cases) => empty_cases(cases),
+        _ => (),
+    }
+}
+
+// Empties a list, the lists of its statements first.
+#[cycle(statement)]
+fn empty_list(list: &mut Items<CStmt>)
+    ensures { list.new ≡ [] }
+{
+    let stmts = list.as_mut_slice();
+    for i in 0..stmts.len() {
+        empty(&mut stmts[i]);
+    }
+    clear(list);
+}
+
+// Drops the statements of a list, apart from its caller: here one of them is on the stack.
+#[cycle(statement)]
+#[inline(never)]
+fn clear(list: &mut Items<CStmt>)
+    ensures { list.new ≡ [] }
+{
+    while let Some(stmt) = list.pop() {
+        drop(stmt);
+    }
+}
+
+// Empties the lists of the cases of a switch.
+#[cycle(statement)]
+fn empty_cases(cases: &mut Items<CCase>)
+    ensures { most size-CCase cases.new ≤ most size-CCase cases.old }
+{
+    let cases = cases.as_mut_slice();
+    for i in 0..cases.len() {
+        empty_list(&mut cases[i].body);
     }
 }
 
