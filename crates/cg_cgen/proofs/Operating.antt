@@ -30,10 +30,14 @@ use Rattle.cg_cmachine_def.specs.Operations.{flag, word_value, operation, comput
 use Rattle.cg_cmachine_def.specs.Outcomes.{ok, no, on, State, done, lift}
 use Rattle.cg_cmachine_def.specs.Runs.{Linked, Calls, goes, onward, choose, plain, judged_word, assigned, run_assign, run_stmt, run_block}
 use Rattle.cg_eval_operations.specs.Operators.{truth, on_one, on_two}
-use Rattle.cg_cgen_def.specs.Code.{inner, computed_by, only, divided_by, shifted_by, op_code}
+use Rattle.cg_cgen_def.specs.Code.{inner, computed_by, only, divided_by, dividing, shifted_by, shifting, zero_set, op_code}
 use Rattle.cg_cgen.specs.Meanings.{IsNumber, IsPart, IsApart, set, Changes, Computes, OperatorsCompute}
 use Rattle.cg_cgen.proofs.Numbers.{kept, bits_kept, cast, whole, small, flag_is_small, width_fits, bit_fits, difference, complement_kept}
 use Rattle.cg_cgen.proofs.Paths.{number_read, below, still_part, set_twice, still_number, set_read, set_written}
+
+-- what comes of two is the same
+same_ok : (a b : ℕ) → ok a ≡ ok b → a ≡ b
+same_ok a b e = cc
 
 -- ---- what is computed
 
@@ -120,8 +124,8 @@ module _ (p : Linked) (calls : Calls) (n : ℕ) (l : Layout) where
   simple {fr} {w} {outer} {to} {x} {y} o s part k r i j e q = changes (computed_by o outer w to x y ∷ []) fr s 1 (set part r) (omega arith) (one o s part k r i j e q)
 
   -- a division
-  zero_set : {fr : Frame} {w : Word} {to : CPath} (s : State) (part : IsPart fr w to) → Goes (only (assign to (Opnd (Number 0)))) fr s 1 (set part 0)
-  zero_set {fr} {w} s part =
+  zero_set_in : {fr : Frame} {w : Word} {to : CPath} (s : State) (part : IsPart fr w to) → Goes (only (assign to (Opnd (Number 0)))) fr s 1 (set part 0)
+  zero_set_in {fr} {w} s part =
       assigns (Opnd (Number 0)) s part (literal 0) 0 (λ fr s left. refl) refl (literal_given w 0 (bit_fits w 0 (omega arith))) stop 0 (set part 0) (ends (set part 0) s)
 
   divides : {fr : Frame} {w : Word} {to : CPath} {x y : COpnd} (o : COp) (s : State) (part : IsPart fr w to) (a b r : ℕ) → IsNumber p s.store fr w x a → IsNumber p s.store fr w y b
@@ -131,12 +135,37 @@ module _ (p : Linked) (calls : Calls) (n : ℕ) (l : Layout) where
       changes (divided_by o w to x y) fr s 2 (set part r) (omega arith) (chooses fr s y _ _ b 1 (set part r) (number_read j) (λ rest. chosen b refl rest))
     where
       chosen : (c : ℕ) → b ≡ c → (rest : ℕ) → choose c (run_block p calls n l (only (computed_by o w w to x y)) fr s (1 + rest)) (run_block p calls n l (only (assign to (Opnd (Number 0)))) fr s (1 + rest)) ≡ done (goes (set part r)) s rest
-      chosen zero e rest = subst (λ z. run_block p calls n l (only (assign to (Opnd (Number 0)))) fr s (1 + rest) ≡ done (goes (set part z)) s rest) (sym (by_none e)) (zero_set s part rest (1 + rest) refl)
+      chosen zero e rest = subst (λ z. run_block p calls n l (only (assign to (Opnd (Number 0)))) fr s (1 + rest) ≡ done (goes (set part z)) s rest) (sym (by_none e)) (zero_set_in s part rest (1 + rest) refl)
       chosen (suc c) e rest =
           let is : (operation o (bits (inner w)) a b ≡ ok r) × (r ≤ a) = by_some c e in
           let le : r ≤ a = is.1 in
           let lt : a < 2 ^ bits w = below i in
           one o s part r r i j is.0 (whole w r (omega arith)) rest (1 + rest) refl
+
+  -- to 0, in a step
+  cleared : {fr : Frame} {w : Word} {to : CPath} (s : State) (part : IsPart fr w to) (r : ℕ) → r ≡ 0 → Changes p calls n l (zero_set to) fr s (set part r)
+  unfolding to_block
+  cleared {fr} {w} {to} s part r e =
+      subst (λ z. Changes p calls n l (zero_set to) fr s (set part z)) (sym e) (changes (zero_set to) fr s 1 (set part 0) (omega arith) (zero_set_in s part))
+
+  -- what is read of a literal is it
+  literal_is : {fr : Frame} {w : Word} {k b : ℕ} (s : State) → IsNumber p s.store fr w (Number k) b → k ≡ b
+  literal_is {fr} {w} {k} {b} s j = same_ok k b (number_read j)
+
+  -- a division by any operand
+  divides_by : {fr : Frame} {w : Word} {to : CPath} {x : COpnd} (y : COpnd) (o : COp) (s : State) (part : IsPart fr w to) (a b r : ℕ) → IsNumber p s.store fr w x a → IsNumber p s.store fr w y b
+      → (b ≡ 0 → r ≡ 0) → ((c : ℕ) → b ≡ suc c → (operation o (bits (inner w)) a b ≡ ok r) × (r ≤ a)) → Changes p calls n l (dividing o w to x y) fr s (set part r)
+  divides_by (Path divisor) o s part a b r i j by_none by_some = divides o s part a b r i j by_none by_some
+  divides_by {fr} {w} {to} {x} (Number k) o s part a b r i j by_none by_some = by_number k (literal_is s j)
+    where
+      by_number : (c : ℕ) → c ≡ b → Changes p calls n l (if nat_eq c 0 then zero_set to else (computed_by o w w to x (Number k) ∷ [])) fr s (set part r)
+      by_number zero e = cleared s part r (by_none (sym e))
+      by_number (suc c) e =
+          let is : (operation o (bits (inner w)) a b ≡ ok r) × (r ≤ a) = by_some c (sym e) in
+          let le : r ≤ a = is.1 in
+          let lt : a < 2 ^ bits w = below i in
+          subst (λ t. Changes p calls n l (if t then zero_set to else (computed_by o w w to x (Number k) ∷ [])) fr s (set part r)) (sym (eqb-suc-zero c))
+          (simple o s part r r i j is.0 (whole w r (omega arith)))
 
   -- a shift
   shifts : {fr : Frame} {w : Word} {to : CPath} {x y : COpnd} (o : COp) (s : State) (part : IsPart fr w to) (a b k r : ℕ) → IsNumber p s.store fr w x a → IsApart to x → IsNumber p s.store fr w y b → IsApart to y
@@ -163,6 +192,19 @@ module _ (p : Linked) (calls : Calls) (n : ℕ) (l : Layout) where
           changes (shifted_by o w to x y) fr s 3 (set part r) (omega arith)
           (tests true e _ 2 (set part r) (chooses (set part 1) s (Path to) _ _ 1 1 (set part r) (test_read true)
           (λ rest. one o s (still_part part 1) k r (still_number part 1 i di) (still_number part 1 j dj) (by_few e).0 (by_few e).1 rest (1 + rest) refl ∙ ap (λ z. done (goes z) s rest) (set_twice part 1 r))))
+
+  -- a shift by any operand
+  shifts_by : {fr : Frame} {w : Word} {to : CPath} {x : COpnd} (y : COpnd) (o : COp) (s : State) (part : IsPart fr w to) (a b k r : ℕ) → IsNumber p s.store fr w x a → IsApart to x → IsNumber p s.store fr w y b → IsApart to y
+      → (nat_lt b (bits w) ≡ true → (operation o (bits (inner w)) a b ≡ ok k) × (k % 2 ^ bits (inner w) % 2 ^ bits w ≡ r)) → (nat_lt b (bits w) ≡ false → r ≡ 0)
+      → Changes p calls n l (shifting o w to x y) fr s (set part r)
+  shifts_by (Path shift) o s part a b k r i di j dj by_few by_many = shifts o s part a b k r i di j dj by_few by_many
+  shifts_by {fr} {w} {to} {x} (Number c) o s part a b k r i di j dj by_few by_many =
+      subst (λ z. Changes p calls n l (if nat_lt z (bits w) then computed_by o w w to x (Number c) ∷ [] else zero_set to) fr s (set part r)) (sym (literal_is s j))
+      (by_test (nat_lt b (bits w)) refl)
+    where
+      by_test : (t : Bool) → nat_lt b (bits w) ≡ t → Changes p calls n l (if t then computed_by o w w to x (Number c) ∷ [] else zero_set to) fr s (set part r)
+      by_test true e = simple o s part k r i j (by_few e).0 (by_few e).1
+      by_test false e = cleared s part r (by_many e)
 
   -- a complement
   flips : {fr : Frame} {w : Word} {to : CPath} {x : COpnd} (s : State) (part : IsPart fr w to) (a : ℕ) → IsNumber p s.store fr w x a
@@ -239,16 +281,16 @@ operators_compute ops.Add w to x y p calls n l fr s a b i di j h part = simple p
 operators_compute ops.Sub w to x y p calls n l fr s a b i di j h part = simple p calls n l op.Sub s part ((a + 2 ^ bits (inner w)) - b) (on_two ops.Sub (bits w) a b) i j.0 refl (difference w a b (below j.0))
 operators_compute ops.Mul w to x y p calls n l fr s a b i di j h part = simple p calls n l op.Mul s part (a * b) ((a * b) % 2 ^ bits w) i j.0 refl (kept w (a * b))
 operators_compute ops.Div w to x y p calls n l fr s a b i di j h part =
-    divides p calls n l op.Div s part a b (on_two ops.Div (bits w) a b) i j.0 (ap (λ z. on_two ops.Div (bits w) a z)) (quotient_is w a b)
+    divides_by p calls n l y op.Div s part a b (on_two ops.Div (bits w) a b) i j.0 (ap (λ z. on_two ops.Div (bits w) a z)) (quotient_is w a b)
 operators_compute ops.Rem w to x y p calls n l fr s a b i di j h part =
-    divides p calls n l op.Rem s part a b (on_two ops.Rem (bits w) a b) i j.0 (ap (λ z. on_two ops.Rem (bits w) a z)) (remainder_is w a b)
+    divides_by p calls n l y op.Rem s part a b (on_two ops.Rem (bits w) a b) i j.0 (ap (λ z. on_two ops.Rem (bits w) a z)) (remainder_is w a b)
 operators_compute ops.And w to x y p calls n l fr s a b i di j h part = simple p calls n l op.And s part (bit_and a b) (bit_and a b) i j.0 refl (whole w (bit_and a b) (and_lt (bits w) a b (below i) (below j.0)))
 operators_compute ops.Or w to x y p calls n l fr s a b i di j h part = simple p calls n l op.Or s part (bit_or a b) (bit_or a b) i j.0 refl (whole w (bit_or a b) (or_lt (bits w) a b (below i) (below j.0)))
 operators_compute ops.Xor w to x y p calls n l fr s a b i di j h part = simple p calls n l op.Xor s part (bit_xor a b) (bit_xor a b) i j.0 refl (whole w (bit_xor a b) (xor_lt (bits w) a b (below i) (below j.0)))
 operators_compute ops.Shl w to x y p calls n l fr s a b i di j h part =
-    shifts p calls n l op.Shl s part a b (a * 2 ^ b) (on_two ops.Shl (bits w) a b) i di j.0 j.1 (shifted_left w a b) (ap (λ t. if t then (a * 2 ^ b) % 2 ^ bits w else zero))
+    shifts_by p calls n l y op.Shl s part a b (a * 2 ^ b) (on_two ops.Shl (bits w) a b) i di j.0 j.1 (shifted_left w a b) (ap (λ t. if t then (a * 2 ^ b) % 2 ^ bits w else zero))
 operators_compute ops.Shr w to x y p calls n l fr s a b i di j h part =
-    shifts p calls n l op.Shr s part a b (a / 2 ^ b) (on_two ops.Shr (bits w) a b) i di j.0 j.1 (shifted_right w a b (below i)) (ap (λ t. if t then a / 2 ^ b else zero))
+    shifts_by p calls n l y op.Shr s part a b (a / 2 ^ b) (on_two ops.Shr (bits w) a b) i di j.0 j.1 (shifted_right w a b (below i)) (ap (λ t. if t then a / 2 ^ b else zero))
 operators_compute ops.Eq w to x y p calls n l fr s a b i di j h part = simple p calls n l op.Eq s part (flag (nat_eq a b)) (truth (nat_eq a b)) i j.0 refl (flag_kept w (nat_eq a b))
 operators_compute ops.Ne w to x y p calls n l fr s a b i di j h part = simple p calls n l op.Ne s part (flag (not (nat_eq a b))) (truth (not (nat_eq a b))) i j.0 refl (flag_kept w (not (nat_eq a b)))
 operators_compute ops.Lt w to x y p calls n l fr s a b i di j h part = simple p calls n l op.Lt s part (flag (nat_lt a b)) (truth (nat_lt a b)) i j.0 refl (flag_kept w (nat_lt a b))

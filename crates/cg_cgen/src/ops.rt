@@ -8,7 +8,7 @@ ghost use Rattle.cg_ctree.specs.declared.tree.COp.TheVariants as op;
 ghost use Rattle.cg_ctree.specs.declared.tree.COpnd.TheVariants.{Number};
 ghost use Rattle.cg_ctree.specs.declared.tree.CRhs.TheVariants.{Opnd, Binary};
 ghost use Rattle.cg_ctree.specs.Trees.{assign as assign_of, block_of, branch, stmt_of};
-ghost use Rattle.cg_cgen_def.specs.Code.{inner as inner_of, computed_by, divided_by, shifted_by, op_code};
+ghost use Rattle.cg_cgen_def.specs.Code.{inner as inner_of, computed_by, divided_by, dividing, shifted_by, shifting, zero_set, op_code};
 ghost use Rattle.cg_cgen.specs.Meanings.{Computes};
 
 use crate::copies::{copy_operand, copy_path};
@@ -69,7 +69,7 @@ fn choice(
 
 // The statement that sets a path to 0.
 fn zero(alloc: Global, to: &CPath) -> Result<Items<CStmt>, Memory>
-    ensures { IfOk result (λ stmts. map stmt_of stmts ≡ assign_of to.now (Opnd (Number 0)) ∷ []) }
+    ensures { IfOk result (λ stmts. map stmt_of stmts ≡ zero_set to.now) }
 {
     assign(alloc, copy_path(alloc, to)?, CRhs::Opnd(COpnd::Number(0)))
 }
@@ -89,6 +89,24 @@ fn divided(
     let divisor = copy_operand(alloc, &right)?;
     let yes = assign(alloc, to, binary(word, op, left, right))?;
     choice(alloc, divisor, yes, no)
+}
+
+// The same by any operand: a literal isn't tested.
+fn dividing(
+    alloc: Global,
+    op: COp,
+    word: Word,
+    to: CPath,
+    left: COpnd,
+    right: COpnd,
+) -> Result<Items<CStmt>, Memory>
+    ensures { IfOk result (λ stmts. map stmt_of stmts ≡ dividing op word to left right) }
+{
+    match &right {
+        COpnd::Number(0) => zero(alloc, &to),
+        COpnd::Number(_) => assign(alloc, to, binary(word, op, left, right)),
+        COpnd::Path(_) => divided(alloc, op, word, to, left, right),
+    }
 }
 
 // The statement that sets a path to whether a shift is by fewer bits than the word has.
@@ -122,6 +140,26 @@ fn shifted(
     Ok(stmts)
 }
 
+// The same by any operand: a literal isn't tested.
+fn shifting(
+    alloc: Global,
+    op: COp,
+    word: Word,
+    to: CPath,
+    left: COpnd,
+    right: COpnd,
+) -> Result<Items<CStmt>, Memory>
+    ensures { IfOk result (λ stmts. map stmt_of stmts ≡ shifting op word to left right) }
+{
+    match &right {
+        COpnd::Number(shift) if *shift < bits(word) => {
+            assign(alloc, to, binary(word, op, left, right))
+        }
+        COpnd::Number(_) => zero(alloc, &to),
+        COpnd::Path(_) => shifted(alloc, op, word, to, left, right),
+    }
+}
+
 // The statements, by the operator.
 fn stmts(
     alloc: Global,
@@ -137,13 +175,13 @@ fn stmts(
         Op::Add => assign(alloc, to, binary(word, COp::Add, left, right)),
         Op::Sub => assign(alloc, to, binary(word, COp::Sub, left, right)),
         Op::Mul => assign(alloc, to, binary(word, COp::Mul, left, right)),
-        Op::Div => divided(alloc, COp::Div, word, to, left, right),
-        Op::Rem => divided(alloc, COp::Rem, word, to, left, right),
+        Op::Div => dividing(alloc, COp::Div, word, to, left, right),
+        Op::Rem => dividing(alloc, COp::Rem, word, to, left, right),
         Op::And => assign(alloc, to, binary(word, COp::And, left, right)),
         Op::Or => assign(alloc, to, binary(word, COp::Or, left, right)),
         Op::Xor => assign(alloc, to, binary(word, COp::Xor, left, right)),
-        Op::Shl => shifted(alloc, COp::Shl, word, to, left, right),
-        Op::Shr => shifted(alloc, COp::Shr, word, to, left, right),
+        Op::Shl => shifting(alloc, COp::Shl, word, to, left, right),
+        Op::Shr => shifting(alloc, COp::Shr, word, to, left, right),
         Op::Eq => assign(alloc, to, test(word, COp::Eq, left, right)),
         Op::Ne => assign(alloc, to, test(word, COp::Ne, left, right)),
         Op::Lt => assign(alloc, to, test(word, COp::Lt, left, right)),

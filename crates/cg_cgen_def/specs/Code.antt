@@ -1,5 +1,5 @@
 -- The C of operators (docs/LANGUAGE.md, "Operators in C").
-use Rattle.std.specs.Prelude.{Bool, true, false, List, [], ◌∷◌}
+use Rattle.std.specs.Prelude.{ℕ, nat_eq, nat_lt, Bool, true, false, List, [], ◌∷◌, if◌then◌else◌}
 use Rattle.cg_base.specs.declared.kind.Word.{Word}
 use Rattle.cg_base.specs.declared.kind.Word.TheVariants.{U8, U32, U64}
 use Rattle.cg_base.specs.Words.{bits}
@@ -44,6 +44,10 @@ computed_by o outer word to left right = assign to (Binary outer (inner word) o 
 abbrev pub only : Stmt → Block
 only s = also s stop
 
+-- `to = 0ull;`
+abbrev pub zero_set : CPath → List Stmt
+zero_set to = assign to (Opnd (Number 0)) ∷ []
+
 -- `if (right) { to = (w)((v)left o (v)right); } else { to = 0ull; }`: where the divisor is 0 that is what is given
 abbrev pub divided_by : COp → Word → CPath → COpnd → COpnd → List Stmt
 divided_by o word to left right =
@@ -54,19 +58,29 @@ abbrev pub shifted_by : COp → Word → CPath → COpnd → COpnd → List Stmt
 shifted_by o word to left right =
     computed_by op.Lt word word to right (Number (bits word)) ∷ branch (Path to) (only (computed_by o word word to left right)) stop ∷ []
 
+-- A division by what isn't known is tested, and one by a literal is not.
+abbrev pub dividing : COp → Word → CPath → COpnd → COpnd → List Stmt
+dividing o word to left (Number n) = if nat_eq n 0 then zero_set to else (computed_by o word word to left (Number n) ∷ [])
+dividing o word to left (Path divisor) = divided_by o word to left (Path divisor)
+
+-- A shift by what isn't known is tested, and one by a literal is not.
+abbrev pub shifting : COp → Word → CPath → COpnd → COpnd → List Stmt
+shifting o word to left (Number n) = if nat_lt n (bits word) then computed_by o word word to left (Number n) ∷ [] else zero_set to
+shifting o word to left (Path shift) = shifted_by o word to left (Path shift)
+
 -- The statements that set a path to what an operator gives of two operands of a word, or of the first alone. Of `&&`, `||` and `not`, whose
 -- operands are truth values, that word is U8.
 abbrev pub op_code : Op → Word → CPath → COpnd → COpnd → List Stmt
 op_code ops.Add word to left right = computed_by op.Add word word to left right ∷ []
 op_code ops.Sub word to left right = computed_by op.Sub word word to left right ∷ []
 op_code ops.Mul word to left right = computed_by op.Mul word word to left right ∷ []
-op_code ops.Div word to left right = divided_by op.Div word to left right
-op_code ops.Rem word to left right = divided_by op.Rem word to left right
+op_code ops.Div word to left right = dividing op.Div word to left right
+op_code ops.Rem word to left right = dividing op.Rem word to left right
 op_code ops.And word to left right = computed_by op.And word word to left right ∷ []
 op_code ops.Or word to left right = computed_by op.Or word word to left right ∷ []
 op_code ops.Xor word to left right = computed_by op.Xor word word to left right ∷ []
-op_code ops.Shl word to left right = shifted_by op.Shl word to left right
-op_code ops.Shr word to left right = shifted_by op.Shr word to left right
+op_code ops.Shl word to left right = shifting op.Shl word to left right
+op_code ops.Shr word to left right = shifting op.Shr word to left right
 op_code ops.Eq word to left right = computed_by op.Eq U8 word to left right ∷ []
 op_code ops.Ne word to left right = computed_by op.Ne U8 word to left right ∷ []
 op_code ops.Lt word to left right = computed_by op.Lt U8 word to left right ∷ []

@@ -1,5 +1,5 @@
 -- Operators, conversions, and calls of functions that are named and of function values.
-use Rattle.std.proofs.Common.{◌≡◌, ℕ, zero, suc, ◌+◌, ◌*◌, ◌%◌, ◌^◌, ◌<◌, ◌≤◌, Bool, true, false, not, cond, IsTrue, Option, Some, None, option_map, unwrap_or, List, [], ◌∷◌, ◌++◌, length, length-append, get_or, slice_get, replicate, refl, sym, ap, ◌∙◌, subst, arith, ◌⊎◌, inl, inr}
+use Rattle.std.proofs.Common.{◌≡◌, ℕ, zero, suc, ◌+◌, ◌*◌, ◌%◌, ◌^◌, ◌<◌, ◌≤◌, nat_eq, nat_lt, Bool, true, false, not, cond, if◌then◌else◌, IsTrue, Option, Some, None, option_map, unwrap_or, List, [], ◌∷◌, ◌++◌, length, length-append, get_or, slice_get, replicate, refl, sym, ap, ◌∙◌, subst, arith, ◌⊎◌, inl, inr}
 use Rattle.std.proofs.Math.Nat.{mod-eq_of_lt}
 use Rattle.std.specs.List.{list_any}
 use Rattle.std.proofs.lemmas.List.{drop_all}
@@ -27,6 +27,7 @@ use Rattle.cg_cmachine_def.specs.Outcomes.{State as RunState, done, ok, on}
 use Rattle.cg_cmachine_def.specs.Runs.{Linked, Calls as Runner, goes, calls_in, run_block, run_stmt}
 use Rattle.cg_cmachine_def.specs.Targets.{spliced, with_scalars}
 use Rattle.cg_ctree.specs.declared.tree.COpnd.{COpnd}
+use Rattle.cg_ctree.specs.declared.tree.COpnd.TheVariants.{Number, Path}
 use Rattle.cg_ctree.specs.declared.tree.CPath.{CPath}
 use Rattle.cg_ctree.specs.declared.tree.CRhs.TheVariants.{Conv}
 use Rattle.cg_ctree.specs.declared.tree.CTy.{CTy}
@@ -147,11 +148,26 @@ one_zero ops.Complement n a e = absurd (cc)
 one_zero ops.Not n a e = absurd (cc)
 one_zero o n a e = refl
 
+-- of one or the other, where neither makes calls or has loops
+one_calls : (t : Bool) (xs ys : List Stmt) (q : Linked) (c d : Runner) (m n : ℕ) (l : Layout) (fr : Frame) (s : RunState) (b : ℕ)
+    → run_block q c m l (to_block xs) fr s b ≡ run_block q d n l (to_block xs) fr s b → run_block q c m l (to_block ys) fr s b ≡ run_block q d n l (to_block ys) fr s b
+    → run_block q c m l (to_block (if t then xs else ys)) fr s b ≡ run_block q d n l (to_block (if t then xs else ys)) fr s b
+one_calls true xs ys q c d m n l fr s b e f = e
+one_calls false xs ys q c d m n l fr s b e f = f
+
 -- the C of an operator makes no calls and has no loops
 no_calls : (o : Op) (w : Word) (to : CPath) (x y : COpnd) (q : Linked) (c d : Runner) (m n : ℕ) (l : Layout) (fr : Frame) (s : RunState) (b : ℕ)
     → run_block q c m l (to_block (op_code o w to x y)) fr s b ≡ run_block q d n l (to_block (op_code o w to x y)) fr s b
 unfolding run_block run_stmt to_block
 no_calls ops.Complement w to x y q c d m n l fr s b = refl
+no_calls ops.Div w to x (Number k) q c d m n l fr s b = one_calls (nat_eq k 0) _ _ q c d m n l fr s b refl refl
+no_calls ops.Rem w to x (Number k) q c d m n l fr s b = one_calls (nat_eq k 0) _ _ q c d m n l fr s b refl refl
+no_calls ops.Shl w to x (Number k) q c d m n l fr s b = one_calls (nat_lt k (bits w)) _ _ q c d m n l fr s b refl refl
+no_calls ops.Shr w to x (Number k) q c d m n l fr s b = one_calls (nat_lt k (bits w)) _ _ q c d m n l fr s b refl refl
+no_calls ops.Div w to x (Path k) q c d m n l fr s b = refl
+no_calls ops.Rem w to x (Path k) q c d m n l fr s b = refl
+no_calls ops.Shl w to x (Path k) q c d m n l fr s b = refl
+no_calls ops.Shr w to x (Path k) q c d m n l fr s b = refl
 no_calls o w to x y q c d m n l fr s b = refl
 
 -- a number is one scalar

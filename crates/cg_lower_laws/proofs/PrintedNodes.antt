@@ -1,6 +1,6 @@
 -- What lowering makes of the lowered parts of a node can be printed where these can, in a room for statements that are open inside each
 -- other.
-use Rattle.std.proofs.Common.{ℕ, suc, ◌+◌, ◌^◌, ◌<◌, Bool, true, false, cond, List, [], ◌∷◌, ◌++◌, length, map, nat_le, arith}
+use Rattle.std.proofs.Common.{ℕ, suc, ◌+◌, ◌^◌, ◌<◌, Bool, true, false, cond, List, [], ◌∷◌, ◌++◌, length, map, nat_eq, nat_le, nat_lt, if◌then◌else◌, arith}
 use Rattle.std.specs.List.{AllByRecursion}
 use Rattle.cg_base.specs.declared.kind.Sigil.{Sigil}
 use Rattle.cg_base.specs.declared.kind.Sigil.TheVariants.{R, W, U}
@@ -11,6 +11,7 @@ use Rattle.cg_cgen_def.specs.Code.{inner, op_code}
 use Rattle.cg_core.specs.declared.op.Op.{Op}
 use Rattle.cg_core.specs.declared.op.Op.TheVariants as ops
 use Rattle.cg_ctree.specs.declared.tree.COpnd.{COpnd}
+use Rattle.cg_ctree.specs.declared.tree.COpnd.TheVariants.{Number, Path}
 use Rattle.cg_ctree.specs.declared.tree.CPath.{CPath}
 use Rattle.cg_ctree.specs.declared.tree.CRhs.{CRhs}
 use Rattle.cg_ctree.specs.declared.tree.CRhs.TheVariants.{Opnd}
@@ -62,19 +63,28 @@ few_bits U16 = omega arith
 few_bits U32 = omega arith
 few_bits U64 = omega arith
 
+-- one or the other
+one_prints : (room : ℕ) (b : Bool) (xs ys : List Stmt) → Print (suc room) xs → Print (suc room) ys → Print (suc room) (if b then xs else ys)
+one_prints room true xs ys p q = p
+one_prints room false xs ys p q = q
+
 -- what sets a path to what an operator gives; its own branches have one statement each
 pub op_prints : (room : ℕ) (o : Op) (w : Word) (to : CPath) (left right : COpnd) → IsPrintablePath to → IsPrintableOpnd left → IsPrintableOpnd right → Print (suc room) (op_code o w to left right)
 unfolding IsPrintableStmt IsPrintableBlock
 op_prints room ops.Add w to left right p l r = ((p, (inner_is w, l, r)), tt)
 op_prints room ops.Sub w to left right p l r = ((p, (inner_is w, l, r)), tt)
 op_prints room ops.Mul w to left right p l r = ((p, (inner_is w, l, r)), tt)
-op_prints room ops.Div w to left right p l r = ((r, ((p, (inner_is w, l, r)), tt), ((p, omega arith), tt)), tt)
-op_prints room ops.Rem w to left right p l r = ((r, ((p, (inner_is w, l, r)), tt), ((p, omega arith), tt)), tt)
+op_prints room ops.Div w to left (Path divisor) p l r = ((r, ((p, (inner_is w, l, r)), tt), ((p, omega arith), tt)), tt)
+op_prints room ops.Div w to left (Number n) p l r = one_prints room (nat_eq n 0) _ _ ((p, omega arith), tt) ((p, (inner_is w, l, r)), tt)
+op_prints room ops.Rem w to left (Path divisor) p l r = ((r, ((p, (inner_is w, l, r)), tt), ((p, omega arith), tt)), tt)
+op_prints room ops.Rem w to left (Number n) p l r = one_prints room (nat_eq n 0) _ _ ((p, omega arith), tt) ((p, (inner_is w, l, r)), tt)
 op_prints room ops.And w to left right p l r = ((p, (inner_is w, l, r)), tt)
 op_prints room ops.Or w to left right p l r = ((p, (inner_is w, l, r)), tt)
 op_prints room ops.Xor w to left right p l r = ((p, (inner_is w, l, r)), tt)
-op_prints room ops.Shl w to left right p l r = ((p, (inner_is w, r, few_bits w)), ((p, ((p, (inner_is w, l, r)), tt), tt), tt))
-op_prints room ops.Shr w to left right p l r = ((p, (inner_is w, r, few_bits w)), ((p, ((p, (inner_is w, l, r)), tt), tt), tt))
+op_prints room ops.Shl w to left (Path shift) p l r = ((p, (inner_is w, r, few_bits w)), ((p, ((p, (inner_is w, l, r)), tt), tt), tt))
+op_prints room ops.Shl w to left (Number n) p l r = one_prints room (nat_lt n (bits w)) _ _ ((p, (inner_is w, l, r)), tt) ((p, omega arith), tt)
+op_prints room ops.Shr w to left (Path shift) p l r = ((p, (inner_is w, r, few_bits w)), ((p, ((p, (inner_is w, l, r)), tt), tt), tt))
+op_prints room ops.Shr w to left (Number n) p l r = one_prints room (nat_lt n (bits w)) _ _ ((p, (inner_is w, l, r)), tt) ((p, omega arith), tt)
 op_prints room ops.Eq w to left right p l r = ((p, (inner_is w, l, r)), tt)
 op_prints room ops.Ne w to left right p l r = ((p, (inner_is w, l, r)), tt)
 op_prints room ops.Lt w to left right p l r = ((p, (inner_is w, l, r)), tt)
