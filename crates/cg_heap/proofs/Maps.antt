@@ -1,5 +1,5 @@
 -- What a store over an ordered map holds after a call of the map.
-use Rattle.std.proofs.Common.{rules, ◌≡◌, ℕ, cond, List, [], ◌∷◌, refl, sym, ap, ◌∙◌}
+use Rattle.std.proofs.Common.{rules, ◌≡◌, ◌⊎◌, inl, inr, ℕ, true, false, nat_eq, cond, arith, List, [], ◌∷◌, refl, sym, ap, ◌∙◌}
 use Rattle.std.specs.BTreeMap.{BTreeMap, is_at, Updates, WritesThrough}
 use Rattle.std.specs.Cmp.{nat_cmp_total, eq_by_cmp_equiv}
 use Rattle.std.specs.FinMap as map
@@ -9,9 +9,18 @@ use Rattle.std.specs.Option.{unwrap_or, IsSome}
 use Rattle.std.specs.declared.option.Option.{Option}
 use Rattle.std.specs.declared.option.Option.TheVariants.{None, Some}
 use Rattle.std.specs.Ordering.{nat_cmp, eq_by_cmp}
+use Rattle.cg_base.proofs.Truths.{either_bool}
 use Rattle.cg_heap.specs.declared.cell.Cell.{Cell}
 use Rattle.cg_heap.specs.Mapped.{mapped}
 use Rattle.cg_heap.specs.Stored.{Stored, asked_of, cell_at, changed, in_cell, in_place}
+
+-- a map's test of keys is that of numbers, the other way round
+pub same_key : (p q : ℕ) → eq_by_cmp nat_cmp q p ≡ nat_eq p q
+same_key p q = by (either_bool (nat_eq p q))
+  where
+    by : (nat_eq p q ≡ true) ⊎ (nat_eq p q ≡ false) → eq_by_cmp nat_cmp q p ≡ nat_eq p q
+    by (inl e) = grind (arith, e)
+    by (inr e) = grind (arith, e)
 
 found_lookup : (es : List (ℕ × Cell)) (q : ℕ) → find nat_cmp q es ≡ lookup (is_at (nat_cmp q)) es
 found_lookup [] q = refl

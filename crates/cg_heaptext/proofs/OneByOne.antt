@@ -9,6 +9,7 @@ use Rattle.std.specs.FinMap.{FinMap}
 use Rattle.std.specs.Ordering.{nat_cmp, eq_by_cmp}
 use Rattle.std.specs.Prelude.{◌^◌, max, nat_eq, slice_get, Option, Some, None, Result, Ok, Err, OnErr, if◌then◌else◌}
 use Rattle.cg_base.proofs.Truths.{either_bool}
+use Rattle.cg_heap.proofs.Maps.{same_key}
 use Rattle.cg_heap.specs.declared.cell.Cell.{Cell as Held}
 use Rattle.cg_heap.specs.Stored.{Stored, cell_at, cell_length, with_cell}
 use Rattle.cg_heaptext.specs.Filled.{IsFilled, greatest}
@@ -67,16 +68,8 @@ held_back (c ∷ front) cs p q = by (either_bool (nat_eq c.0 q)) (held_back fron
 
 -- ---- the store on the way
 
--- the map's test is that of lists of cells, the other way round
-same_test : (p q : ℕ) → eq_by_cmp nat_cmp q p ≡ nat_eq p q
-same_test p q = by (either_bool (nat_eq p q))
-  where
-    by : (nat_eq p q ≡ true) ⊎ (nat_eq p q ≡ false) → eq_by_cmp nat_cmp q p ≡ nat_eq p q
-    by (inl e) = grind (arith, e)
-    by (inr e) = grind (arith, e)
-
 get_insert : (m : FinMap nat_cmp Held) (p : ℕ) (c : Held) (q : ℕ) → finite.get (finite.insert m p c) q ≡ cond (nat_eq p q) (Some c) (finite.get m q)
-get_insert m p c q = finite.get-insert nat_cmp_total m p c q ∙ ap (λ b. cond b (Some c) (finite.get m q)) (same_test p q)
+get_insert m p c q = finite.get-insert nat_cmp_total m p c q ∙ ap (λ b. cond b (Some c) (finite.get m q)) (same_key p q)
 
 -- the cells that were taken off the end, with those that are left before them; a store holds just them
 pub record IsUnderWay (all left : List (ℕ × Held)) (s : Stored) : Type 0 where
