@@ -7,20 +7,13 @@ use Rattle.std.specs.Ordering.{nat_cmp, eq_by_cmp}
 use Rattle.std.specs.Prelude.{max, nat_eq}
 use Rattle.cg_base.proofs.Counts.{is_other}
 use Rattle.cg_base.proofs.Truths.{either_bool}
+use Rattle.cg_heap.proofs.Maps.{same_key}
 use Rattle.cg_heap.specs.Calls.{heap_of}
 use Rattle.cg_heap.specs.declared.cell.Cell.{Cell}
 use Rattle.cg_heap.specs.Stored.{Stored, cell_at}
 use Rattle.cg_heaptext_def.specs.Footprints.{held_in}
 use Rattle.cg_heaptext.specs.Filled.{IsFilled, greatest}
 use Rattle.cg_driver_text.specs.Filled.{filled, no_cells}
-
--- a key is found where it is the same number
-same_key : (p q : ℕ) → eq_by_cmp nat_cmp q p ≡ nat_eq p q
-same_key p q = by (either_bool (nat_eq p q))
-  where
-    by : (nat_eq p q ≡ true) ⊎ (nat_eq p q ≡ false) → eq_by_cmp nat_cmp q p ≡ nat_eq p q
-    by (inl e) = grind (arith, e)
-    by (inr e) = grind (arith, e)
 
 -- each cell stands at its address
 pub filled_holds : (cs : List (ℕ × Cell)) (q : ℕ) → cell_at (filled cs no_cells) q ≡ held_in cs q

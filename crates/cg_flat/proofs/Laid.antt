@@ -165,16 +165,16 @@ one_first a b = grind arith
 ends_before : (a m b : ℕ) → (a + m ≤ b) ⊎ (b < a + m)
 ends_before a m b = grind arith
 
-abbrev Shared : ℕ → ℕ → ℕ → ℕ → Type 0
+abbrev pub Shared : ℕ → ℕ → ℕ → ℕ → Type 0
 Shared a m b n = (i : ℕ) × ((a ≤ i) × ((i < a + m) × ((b ≤ i) × (i < b + n))))
 
 -- two runs of words, not empty, are apart or share a place
-overlap : (a m b n : ℕ) → 1 ≤ m → 1 ≤ n → ((a + m ≤ b) ⊎ (b + n ≤ a)) ⊎ Shared a m b n
+pub overlap : (a m b n : ℕ) → 1 ≤ m → 1 ≤ n → ((a + m ≤ b) ⊎ (b + n ≤ a)) ⊎ Shared a m b n
 overlap a m b n one two =
     ⊎_elim (λ first. ⊎_elim (λ clear. inl (inl clear)) (λ more. inr (b, (first, (more, (omega arith, omega arith))))) (ends_before a m b))
     (λ second. ⊎_elim (λ clear. inl (inr clear)) (λ more. inr (a, (omega arith, (omega arith, (second, more))))) (ends_before b n a)) (one_first a b)
 
-hole_among : (i : ℕ) (hs : List Hole) (k : ℕ) (d : Hole) → k < length hs → has_place i (get_or hs k d).start (get_or hs k d).count ≤ holes_at i hs
+pub hole_among : (i : ℕ) (hs : List Hole) (k : ℕ) (d : Hole) → k < length hs → has_place i (get_or hs k d).start (get_or hs k d).count ≤ holes_at i hs
 hole_among i [] k d low = absurd (omega arith)
 hole_among i (h ∷ hs) zero d low = omega arith
 hole_among i (h ∷ hs) (suc k) d low = let rest = hole_among i hs k d (omega arith) in omega arith

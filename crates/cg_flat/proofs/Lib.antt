@@ -10,6 +10,7 @@ mod Loops
 mod Maps
 mod Needs
 mod Rooms
+mod Settles
 mod Steps
 mod Stores
 mod Wordy

@@ -12,6 +12,7 @@ use Rattle.cg_flat.specs.declared.span.Hole.{Hole}
 use Rattle.cg_flat.specs.declared.span.Span.{Span}
 use Rattle.cg_flat.specs.Flat.{Flat, IsFlat, cell_in, cell_of, cell_words, each, entries_at, given_back, holes_left, laid, room, spans_at, stored_of, without_span, written}
 use Rattle.cg_flat.specs.Seen.{IsKept}
+use Rattle.cg_flat.specs.Settled.{AreFree}
 use Rattle.cg_flat.proofs.Cells.{cell_back}
 use Rattle.cg_flat.proofs.Counts.{below_tells}
 use Rattle.cg_flat.proofs.Laid.{flat_laid, goes, goes_within, stored_laid}
@@ -92,12 +93,20 @@ flat_nothing =
       };
     }
 
+none_free : AreFree [] []
+none_free = record {
+  some = λ k d low. absurd (omega arith);
+  apart = tt;
+  once = λ i. omega arith;
+}
+
 -- the fields of a new store
-pub kept_nothing : (ws : List ℕ) (es : List (ℕ × Span)) (hs : List Hole) (room : ℕ) → ws ≡ [] → es ≡ [] → hs ≡ [] → IsKept ws es hs room 0
-kept_nothing ws es hs room words entries holes =
-    rw (words, entries, holes)
+pub kept_nothing : (ws : List ℕ) (es : List (ℕ × Span)) (hs xs : List Hole) (room : ℕ) → ws ≡ [] → es ≡ [] → hs ≡ [] → xs ≡ [] → IsKept ws es hs xs room 0
+kept_nothing ws es hs xs room words entries holes freed =
+    rw (words, entries, holes, freed)
     (record {
       flat = flat_nothing;
+      free = none_free;
       room = omega arith;
       short = λ p s here kind. absurd (search (rules, nowhere p, here));
     })

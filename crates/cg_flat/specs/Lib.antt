@@ -3,3 +3,4 @@ pub mod Codes
 pub mod Flat
 pub mod Lends
 pub mod Seen
+pub mod Settled

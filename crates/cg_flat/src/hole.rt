@@ -3,9 +3,9 @@ ghost use Rattle.std.specs.Prelude.{◌≡◌, ◌≢◌, ◌+◌, ◌-◌, ◌<
 ghost use Rattle.std.specs.List.Sorted.{IsPartitionPoint, IsPartitionedBy};
 ghost use Rattle.std.specs.Vec.{vec_capacity};
 ghost use Rattle.cg_flat.specs.Around.{AreAround};
-ghost use Rattle.cg_flat.specs.Flat.{AreApart, first_filled, given_back, with_hole};
+ghost use Rattle.cg_flat.specs.Flat.{AreApart, first_filled, with_hole};
 
-use crate::span::{Hole, Span};
+use crate::span::Hole;
 
 // The index of the first hole that has room for so many words; None where there is none.
 pub(crate) fn first_with_room(holes: &[Hole], count: usize) -> Option<usize>
@@ -33,29 +33,8 @@ pub(crate) fn take_front(holes: &mut Vec<Hole>, index: usize, count: usize)
     }
 }
 
-// Makes a hole of a span's words; one of no words leaves none. There is room for it, so it takes no memory.
-pub(crate) fn free(holes: &mut Vec<Hole>, span: Span)
-    requires room { length holes.old.items < vec_capacity holes.old }
-    requires apart { AreApart 0 holes.old.items }
-    requires around { 1 ≤ span.count → AreAround (record { start = span.start; count = span.count }) holes.old.items }
-    requires within { All (λ h. h.start + h.count < 2 ^ 63) holes.old.items }
-    requires small { span.start + span.count < 2 ^ 63 }
-    ensures holes { holes.new.items ≡ given_back span holes.old.items }
-    ensures longer { length holes.new.items ≤ length holes.old.items + 1 }
-    ensures capacity { vec_capacity holes.old ≤ vec_capacity holes.new }
-{
-    if span.count == 0 {
-        return;
-    }
-    let hole = Hole {
-        start: span.start,
-        count: span.count,
-    };
-    give_back(holes, hole);
-}
-
 // Puts in one more hole, which becomes one with those that it touches. There is room for it, so it takes no memory.
-fn give_back(holes: &mut Vec<Hole>, hole: Hole)
+pub(crate) fn give_back(holes: &mut Vec<Hole>, hole: Hole)
     requires room { length holes.old.items < vec_capacity holes.old }
     requires some { 1 ≤ hole.count }
     requires apart { AreApart 0 holes.old.items }

@@ -5,6 +5,7 @@
 //! docs/LANGUAGE.md, "Flat stores", says which words stand for a cell, and where they stand.
 #![tactic(auto)]
 
+mod freed;
 mod hole;
 mod read;
 mod room;

@@ -8,7 +8,7 @@ ghost use Rattle.cg_heap.specs.declared.cell.Cell.TheVariants.{Words};
 ghost use Rattle.cg_heap.specs.Stored.{answer_of, asked_of, cell_at, cell_length, changed, in_place, with_cell, with_element, with_fresh, with_slot, without_answer, without_cell};
 ghost use Rattle.cg_flat.specs.Flat.{added, answer_taken, element_written, elements_of, of_elements, over, placed, removed, slot_written, span_words, start_at, stored_of, words_left};
 
-use crate::hole::free;
+use crate::freed::free;
 use crate::read::{answer_in, length_in, part, slot_in};
 use crate::room::make_room;
 use crate::span::{Hole, Span};
@@ -22,13 +22,14 @@ use std::collections::BTreeMap;
 use std::marker::Model;
 
 /// A store whose cells stand in one list of words, each in a span of its own; words that no cell has are holes (docs/LANGUAGE.md,
-/// "Flat stores"). A cell is found in time that grows as the logarithm of the number of cells; to make one also takes time in
-/// proportion to its words and to the number of holes, to take one out in proportion to the number of holes.
+/// "Flat stores"). A cell is found and taken out in time that grows as the logarithm of the number of cells; to make one also takes
+/// time in proportion to its words and to the number of holes, and puts those in order that were freed since the last was made.
 #[derive(Drop)]
 pub struct FlatStore {
     words: Vec<u64>,
     spans: BTreeMap<u64, Span>,
     holes: Vec<Hole>,
+    freed: Vec<Hole>,
     top: u64,
 }
 
@@ -42,11 +43,12 @@ impl Model for FlatStore {
 
     ghost coded = { coded_flat (Prim.hlevel codes) (Prim.hlevel codes) };
 
+    ghost use Rattle.cg_flat.specs.Settled.{settled};
     ghost use Rattle.cg_flat.specs.Seen.{IsKept, seen};
 
-    ghost view = { λ store. seen store.words.items store.spans.entries store.holes.items store.top };
+    ghost view = { λ store. seen store.words.items store.spans.entries (settled store.freed.items store.holes.items) store.top };
 
-    ghost invariant = { λ store. IsKept store.words.items store.spans.entries store.holes.items (vec_capacity store.holes) store.top };
+    ghost invariant = { λ store. IsKept store.words.items store.spans.entries store.holes.items store.freed.items (vec_capacity store.freed) store.top };
 }
 
 impl FlatStore {
@@ -60,6 +62,7 @@ impl FlatStore {
             words: Vec::new(alloc),
             spans: BTreeMap::new(alloc),
             holes: Vec::new(alloc),
+            freed: Vec::new(alloc),
             top: 0,
         }
     }
@@ -217,6 +220,7 @@ impl Store for FlatStore {
             &mut self.words,
             &mut self.spans,
             &mut self.holes,
+            &mut self.freed,
             at,
             form,
             count,
@@ -241,6 +245,7 @@ impl Store for FlatStore {
             &mut self.words,
             &mut self.spans,
             &mut self.holes,
+            &mut self.freed,
             at,
             form,
             count,
@@ -257,7 +262,7 @@ impl Store for FlatStore {
     {
         match self.spans.remove(&at) {
             Some(span) => {
-                free(&mut self.holes, span);
+                free(&mut self.freed, span);
                 true
             }
             None => false,
