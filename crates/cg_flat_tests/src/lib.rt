@@ -5,6 +5,4 @@
 #![tactic(auto)]
 
 #[cfg(test)]
-mod random;
-#[cfg(test)]
 mod row;

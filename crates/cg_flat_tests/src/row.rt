@@ -1,10 +1,11 @@
-// Calls that follow each other, and the words, spans and holes that each leaves.
+// Calls that follow each other, and the words, spans and holes that each leaves; and random calls.
 ghost use Rattle.std.specs.Prelude.{◌≡◌, IfOk};
 ghost use Rattle.cg_heap.specs.Stored.{cell_length};
 
 use cg_base::{Items, Memory};
 use cg_flat::FlatStore;
 use cg_heap::{Cell, Fresh, Scalar, Store};
+use cg_heap_tests::agrees;
 use std::alloc::Global;
 use std::test::Fail;
 
@@ -103,4 +104,10 @@ fn cells_take_holes(rt: HostRuntime) -> Result<(), Fail> {
     assert!(rt; holes_merge(&mut store)?);
     assert!(rt; writes_lent(&mut store));
     Ok(())
+}
+
+#[test]
+fn random_calls_agree_with_a_list(rt: HostRuntime) {
+    let mut store = FlatStore::new(rt.alloc());
+    assert!(rt; agrees(rt.alloc(), &mut store, 100_000));
 }

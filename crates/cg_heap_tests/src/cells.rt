@@ -1,4 +1,5 @@
-// A store over an ordered map, by calls that follow each other.
+// A store over an ordered map, by calls that follow each other, and by random ones.
+use crate::random::agrees;
 use cg_base::Items;
 use cg_heap::{Cell, Fresh, MapStore, Scalar, Store};
 use std::test::Fail;
@@ -69,4 +70,10 @@ fn answers_are_taken_in_order(rt: HostRuntime) -> Result<(), Fail> {
     store.place(9, Cell::Answers(answers))?;
     assert!(rt; answers_are_taken(&mut store));
     Ok(())
+}
+
+#[test]
+fn random_calls_agree_with_a_list(rt: HostRuntime) {
+    let mut store = MapStore::new(rt.alloc());
+    assert!(rt; agrees(rt.alloc(), &mut store, 100_000));
 }

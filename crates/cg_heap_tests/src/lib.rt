@@ -1,6 +1,6 @@
 //! Stage: tests. Tests of stores, of values that are read out of them, of what they reach, and of the library on them.
 //! Role: tests.
-//! Promises: nothing: tests alone.
+//! Promises: `agrees`: tests alone call it.
 //! May cite: all crates; no crate but tests cites it.
 #![tactic(auto)]
 
@@ -8,9 +8,10 @@
 mod cells;
 #[cfg(test)]
 mod library;
-#[cfg(test)]
 mod random;
 #[cfg(test)]
 mod reach;
 #[cfg(test)]
 mod read;
+
+pub use random::agrees;

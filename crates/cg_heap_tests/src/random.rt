@@ -1,9 +1,9 @@
-// A store over an ordered map, by random calls, each compared with the same call on a plain list.
+// Stores, by random calls, each compared with the same call on a plain list.
 ghost use Rattle.std.specs.Prelude.{◌≡◌, ◌<◌, ◌≤◌, ◌^◌, IfOk, length};
 ghost use Rattle.cg_heap.specs.Stored.{cell_at};
 
 use cg_base::{Items, Memory};
-use cg_heap::{Cell, Fresh, MapStore, Scalar, Store};
+use cg_heap::{Cell, Fresh, Scalar, Store};
 use std::alloc::Global;
 
 /// What a cell of the plain list holds.
@@ -70,7 +70,7 @@ fn entry(row: &Row, index: u32) -> u64 {
 }
 
 /// Whether `len`, `get` and `answer` answer the same.
-fn same_reads(store: &MapStore, row: &Row, call: Call) -> bool {
+fn same_reads<S: Store>(store: &S, row: &Row, call: Call) -> bool {
     let entry = entry(row, call.index);
     let (scalar, answer) = match row.kind {
         Kind::Answers => (0, entry),
@@ -101,8 +101,8 @@ fn write(row: &mut Row, index: u32, is_kind: bool, entry: u64) -> bool {
 
 /// Whether `set_field` and `set_element` answer the same.
 #[tactic(auto, using(cg_heap::proofs::TopSteps::top_steps))]
-fn same_sets(store: &mut MapStore, row: &mut Row, call: Call) -> bool
-    ensures { store.new.top ≡ store.old.top }
+fn same_sets<S: Store>(store: &mut S, row: &mut Row, call: Call) -> bool
+    ensures { (S.stored store.new).top ≡ (S.stored store.old).top }
 {
     let value = scalar(call.number);
     let is_slot = matches!(row.kind, Kind::Slots);
@@ -120,8 +120,8 @@ fn same_sets(store: &mut MapStore, row: &mut Row, call: Call) -> bool
 
 /// Whether `pop` answers the same.
 #[tactic(auto, using(cg_heap::proofs::TopSteps::top_steps))]
-fn same_pop(store: &mut MapStore, row: &mut Row, call: Call) -> bool
-    ensures { store.new.top ≡ store.old.top }
+fn same_pop<S: Store>(store: &mut S, row: &mut Row, call: Call) -> bool
+    ensures { (S.stored store.new).top ≡ (S.stored store.old).top }
 {
     let answer = answer_code(store.pop(call.at));
     match (row.kind, row.len) {
@@ -136,8 +136,8 @@ fn same_pop(store: &mut MapStore, row: &mut Row, call: Call) -> bool
 }
 
 /// Whether `remove` answers the same.
-fn same_remove(store: &mut MapStore, row: &mut Row, call: Call) -> bool
-    ensures { store.new.top ≡ store.old.top }
+fn same_remove<S: Store>(store: &mut S, row: &mut Row, call: Call) -> bool
+    ensures { (S.stored store.new).top ≡ (S.stored store.old).top }
 {
     let is_there = row.len.is_some();
     *row = NOTHING;
@@ -145,9 +145,9 @@ fn same_remove(store: &mut MapStore, row: &mut Row, call: Call) -> bool
 }
 
 /// Whether `add` answers the address above the top, whose row this is.
-fn same_add(store: &mut MapStore, row: &mut Row, top: &mut u64, number: u64) -> bool
-    requires { store.old.top ≡ top.old }
-    ensures { store.new.top ≡ top.new }
+fn same_add<S: Store>(store: &mut S, row: &mut Row, top: &mut u64, number: u64) -> bool
+    requires { (S.stored store.old).top ≡ top.old }
+    ensures { (S.stored store.new).top ≡ top.new }
 {
     let len = (number % 5) as u32;
     row.len = Some(len);
@@ -186,12 +186,12 @@ fn answers(alloc: Global, number: u64, len: u32) -> Result<Items<bool>, Memory>
 }
 
 /// Places a list of answers at an address that holds none, whose row this is.
-fn place(alloc: Global, store: &mut MapStore, row: &mut Row, top: &mut u64, call: Call) -> bool
-    requires absent { cell_at store.old call.at ≡ None }
+fn place<S: Store>(alloc: Global, store: &mut S, row: &mut Row, top: &mut u64, call: Call) -> bool
+    requires absent { cell_at (S.stored store.old) call.at ≡ None }
     requires least { 1 ≤ call.at }
     requires most { call.at < 2 ^ 32 }
-    requires top { store.old.top ≡ top.old }
-    ensures { store.new.top ≡ top.new }
+    requires top { (S.stored store.old).top ≡ top.old }
+    ensures { (S.stored store.new).top ≡ top.new }
 {
     let bits = call.number;
     let len = (bits % 5) as u32;
@@ -216,9 +216,15 @@ fn place(alloc: Global, store: &mut MapStore, row: &mut Row, top: &mut u64, call
 }
 
 /// Whether there is a cell exactly where there is one in the list; where there is none, and may be one, one is placed.
-fn same_place(alloc: Global, store: &mut MapStore, row: &mut Row, top: &mut u64, call: Call) -> bool
-    requires { store.old.top ≡ top.old }
-    ensures { store.new.top ≡ top.new }
+fn same_place<S: Store>(
+    alloc: Global,
+    store: &mut S,
+    row: &mut Row,
+    top: &mut u64,
+    call: Call,
+) -> bool
+    requires { (S.stored store.old).top ≡ top.old }
+    ensures { (S.stored store.new).top ≡ top.new }
 {
     let is_there = row.len.is_some();
     match store.len(call.at) {
@@ -230,9 +236,15 @@ fn same_place(alloc: Global, store: &mut MapStore, row: &mut Row, top: &mut u64,
 }
 
 /// Whether one of the calls that change a store answers the same.
-fn same_write(alloc: Global, store: &mut MapStore, row: &mut Row, top: &mut u64, call: Call) -> bool
-    requires { store.old.top ≡ top.old }
-    ensures { store.new.top ≡ top.new }
+fn same_write<S: Store>(
+    alloc: Global,
+    store: &mut S,
+    row: &mut Row,
+    top: &mut u64,
+    call: Call,
+) -> bool
+    requires { (S.stored store.old).top ≡ top.old }
+    ensures { (S.stored store.new).top ≡ top.new }
 {
     match call.which {
         0 | 1 => same_sets(store, row, call),
@@ -269,13 +281,13 @@ fn random_call(state: u64, top: u64) -> Call {
     }
 }
 
-/// Makes 100,000 random calls on both, and behind each those that read, and says whether they answer the same.
-fn agree(alloc: Global, store: &mut MapStore, rows: &mut [Row]) -> bool
-    requires { store.old.top ≡ 0 }
+/// Makes so many random calls on both, and behind each those that read, and says whether they answer the same.
+fn agree<S: Store>(alloc: Global, store: &mut S, rows: &mut [Row], calls: u32) -> bool
+    requires { (S.stored store.old).top ≡ 0 }
 {
     let mut top: u64 = 0;
     let mut state: u64 = 1;
-    for _ in 0..100_000 {
+    for _ in 0..calls {
         state = next(state);
         let call = random_call(state, top);
         let is_same = match rows.get_mut(call.at as usize) {
@@ -291,16 +303,12 @@ fn agree(alloc: Global, store: &mut MapStore, rows: &mut [Row]) -> bool
     true
 }
 
-/// Whether a new store agrees with a list.
-fn all_agree(alloc: Global) -> bool {
-    let mut store = MapStore::new(alloc);
+/// Whether a store that has held nothing agrees with a list in so many random calls, at most 100,000.
+pub fn agrees<S: Store>(alloc: Global, store: &mut S, calls: u32) -> bool
+    requires { (S.stored store.old).top ≡ 0 }
+{
     match vec![in alloc; NOTHING; ROWS as usize] {
-        Ok(mut rows) => agree(alloc, &mut store, rows.as_mut_slice()),
+        Ok(mut rows) => agree(alloc, store, rows.as_mut_slice(), calls),
         Err(_) => false,
     }
-}
-
-#[test]
-fn random_calls_agree_with_a_list(rt: HostRuntime) {
-    assert!(rt; all_agree(rt.alloc()));
 }
