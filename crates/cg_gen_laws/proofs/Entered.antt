@@ -1,11 +1,12 @@
 -- The last function is an entry that may be run, and takes the cell.
 use Rattle.std.proofs.Common.{◌≡◌, ◌<◌, ℕ, ◌+◌, true, Some, None, slice_get, sym, refl, ap, ◌∙◌, arith}
 use Rattle.std.proofs.lemmas.Option.{slice_get_within}
+use Rattle.cg_base.proofs.Options.{some_is}
 use Rattle.cg_core.specs.Kernels.{Function}
 use Rattle.cg_driver.specs.Entered.{argument_type, entry_type, is_entry}
 use Rattle.cg_driver_entry.specs.Entries.{ReachesAbstract}
 use Rattle.cg_gen_def.specs.Kernels.{cell_type, function_behind, functions}
-use Rattle.cg_gen_typing_laws.proofs.Kernel.{function_of, functions_as_many, same_some}
+use Rattle.cg_gen_typing_laws.proofs.Kernel.{function_of, functions_as_many}
 use Rattle.cg_typing.specs.Parts.{taken_by}
 
 last : (before : ℕ) → slice_get (functions (before + 1)) before ≡ Some (function_behind before)
@@ -36,7 +37,7 @@ all_have n place f stands none =
     let within = slice_get_within (functions n) place f stands in
     let many = functions_as_many n in
     let lt : place < n = omega (arith, within, many) in
-    let same = same_some f (function_behind place) (sym stands ∙ function_of n place lt) in
+    let same = some_is f (function_behind place) (sym stands ∙ function_of n place lt) in
     has_body place (sym (ap (λ g. g.body) same) ∙ none)
 
 pub concrete : (n at : ℕ) → ReachesAbstract (functions n) at → ⊥

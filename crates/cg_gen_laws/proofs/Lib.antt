@@ -1,3 +1,4 @@
+mod Answering
 mod Entered
 mod Going
 mod Listed

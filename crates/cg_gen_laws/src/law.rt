@@ -1,5 +1,5 @@
 // What the command `gen` comes to.
-ghost use Rattle.cg_gen_laws.specs.Laws.{GenGoes, GenIsNeverRefused};
+ghost use Rattle.cg_gen_laws.specs.Laws.{GenAnswers, GenGoes, GenIsNeverRefused};
 
 use cg_driver::one_outcome;
 use cg_gen_certificate_laws::certificate_is_short;
@@ -37,4 +37,12 @@ pub fn gen_is_never_refused()
 {
     one_outcome();
     gen_goes();
+}
+
+/// Want of memory and a fault of the output are its only other answers: a call of `gen` answers status 0, or 4 where its one write to the
+/// output failed, or 5 (docs/LANGUAGE.md, "Generator").
+pub fn gen_answers()
+    ensures { GenAnswers }
+{
+    gen_is_never_refused();
 }

@@ -3,6 +3,7 @@ use Rattle.std.proofs.Common.{◌≡◌, ◌∙◌, ℕ, zero, suc, ◌+◌, ◌
 use Rattle.std.specs.Prelude.{slice_get, length}
 use Rattle.std.specs.Option.{option_map}
 use Rattle.std.proofs.Math.Nat.{mod-add-mod}
+use Rattle.cg_base.proofs.Counts.{one_more}
 use Rattle.cg_base.proofs.Sequences.{get_front, get_last}
 use Rattle.cg_base.specs.declared.fun.Fun.TheVariants.{User}
 use Rattle.cg_core.specs.Terms.{Tree, Note, term, take_field}
@@ -184,9 +185,6 @@ core_at (suc n) i lt = core_next n i (core_at n i) (below_suc i n lt)
 
 has_bodies : (x : Foreign) (n : ℕ) → HasBodies (table_over x (functions n) (λ i. kept_at (cores n) i)) n
 has_bodies x n i lt = ap (λ core. option_map (λ c. record { term = c; types = [] }) (joined core)) (core_at n i lt)
-
-one_more : (n : ℕ) → suc n ≡ n + 1
-one_more n = omega arith
 
 pub evaluation_gives : EvaluationGives
 evaluation_gives x before steps enough =

@@ -3,6 +3,7 @@ use Rattle.std.proofs.Common.{◌≡◌, ℕ, ◌+◌, ◌≤◌, Bool, true, fa
 use Rattle.std.specs.Prelude.{◌==◌, ◌&&◌, nat_le}
 use Rattle.std.specs.List.{list_all}
 use Rattle.std.proofs.lemmas.Bool.Decides.{nat_tests}
+use Rattle.cg_base.proofs.Truths as truths
 use Rattle.cg_base.specs.Bytes.{Each}
 use Rattle.cg_base.specs.Places.{most, place_past, place_after}
 use Rattle.cg_lexer.specs.declared.token.TokenKind.{TokenKind}
@@ -131,13 +132,9 @@ module _ {after : Cursor} {ts : List Lexeme} (kind : TokenKind) (text rest : Lis
 
 -- ---- tokens whose text is known, from a column on
 
-first_and_rest : (a b : Bool) → (a && b) ≡ true → (a ≡ true) × (b ≡ true)
-first_and_rest true b h = (refl, h)
-first_and_rest false b h = absurd (cc)
-
 each : (p : ℕ → Bool) (xs : List ℕ) → list_all p xs ≡ true → Each p xs
 each p [] h = tt
-each p (x ∷ xs) h = let both = first_and_rest (p x) (list_all p xs) h in (both.0, each p xs both.1)
+each p (x ∷ xs) h = let parts = truths.both (p x) (list_all p xs) h in (parts.0, each p xs parts.1)
 
 -- the text is a token's on one line, where what the lexer finds is as long
 pub record IsKnown (text rest : List ℕ) : Type 0 where

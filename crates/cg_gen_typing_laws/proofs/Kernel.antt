@@ -61,10 +61,6 @@ core_of n i lt = entry_of (λ k. Some (core_behind k)) cores no_cores more_cores
 pub functions_as_many : (n : ℕ) → length (functions n) ≡ n
 functions_as_many n = as_many function_behind functions no_functions more_functions n
 
--- what an option holds
-pub same_some : {A : Type 0} (x y : A) → Some x ≡ Some y → x ≡ y
-same_some x y e = cc
-
 module _ (all : List Function) where
   -- the function before is there
   abbrev pub HasEarlier : ℕ → Type 0

@@ -4,6 +4,7 @@ use Rattle.std.proofs.lemmas.List.FromFn.{length-map-range_with_len, map-range_w
 use Rattle.std.proofs.lemmas.List.Sums.{AllPass-from_list_all}
 use Rattle.std.proofs.lemmas.Option.{slice_get-get_or, slice_get_within}
 use Rattle.std.specs.List.{All, list_any, range_with_len}
+use Rattle.cg_base.proofs.Options.{some_is}
 use Rattle.cg_base.proofs.Sequences.{append_none}
 use Rattle.cg_base.proofs.Truths.{or_true}
 use Rattle.cg_base.specs.declared.fun.Fun.TheVariants.{User}
@@ -42,7 +43,7 @@ each_entry : (n i : ℕ) (x : Instance) → slice_get (list n) i ≡ Some x → 
 each_entry n i x e =
     let within = slice_get_within (list n) i x e in let many = list_as_many n in
     let lt : i < n = omega (arith, within, many) in
-    (lt, kernel.same_some x (instance i) (sym e ∙ entry n i lt))
+    (lt, some_is x (instance i) (sym e ∙ entry n i lt))
 
 -- ---- the front
 
@@ -69,7 +70,7 @@ front (suc n) =
 
 found : {A : Type 0} (p : A → Bool) (xs : List A) (i : ℕ) (x : A) → slice_get xs i ≡ Some x → p x ≡ true → list_any p xs ≡ true
 found p [] i x e h = absurd (cc)
-found p (y ∷ xs) zero x e h = ap (λ z. p z || list_any p xs) (kernel.same_some y x e) ∙ ap (λ b. b || list_any p xs) h
+found p (y ∷ xs) zero x e h = ap (λ z. p z || list_any p xs) (some_is y x e) ∙ ap (λ b. b || list_any p xs) h
 found p (y ∷ xs) (suc i) x e h = or_true (p y) (list_any p xs) (found p xs i x e h)
 
 -- an instance that is in the list isn't added

@@ -1,6 +1,7 @@
 -- The types of all nodes of the kernel are small.
 use Rattle.std.proofs.Common.{◌≡◌, ◌<◌, ℕ, zero, suc, ◌+◌, false, true, List, [], ◌∷◌, Some, None, Option, refl, sym, ap, ◌∙◌, arith, subst, slice_get, codes, IsTrue}
 use Rattle.std.proofs.lemmas.Option.{slice_get_within}
+use Rattle.cg_base.proofs.Options.{some_is}
 use Rattle.cg_base.specs.declared.fun.Fun.TheVariants.{User}
 use Rattle.cg_base.specs.declared.kind.Word.TheVariants.{U32}
 use Rattle.cg_base.specs.declared.place.Place.{Place}
@@ -16,7 +17,7 @@ use Rattle.cg_typing.specs.Parts.{field_in, given_by, held, is_small_enough, tak
 use Rattle.cg_gen_def.specs.Kernels.{body_in, cell_type, function_behind, functions, place_alone, subject_in, sum_in, term_behind}
 use Rattle.cg_gen_def.specs.Programs.{at, body_row, place, reach, width}
 use Rattle.cg_gen_typing_laws.specs.Laws.{TypesAreSmall}
-use Rattle.cg_gen_typing_laws.proofs.Kernel.{HasEarlier, function_of, functions_as_many, has_earlier, mention_is, same_some}
+use Rattle.cg_gen_typing_laws.proofs.Kernel.{HasEarlier, function_of, functions_as_many, has_earlier, mention_is}
 
 module _ (all : List Function) where
   -- the types of a site and of all below it are within the limit
@@ -34,7 +35,7 @@ module _ (all : List Function) where
 
   -- a node and its parts
   below : (s : Site) → IsTypeWithin all s → AllBelow (parts all s) → Below s
-  below s own h [] t e = subst (IsTypeWithin all) (same_some s t e) own
+  below s own h [] t e = subst (IsTypeWithin all) (some_is s t e) own
   below s own h (j ∷ path) t e = down_part (parts all s) j path t h e
 
   -- ---- what is put
@@ -128,11 +129,11 @@ module _ (all : List Function) where
   function_below : (before : ℕ) → HasEarlier all before → (body : Body) → (function_behind before).body ≡ Some body
       → AreTypesIn all (function_behind before) body
   unfolding function_behind
-  function_below before e body is = subst (AreTypesIn all (function_behind before)) (same_some (body_behind before) body is) (body_below before e)
+  function_below before e body is = subst (AreTypesIn all (function_behind before)) (some_is (body_behind before) body is) (body_below before e)
 
 pub types_are_small : TypesAreSmall
 types_are_small n i f body there is =
     let within = slice_get_within (functions n) i f there in let many = functions_as_many n in
     let lt : i < n = omega (arith, within, many) in
-    let same : function_behind i ≡ f = same_some (function_behind i) f (sym (function_of n i lt) ∙ there) in
+    let same : function_behind i ≡ f = some_is (function_behind i) f (sym (function_of n i lt) ∙ there) in
     subst (λ g. g.body ≡ Some body → AreTypesIn (functions n) g body) same (function_below (functions n) i (has_earlier n i lt) body) is
