@@ -7,7 +7,7 @@ use crate::evaluation::eval_text;
 use crate::instances::{copies_text, count_text};
 use crate::kernel::kernel_text;
 use crate::limit::limit_name;
-use crate::store::store_text;
+use crate::store::{flat_text, store_text};
 use cg_base::{Name, Place};
 use cg_driver::cogent;
 use cg_driver_words::{Command, read_words};
@@ -154,6 +154,7 @@ fn called(
         b"mono" => copies_text(alloc, source),
         b"built" => built_text(alloc, words, source),
         b"store" => store_text(alloc, words),
+        b"flat" => flat_text(alloc, words),
         _ => String::from_str(alloc, "no such call\n"),
     }
 }

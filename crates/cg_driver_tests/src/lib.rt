@@ -15,3 +15,5 @@ mod outside;
 mod reading;
 #[cfg(test)]
 mod sources;
+#[cfg(test)]
+mod texts;
