@@ -1,9 +1,9 @@
--- Maps from addresses, as ordered maps hold them, and maps whose values are made anew.
-use Rattle.std.proofs.Common.{◌≡◌, ℕ, Bool, true, false, cond, List, [], ◌∷◌, map, refl, sym, ap, ◌∙◌}
-use Rattle.std.specs.BTreeMap.{BTreeMap, is_at, Updates}
-use Rattle.std.specs.Cmp.{nat_cmp_total, eq_by_cmp_equiv}
+-- Maps from addresses, as maps by hash hold them, and maps whose values are made anew.
+use Rattle.std.proofs.Common.{◌≡◌, ℕ, nat_eq, Bool, true, false, cond, List, [], ◌∷◌, map, refl, sym, ap, ◌∙◌}
+use Rattle.std.specs.Cmp.{nat_cmp_total, eq_by_cmp_equiv, unsigned_tied}
 use Rattle.std.specs.FinMap as table
 use Rattle.std.specs.FinMap.{FinMap, find, get-entries, get-insert, get-remove, get-from_entries, same_map, nat_cmp-IsAntisymmetric}
+use Rattle.std.specs.HashMap.{HashMap, Updates}
 use Rattle.std.specs.Map.{lookup}
 use Rattle.std.specs.Option.{option_map}
 use Rattle.std.specs.declared.option.Option.{Option}
@@ -12,29 +12,29 @@ use Rattle.std.specs.Ordering.{nat_cmp, eq_by_cmp}
 use Rattle.cg_heap.proofs.Sounds.{alike as cell_alike}
 use Rattle.cg_flat.specs.Flat.{each}
 
--- ---- what an ordered map holds
+-- ---- what a map by hash holds
 
-found_lookup : {X : Type 0} (es : List (ℕ × X)) (q : ℕ) → find nat_cmp q es ≡ lookup (is_at (nat_cmp q)) es
+found_lookup : {X : Type 0} (es : List (ℕ × X)) (q : ℕ) → find nat_cmp q es ≡ lookup (nat_eq q) es
 found_lookup [] q = refl
-found_lookup (e ∷ es) q = ap (cond (eq_by_cmp nat_cmp q e.0) (Some e.1)) (found_lookup es q)
+found_lookup (e ∷ es) q = ap (λ b. cond b (Some e.1) (find nat_cmp q es)) (unsigned_tied q e.0) ∙ ap (cond (nat_eq q e.0) (Some e.1)) (found_lookup es q)
 
 -- what stands at an address is the entry at the key
-pub held_at : {X : Type 0} (es : List (ℕ × X)) (q : ℕ) → table.get (table.from_entries {R = nat_cmp} es) q ≡ lookup (is_at (nat_cmp q)) es
+pub held_at : {X : Type 0} (es : List (ℕ × X)) (q : ℕ) → table.get (table.from_entries {R = nat_cmp} es) q ≡ lookup (nat_eq q) es
 held_at es q = get-from_entries nat_cmp_total es q ∙ found_lookup es q
 
-turned : {X : Type 0} (k q : ℕ) (w v : Option X) → cond (is_at (nat_cmp k) q) w v ≡ cond (eq_by_cmp nat_cmp q k) w v
-turned k q w v = ap (λ b. cond b w v) ((eq_by_cmp_equiv nat_cmp_total).symm k q)
+turned : {X : Type 0} (k q : ℕ) (w v : Option X) → cond (nat_eq k q) w v ≡ cond (eq_by_cmp nat_cmp q k) w v
+turned k q w v = ap (λ b. cond b w v) (sym (unsigned_tied k q) ∙ (eq_by_cmp_equiv nat_cmp_total).symm k q)
 
 -- an entry was put in
-pub put_in : {X : Type 0} (old new : BTreeMap ℕ X) (k : ℕ) (v : X) → Updates nat_cmp old new k (Some v) → table.from_entries {R = nat_cmp} new.entries ≡ table.insert (table.from_entries old.entries) k v
+pub put_in : {X S : Type 0} (old new : HashMap ℕ X S) (k : ℕ) (v : X) → Updates nat_eq old new k (Some v) → table.from_entries {R = nat_cmp} new.entries ≡ table.insert (table.from_entries old.entries) k v
 put_in old new k v updates =
-    same_map nat_cmp_total nat_cmp-IsAntisymmetric _ _ (λ q. held_at new.entries q ∙ updates.0 q ∙ turned k q (Some v) (lookup (is_at (nat_cmp q)) old.entries)
+    same_map nat_cmp_total nat_cmp-IsAntisymmetric _ _ (λ q. held_at new.entries q ∙ updates.0 q ∙ turned k q (Some v) (lookup (nat_eq q) old.entries)
     ∙ sym (get-insert nat_cmp_total (table.from_entries old.entries) k v q ∙ ap (cond (eq_by_cmp nat_cmp q k) (Some v)) (held_at old.entries q)))
 
 -- an entry was taken out
-pub taken_out : {X : Type 0} (old new : BTreeMap ℕ X) (k : ℕ) → Updates nat_cmp old new k None → table.from_entries {R = nat_cmp} new.entries ≡ table.remove (table.from_entries old.entries) k
+pub taken_out : {X S : Type 0} (old new : HashMap ℕ X S) (k : ℕ) → Updates nat_eq old new k None → table.from_entries {R = nat_cmp} new.entries ≡ table.remove (table.from_entries old.entries) k
 taken_out old new k updates =
-    same_map nat_cmp_total nat_cmp-IsAntisymmetric _ _ (λ q. held_at new.entries q ∙ updates.0 q ∙ turned k q None (lookup (is_at (nat_cmp q)) old.entries)
+    same_map nat_cmp_total nat_cmp-IsAntisymmetric _ _ (λ q. held_at new.entries q ∙ updates.0 q ∙ turned k q None (lookup (nat_eq q) old.entries)
     ∙ sym (get-remove nat_cmp_total (table.from_entries old.entries) k q ∙ ap (cond (eq_by_cmp nat_cmp q k) None) (held_at old.entries q)))
 
 -- ---- two addresses

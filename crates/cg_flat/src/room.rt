@@ -1,7 +1,6 @@
 // Room for the words of a new cell.
 ghost use Rattle.std.specs.Prelude.{◌≡◌, ◌+◌, ◌-◌, ◌<◌, ◌≤◌, ◌^◌, ◌++◌, All, IfOk, OnOk, OnErr, Some, None, [], length, nat_eq, replicate, if◌then◌else◌};
-ghost use Rattle.std.specs.BTreeMap.{Updates, get};
-ghost use Rattle.std.specs.Ordering.{nat_cmp};
+ghost use Rattle.std.specs.HashMap.{Updates, get};
 ghost use Rattle.std.specs.Vec.{vec_capacity};
 ghost use Rattle.cg_flat.specs.Around.{AreWithin};
 ghost use Rattle.cg_flat.specs.Flat.{first_fit, holes_left};
@@ -12,14 +11,14 @@ use crate::hole::{first_with_room, take_front};
 use crate::span::{Hole, Span};
 use cg_base::Memory;
 use cg_heap::Form;
-use std::collections::BTreeMap;
+use std::collections::HashMap;
 
 // Makes room for a cell of so many words at an address that holds none: at the front of the first hole that has it, and else
 // behind all words. Answers where it starts. All memory is taken first, also that for the hole which the cell will leave;
 // without memory words and spans haven't changed, nor what the holes are with those that were freed.
 pub(crate) fn make_room(
     words: &mut Vec<u64>,
-    spans: &mut BTreeMap<u64, Span>,
+    spans: &mut HashMap<u64, Span>,
     holes: &mut Vec<Hole>,
     freed: &mut Vec<Hole>,
     at: u64,
@@ -29,10 +28,10 @@ pub(crate) fn make_room(
     requires within { AreWithin (length words.old.items) (settled freed.old.items holes.old.items) }
     requires free { AreFree freed.old.items holes.old.items }
     requires small { count < 2 ^ 34 }
-    requires absent { get nat_cmp spans.old at ≡ None }
+    requires absent { get nat_eq spans.old at ≡ None }
     ensures start { IfOk result (λ start. start ≡ (if nat_eq count 0 then 0 else first_fit count (settled freed.old.items holes.old.items) (length words.old.items))) }
     ensures words { IfOk result (λ start. words.new.items ≡ words.old.items ++ replicate (start + count - length words.old.items) 0) }
-    ensures spans { IfOk result (λ start. Updates nat_cmp spans.old spans.new at (Some (record { form = form; start = start; count = count }))) }
+    ensures spans { IfOk result (λ start. Updates nat_eq spans.old spans.new at (Some (record { form = form; start = start; count = count }))) }
     ensures holes { OnOk result (holes.new.items ≡ holes_left count (settled freed.old.items holes.old.items)) }
     ensures freed { OnOk result (freed.new.items ≡ []) }
     ensures room { OnOk result (length spans.new.entries ≤ vec_capacity freed.new) }

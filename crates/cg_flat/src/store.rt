@@ -18,16 +18,17 @@ use crate::write::{
 use cg_base::Memory;
 use cg_heap::{Cell, Form, Fresh, Scalar, Store};
 use std::alloc::Global;
-use std::collections::BTreeMap;
+use std::collections::HashMap;
 use std::marker::Model;
 
 /// A store whose cells stand in one list of words, each in a span of its own; words that no cell has are holes (docs/LANGUAGE.md,
-/// "Flat stores"). A cell is found and taken out in time that grows as the logarithm of the number of cells; to make one also takes
-/// time in proportion to its words and to the number of holes, and puts those in order that were freed since the last was made.
+/// "Flat stores"). A cell is found and taken out by the hash of its address, in constant time on average; the hash's seed is fixed,
+/// so addresses that are chosen to collide make it grow as the number of cells. To make a cell also takes time in proportion to its
+/// words and to the number of holes, and puts those in order that were freed since the last was made.
 #[derive(Drop)]
 pub struct FlatStore {
     words: Vec<u64>,
-    spans: BTreeMap<u64, Span>,
+    spans: HashMap<u64, Span>,
     holes: Vec<Hole>,
     freed: Vec<Hole>,
     top: u64,
@@ -60,7 +61,7 @@ impl FlatStore {
     {
         FlatStore {
             words: Vec::new(alloc),
-            spans: BTreeMap::new(alloc),
+            spans: HashMap::new(alloc),
             holes: Vec::new(alloc),
             freed: Vec::new(alloc),
             top: 0,
@@ -119,14 +120,14 @@ impl FlatStore {
 }
 
 // The span of the cell at an address; None where there is no cell.
-fn span_at(spans: &BTreeMap<u64, Span>, at: u64) -> Option<Span>
+fn span_at(spans: &HashMap<u64, Span>, at: u64) -> Option<Span>
     ensures { result ≡ map.get (map.from_entries {R = nat_cmp} spans.now.entries) at }
 {
     spans.get(&at).copied()
 }
 
 // The span of the cell of elements at an address; None where there is no such cell.
-fn elements_span(spans: &BTreeMap<u64, Span>, at: u64) -> Option<Span>
+fn elements_span(spans: &HashMap<u64, Span>, at: u64) -> Option<Span>
     ensures { result ≡ of_elements (map.get (map.from_entries {R = nat_cmp} spans.now.entries) at) }
 {
     match span_at(spans, at) {
