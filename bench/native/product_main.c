@@ -28,6 +28,12 @@ static uint64_t by_hand(void)
     return digest();
 }
 
+static uint64_t by_same(void)
+{
+    product_same(argument.m0, argument.m1, argument.m2, SIZE);
+    return digest();
+}
+
 int main(void)
 {
     struct SysState memory = {CG_UNBOUNDED};
@@ -42,5 +48,5 @@ int main(void)
         argument.m1->elements[i] = i * 2654435761u;
         argument.m2->elements[i] = i * 2246822519u;
     }
-    return compare(by_cogent, by_hand);
+    return compare(by_cogent, by_hand, by_same);
 }

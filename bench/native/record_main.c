@@ -30,5 +30,5 @@ int main(void)
     if (argument.m0 == NULL) {
         return 1;
     }
-    return compare(by_cogent, by_hand);
+    return compare(by_cogent, by_hand, by_hand);
 }

@@ -38,6 +38,13 @@ static uint64_t by_hand(void)
     return digest();
 }
 
+static uint64_t by_same(void)
+{
+    scatter();
+    sort_same(array);
+    return digest();
+}
+
 int main(void)
 {
     struct SysState memory = {CG_UNBOUNDED};
@@ -45,5 +52,5 @@ int main(void)
     if (array == NULL) {
         return 1;
     }
-    return compare(by_cogent, by_hand);
+    return compare(by_cogent, by_hand, by_same);
 }
